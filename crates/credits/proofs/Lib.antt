@@ -1,0 +1,2 @@
+-- Laws of credits.
+pub mod Grants

@@ -1,0 +1,20 @@
+-- Cases on a test and on an order. Assumes nothing.
+use Prim.Native.Nat.{ℕ, _≤_, _<_}
+use mathlib.Core.Path.{_≡_, refl}
+use mathlib.Core.Bool.{Bool, true, false}
+use mathlib.Core.Logic.{_⊎_, inl, inr}
+use native.Mathlib.Decide.{decLt}
+use native.Mathlib.Omega.{arith}
+
+-- a test holds or fails
+pub by-test : {P : Type 0} (b : Bool) → (b ≡ true → P) → (b ≡ false → P) → P
+by-test true h k = h refl
+by-test false h k = k refl
+
+-- one of two orders
+pub order : (m n : ℕ) → (m < n) ⊎ (n ≤ m)
+order m n = elim (decLt m n) [ yes h ↦ inl h | no h ↦ inr (omega arith) ]
+
+-- true is not false
+pub clash : {P : Type 0} → true ≡ false → P
+clash e = let z : _≡_ {A = ℕ} 0 1 = cc in absurd (omega arith)

@@ -1,0 +1,1 @@
+// No code: what the other crates' definitions and proofs share is in specs/ and proofs/.

@@ -1,0 +1,3 @@
+-- Laws of a port's buffer.
+pub mod Rings
+pub mod Stretches

@@ -1,0 +1,3 @@
+-- The definitions that contracts cite for a port's buffer.
+pub mod Queue
+pub mod Memory

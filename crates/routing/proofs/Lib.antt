@@ -1,0 +1,4 @@
+-- Laws of routing.
+pub mod Highest
+pub mod Fields
+pub mod Entries

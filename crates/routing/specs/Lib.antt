@@ -1,0 +1,3 @@
+-- The definitions that contracts cite for routing.
+pub mod Way
+pub mod Direction

@@ -1,0 +1,3 @@
+-- Laws of tokens and headers.
+pub mod Words
+pub mod Headers

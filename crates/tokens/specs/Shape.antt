@@ -1,0 +1,26 @@
+-- "tokens and headers are legal" (document 01, "Sound"), as far as one word shows it.
+use Prim.Native.Nat.{ℕ, _-_}
+use mathlib.Core.Bool.{Bool, _||_}
+use lib.Dec.{eqb, ltb}
+use Rattle.laws.specs.Pick.{pick}
+use Rattle.tokens.specs.Control.{ssctrl}
+use Rattle.tokens.specs.Word.{controlWord, closes}
+use Rattle.tokens.specs.declared.word.Shape.{Shape}
+use Rattle.tokens.specs.declared.word.Shape.the-variants.{Wrong, Body, Closing, OneByte, ThreeByte, Channel, Unit}
+
+-- "channel 0..31 or 255"
+abbrev pub legalChannel : ℕ → Bool
+legalChannel c = ltb c 32 || eqb c 255
+
+-- a token of a three-byte header, its marks taken off: any data, of control SSCTRL alone
+unfoldable pub threeShape : ℕ → Shape
+threeShape m =
+    pick (legalChannel m) Channel (pick (ltb m 0x100) ThreeByte (pick (eqb m (controlWord ssctrl)) Unit Wrong))
+
+-- END and PAUSE; data, and control that Output lets out; other control; a header of one byte; marks that no token has; a header of
+-- three bytes
+unfoldable pub shapeOf : ℕ → Shape
+shapeOf w =
+    pick (closes w) Closing
+    (pick (ltb w 0x1C2) Body
+    (pick (ltb w 0x200) Wrong (pick (ltb w 0x300) OneByte (pick (ltb w 0x600) Wrong (threeShape (w - 0x600))))))

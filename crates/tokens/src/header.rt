@@ -1,0 +1,91 @@
+// Headers made from a destination and read back, at both widths (000, 3.5).
+use crate::word::is_control;
+use crate::word::of_header;
+use crate::word::of_unit;
+use crate::word::value;
+use names::NodeNumber;
+ghost use mathlib.Core.Path.{_≡_};
+ghost use Rattle.tokens.specs.Header.{compared, headerOf, threeOf, readOne, readThree};
+ghost use Rattle.tokens.specs.declared.header.Width.{Width};
+
+// The width of a node's headers.
+pub enum Width {
+    One,
+    Three,
+}
+
+// A destination: a channel of a number, 0..31 or the sink 255, or a number's control unit.
+pub enum Target {
+    Channel(NodeNumber, u8),
+    Unit(NodeNumber),
+}
+
+// A header's words as they go into a port; none where one byte can't carry the target.
+pub enum Header {
+    Narrow,
+    One(u16),
+    Three(u16, u16, u16),
+}
+
+// The bits of a number that a width compares: sixteen, or the low three.
+pub fn compared(n: NodeNumber, w: Width) -> NodeNumber
+    ensures { λ r. ⌜ r ≡ compared w n ⌝ }
+{
+    match w {
+        Width::One => NodeNumber(n.0 % 8),
+        Width::Three => n,
+    }
+}
+
+fn one_byte(n: NodeNumber, c: u8) -> Header
+    ensures { λ r. ⌜ r ≡ headerOf (Target.Channel n c) Width.One ⌝ }
+{
+    if c < 32 {
+        let low = compared(n, Width::One);
+        return Header::One(of_header((low.0 * 32) as u8 + c, Width::One));
+    }
+    Header::Narrow
+}
+
+// The two number bytes, then the last word.
+fn three_byte(n: NodeNumber, last: u16) -> Header
+    ensures { λ r. ⌜ r ≡ threeOf n last ⌝ }
+{
+    Header::Three(
+        of_header(n.high(), Width::Three),
+        of_header(n.low(), Width::Three),
+        last,
+    )
+}
+
+pub fn make_header(t: Target, w: Width) -> Header
+    ensures { λ r. ⌜ r ≡ headerOf t w ⌝ }
+{
+    match t {
+        Target::Channel(n, c) => match w {
+            Width::One => one_byte(n, c),
+            Width::Three => three_byte(n, of_header(c, Width::Three)),
+        },
+        Target::Unit(n) => match w {
+            Width::One => Header::Narrow,
+            Width::Three => three_byte(n, of_unit()),
+        },
+    }
+}
+
+pub fn read_one(a: u16) -> Target
+    ensures { λ r. ⌜ r ≡ readOne a ⌝ }
+{
+    let v = value(a);
+    Target::Channel(NodeNumber((v / 32) as u16), v % 32)
+}
+
+pub fn read_three(a: u16, b: u16, c: u16) -> Target
+    ensures { λ r. ⌜ r ≡ readThree a b c ⌝ }
+{
+    let n = NodeNumber::of_bytes(value(a), value(b));
+    if is_control(c) {
+        return Target::Unit(n);
+    }
+    Target::Channel(n, value(c))
+}
