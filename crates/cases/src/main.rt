@@ -13,6 +13,8 @@ use tokens::word::closes;
 use tokens::word::of_control;
 use tokens::word::of_data;
 use tokens::word::value;
+ghost use Prim.Native.Nat.{_+_, _≤_};
+ghost use Rattle.ports.specs.Queue.{capacity};
 
 fn say(text: &[u8]) {
     io::write_all(STDOUT_FILENO, text);
@@ -53,10 +55,17 @@ fn bit(label: &[u8], number: u16, own: u16, w: Width) {
     say(b"\n");
 }
 
-fn grant(label: &[u8], credit: u32, held: u32) {
+// The caller's credit and tokens held are those of a sound link.
+fn grant(label: &[u8], credit: u32, held: u32)
+    requires { ⌜ credit + held ≤ capacity ⌝ }
+{
+    let granted = credits::grant(credit, held);
+    let after = credit + granted;
     say(label);
     say(b" ");
-    say_number(credits::grant(credit, held));
+    say_number(granted);
+    say(b", making ");
+    say_number(after);
     say(b"\n");
 }
 
