@@ -1,6 +1,6 @@
 // Credits (document 01, "Credits"): what is granted when a grant is considered. When one is
 // considered, and what it does to the link, needs the state, and is decided above.
-use ports::Port;
+use ports::Counters;
 ghost use mathlib.Core.Path.{_≡_};
 ghost use Rattle.credits.specs.Grant.{roomOf, covered, grantOf};
 
@@ -11,10 +11,10 @@ const ENOUGH: u32 = 8;
 fn room(credit: u32, held: u32) -> u32
     ensures { λ r. ⌜ r ≡ roomOf credit held ⌝ }
 {
-    if held >= Port::CAPACITY {
+    if held >= Counters::CAPACITY {
         return 0;
     }
-    let free = Port::CAPACITY - held;
+    let free = Counters::CAPACITY - held;
     if credit >= free {
         return 0;
     }

@@ -6,8 +6,8 @@ use native.Mathlib.Omega.{arith}
 use native.Mathlib.Numerals.{add-one}
 use lib.ListN.{length, set, getD}
 use lib.Seq.{getD-set-same, getD-set-other}
-use Rattle.ports.specs.declared.Port.{Port}
-use Rattle.ports.specs.Queue.{capacity, Fair, ring, contents, putPort, putWords, takePort, takeWords, firstWord}
+use Rattle.ports.specs.declared.Counters.{Counters}
+use Rattle.ports.specs.Queue.{capacity, Fair, ring, contents, putCounters, putWords, takeCounters, takeWords, firstWord}
 
 -- a store outside the ring's part leaves the part
 ring-other : (s : List ℕ) (j v h n : ℕ) → ((i : ℕ) → i < n → (h + i) % capacity ≡ j → ⊥) → ring (set s j v) h n ≡ ring s h n
@@ -43,12 +43,12 @@ ring-put s h (suc n) t l e =
     ap (λ (x : ℕ). x ∷ ring (set s ((h + suc n) % capacity) t) (suc h) (suc n)) g
     ∙ ap (λ (x : List ℕ). getD s (h % capacity) 0 ∷ x) (ap (λ (k : ℕ). ring (set s (k % capacity) t) (suc h) (suc n)) j ∙ r)
 
-pub put-appends : (p : Port) (s : List ℕ) (t : ℕ) → p .held < capacity → length s ≡ capacity
-    → contents (putPort p) (putWords p s t) ≡ contents p s ++ (t ∷ [])
+pub put-appends : (p : Counters) (s : List ℕ) (t : ℕ) → p .held < capacity → length s ≡ capacity
+    → contents (putCounters p) (putWords p s t) ≡ contents p s ++ (t ∷ [])
 put-appends p s t l e = rw add-one (ring-put s (p .head) (p .held) t l e)
 
-pub take-removes : (p : Port) (s : List ℕ) → Fair p → 0 < p .held
-    → contents p s ≡ firstWord p s ∷ contents (takePort p) (takeWords p s)
+pub take-removes : (p : Counters) (s : List ℕ) → Fair p → 0 < p .held
+    → contents p s ≡ firstWord p s ∷ contents (takeCounters p) (takeWords p s)
 unfolding ring
 take-removes p s f l =
     let n : ℕ = p .held - 1 in

@@ -5,7 +5,7 @@ use mathlib.Core.List.{List}
 use lib.ListN.{getD, set}
 use Rattle.laws.specs.Row.{row}
 use Rattle.names.specs.Size.{ports}
-use Rattle.ports.specs.declared.Port.{Port}
+use Rattle.ports.specs.declared.Counters.{Counters}
 use Rattle.ports.specs.Queue.{capacity, contents}
 
 -- where the stretch of a slot's port begins
@@ -17,15 +17,15 @@ abbrev pub stretch : List ℕ → ℕ → List ℕ
 stretch m a = row capacity a m
 
 -- the whole memory after a put, and after a take, of the port whose stretch begins at a
-abbrev pub putMemory : Port → List ℕ → ℕ → ℕ → List ℕ
+abbrev pub putMemory : Counters → List ℕ → ℕ → ℕ → List ℕ
 putMemory p m a t = set m (a + (p .head + p .held) % capacity) t
 
-abbrev pub takeMemory : Port → List ℕ → ℕ → List ℕ
+abbrev pub takeMemory : Counters → List ℕ → ℕ → List ℕ
 takeMemory p m a = set m (a + p .head) 0
 
-abbrev pub firstOf : Port → List ℕ → ℕ → ℕ
+abbrev pub firstOf : Counters → List ℕ → ℕ → ℕ
 firstOf p m a = getD m (a + p .head) 0
 
 -- what that port holds, oldest first
-abbrev pub held : Port → List ℕ → ℕ → List ℕ
+abbrev pub held : Counters → List ℕ → ℕ → List ℕ
 held p m a = contents p (stretch m a)

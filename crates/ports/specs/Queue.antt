@@ -3,34 +3,34 @@
 use Prim.Native.Nat.{ℕ, zero, suc, _+_, _-_, _%_, _<_, _≤_}
 use mathlib.Core.List.{List, [], _∷_}
 use lib.ListN.{getD, set}
-use Rattle.ports.specs.declared.Port.{Port}
+use Rattle.ports.specs.declared.Counters.{Counters}
 
 abbrev pub capacity : ℕ
 capacity = 64
 
 -- counters that a port can have
-pub record Fair (p : Port) : Type 0 where
+pub record Fair (p : Counters) : Type 0 where
   pub head-in : p .head < capacity
   pub held-in : p .held ≤ capacity
 
-abbrev pub emptyPort : Port
-emptyPort = record { head = 0; held = 0 }
+abbrev pub emptyCounters : Counters
+emptyCounters = record { head = 0; held = 0 }
 
 -- a token is put behind those held
-abbrev pub putPort : Port → Port
-putPort p = record { head = p .head; held = p .held + 1 }
+abbrev pub putCounters : Counters → Counters
+putCounters p = record { head = p .head; held = p .held + 1 }
 
-abbrev pub putWords : Port → List ℕ → ℕ → List ℕ
+abbrev pub putWords : Counters → List ℕ → ℕ → List ℕ
 putWords p s t = set s ((p .head + p .held) % capacity) t
 
 -- the oldest is taken, and the word that it leaves is cleared
-abbrev pub takePort : Port → Port
-takePort p = record { head = (p .head + 1) % capacity; held = p .held - 1 }
+abbrev pub takeCounters : Counters → Counters
+takeCounters p = record { head = (p .head + 1) % capacity; held = p .held - 1 }
 
-abbrev pub takeWords : Port → List ℕ → List ℕ
+abbrev pub takeWords : Counters → List ℕ → List ℕ
 takeWords p s = set s (p .head) 0
 
-abbrev pub firstWord : Port → List ℕ → ℕ
+abbrev pub firstWord : Counters → List ℕ → ℕ
 firstWord p s = getD s (p .head) 0
 
 -- n words of the ring from h on
@@ -39,5 +39,5 @@ ring s h zero = []
 ring s h (suc n) = getD s (h % capacity) 0 ∷ ring s (suc h) n
 
 -- what a port holds, oldest first
-abbrev pub contents : Port → List ℕ → List ℕ
+abbrev pub contents : Counters → List ℕ → List ℕ
 contents p s = ring s (p .head) (p .held)

@@ -1,30 +1,31 @@
 // A port's buffer (document 01, "Sizes"): counters over the port's own stretch of the lent token
-// memory, which is a ring. The oldest token lies at `head`, and the others behind it.
+// memory, which is a ring.
 use names::Slot;
 use names::size::PORTS;
 ghost use mathlib.Core.Path.{_≡_};
 ghost use Prim.Native.Nat.{_+_, _^_, _≤_, _<_};
 ghost use lib.ListN.{length};
-ghost use Rattle.ports.specs.Queue.{capacity, Fair, emptyPort, putPort, putWords, takePort, takeWords, firstWord};
+ghost use Rattle.ports.specs.Queue.{capacity, Fair, emptyCounters, putCounters, putWords, takeCounters, takeWords, firstWord};
 ghost use Rattle.ports.specs.Memory.{place, putMemory, takeMemory, firstOf};
 
-pub struct Port {
+// The port's counters: where in the ring the oldest token lies, and how many are held behind it.
+pub struct Counters {
     pub head: u32,
     pub held: u32,
 }
 
 // What taking gives: the counters after it, and the token.
 pub struct Taken {
-    pub port: Port,
+    pub counters: Counters,
     pub token: u16,
 }
 
-impl Port {
+impl Counters {
     pub const CAPACITY: u32 = 64;
 
-    // An empty port.
+    // Those of an empty port.
     pub fn new() -> Self
-        ensures { λ r. ⌜ r ≡ emptyPort ⌝ }
+        ensures { λ r. ⌜ r ≡ emptyCounters ⌝ }
     {
         Self { head: 0, held: 0 }
     }
@@ -33,7 +34,7 @@ impl Port {
     // from a test of its own: Full, credit, or an empty port.
     pub fn put(self, stretch: &mut [u16], token: u16) -> Self
         requires { ⌜ Fair self × (self .held < capacity) × (length (now stretch) ≡ capacity) ⌝ }
-        ensures { λ r. ⌜ (r ≡ putPort self) × (now (stretch .exit) ≡ putWords self (now (stretch .entry)) token) ⌝ }
+        ensures { λ r. ⌜ (r ≡ putCounters self) × (now (stretch .exit) ≡ putWords self (now (stretch .entry)) token) ⌝ }
     {
         let at = ((self.head + self.held) % Self::CAPACITY) as usize;
         stretch[at] = token;
@@ -47,16 +48,16 @@ impl Port {
     // a sound state, and looks first whether a token is held.
     pub fn take(self, stretch: &mut [u16]) -> Taken
         requires { ⌜ Fair self × (0 < self .held) × (length (now stretch) ≡ capacity) ⌝ }
-        ensures { λ r. ⌜ (r .port ≡ takePort self) × (r .token ≡ firstWord self (now (stretch .entry))) × (now (stretch .exit) ≡ takeWords self (now (stretch .entry))) ⌝ }
+        ensures { λ r. ⌜ (r .counters ≡ takeCounters self) × (r .token ≡ firstWord self (now (stretch .entry))) × (now (stretch .exit) ≡ takeWords self (now (stretch .entry))) ⌝ }
     {
         let at = self.head as usize;
         let token = stretch[at];
         stretch[at] = 0;
-        let port = Self {
+        let counters = Self {
             head: (self.head + 1) % Self::CAPACITY,
             held: self.held - 1,
         };
-        Taken { port, token }
+        Taken { counters, token }
     }
 }
 
@@ -65,26 +66,26 @@ fn place(slot: Slot, port: usize) -> usize
     requires { ⌜ place (slot .0) port < 2 ^ 64 ⌝ }
     ensures { λ r. ⌜ r ≡ place (slot .0) port ⌝ }
 {
-    (slot.0 * PORTS + port) * Port::CAPACITY as usize
+    (slot.0 * PORTS + port) * Counters::CAPACITY as usize
 }
 
 // Puts a token into a port, on that port's own stretch of the whole memory. The memory has such a
 // stretch for each port of each slot that is there.
-pub fn put_at(p: Port, memory: &mut [u16], slot: Slot, port: usize, token: u16) -> Port
+pub fn put_at(p: Counters, memory: &mut [u16], slot: Slot, port: usize, token: u16) -> Counters
     requires { ⌜ Fair p × (p .held < capacity) × (place (slot .0) port + capacity ≤ length (now memory)) ⌝ }
-    ensures { λ r. ⌜ (r ≡ putPort p) × (now (memory .exit) ≡ putMemory p (now (memory .entry)) (place (slot .0) port) token) ⌝ }
+    ensures { λ r. ⌜ (r ≡ putCounters p) × (now (memory .exit) ≡ putMemory p (now (memory .entry)) (place (slot .0) port) token) ⌝ }
 {
     let a = place(slot, port);
-    let e = a + Port::CAPACITY as usize;
+    let e = a + Counters::CAPACITY as usize;
     p.put(&mut memory[a..e], token)
 }
 
 // Takes the oldest token of a port, on that port's own stretch of the whole memory.
-pub fn take_at(p: Port, memory: &mut [u16], slot: Slot, port: usize) -> Taken
+pub fn take_at(p: Counters, memory: &mut [u16], slot: Slot, port: usize) -> Taken
     requires { ⌜ Fair p × (0 < p .held) × (place (slot .0) port + capacity ≤ length (now memory)) ⌝ }
-    ensures { λ r. ⌜ (r .port ≡ takePort p) × (r .token ≡ firstOf p (now (memory .entry)) (place (slot .0) port)) × (now (memory .exit) ≡ takeMemory p (now (memory .entry)) (place (slot .0) port)) ⌝ }
+    ensures { λ r. ⌜ (r .counters ≡ takeCounters p) × (r .token ≡ firstOf p (now (memory .entry)) (place (slot .0) port)) × (now (memory .exit) ≡ takeMemory p (now (memory .entry)) (place (slot .0) port)) ⌝ }
 {
     let a = place(slot, port);
-    let e = a + Port::CAPACITY as usize;
+    let e = a + Counters::CAPACITY as usize;
     p.take(&mut memory[a..e])
 }
