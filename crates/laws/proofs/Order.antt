@@ -1,9 +1,10 @@
 -- Cases on a test and on an order. Assumes nothing.
-use Prim.Native.Nat.{ℕ, _≤_, _<_}
+use Prim.Native.Nat.{ℕ, suc, _+_, _*_, _≤_, _<_}
 use mathlib.Core.Path.{_≡_, refl}
 use mathlib.Core.Bool.{Bool, true, false}
 use mathlib.Core.Logic.{_⊎_, inl, inr}
 use native.Mathlib.Decide.{decLt}
+use native.Mathlib.Nat.{suc-mul, mul-le-mul-right}
 use native.Mathlib.Omega.{arith}
 
 -- a test holds or fails
@@ -14,6 +15,10 @@ by-test false h k = k refl
 -- one of two orders
 pub order : (m n : ℕ) → (m < n) ⊎ (n ≤ m)
 order m n = elim (decLt m n) [ yes h ↦ inl h | no h ↦ inr (omega arith) ]
+
+-- the i-th of m stretches of s ends where or before they all do
+pub next : (i m s : ℕ) → i < m → i * s + s ≤ m * s
+next i m s h = rw (← suc-mul i s) (mul-le-mul-right s h)
 
 -- true is not false
 pub clash : {P : Type 0} → true ≡ false → P

@@ -1,10 +1,29 @@
--- The bench's sizes, each once.
+-- The bench's sizes, each once (document 01, "What the bench holds" and "Sizes").
 use Prim.Native.Nat.{ℕ}
 
 -- "A network of 1 to 16 XS1-L nodes"
 abbrev pub nodes : ℕ
 nodes = 16
 
+-- "external links A..H (ports 0..7)"
+abbrev pub links : ℕ
+links = 8
+
+-- "four from the switch to the tile"
+abbrev pub tileLinks : ℕ
+tileLinks = 4
+
 -- "external links A..H (ports 0..7), four links from the tile to the switch (ports 8..11), .. replies leave by port 12"
 abbrev pub ports : ℕ
 ports = 13
+
+abbrev pub replyPort : ℕ
+replyPort = 12
+
+-- "channel-ends 0..31"
+abbrev pub ends : ℕ
+ends = 32
+
+-- "channel-end input buffer: 8 tokens"
+abbrev pub endBuffer : ℕ
+endBuffer = 8

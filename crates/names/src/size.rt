@@ -1,8 +1,23 @@
 // The bench's sizes (document 01, "What the bench holds" and "Sizes"). The capacity of a port
-// belongs to the port type, in crate ports.
+// belongs to the type of its counters, in crate ports.
 
 // Nodes of a network, at most.
 pub const NODES: usize = 16;
 
-// Ports of a node: links A..H, four from the tile, one for the control unit's replies.
+// Links A..H of a node, which are its ports 0..7.
+pub const LINKS: usize = 8;
+
+// Links from the switch to the tile.
+pub const TILE_LINKS: usize = 4;
+
+// Ports of a node: the links, four from the tile, and one for the control unit's replies.
 pub const PORTS: usize = 13;
+
+// The port by which the control unit's replies leave.
+pub const REPLY_PORT: usize = 12;
+
+// Channel-ends of a node.
+pub const ENDS: usize = 32;
+
+// Tokens that a channel-end holds, at most.
+pub const END_BUFFER: usize = 8;

@@ -1,0 +1,4 @@
+-- Laws of the state as tables.
+pub mod Tables
+pub mod Puts
+pub mod Whole

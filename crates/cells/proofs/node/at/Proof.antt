@@ -1,0 +1,19 @@
+-- `cells::node::at` meets its contract: the words found, read. Assumes nothing.
+use mathlib.Core.Path.{_≡_, _∙_, ap}
+use borrow.Author.Needs.{needs}
+use lib.Dec.{lit≤}
+use Rattle.cells.specs.Layout.{whole, node}
+use Rattle.cells.specs.Records.{toNode}
+use Rattle.cells.specs.View.{view}
+use Rattle.cells.proofs.Tables.{words-whole}
+use Rattle.cells.proofs.node.at.Statement.{statement}
+use Rattle.cells.proofs.node.at.Tie as tie
+
+returns : tie.Need-returns
+unfolding view
+returns c =
+    let a = c .before .before .before .args in
+    c .read .ensures ∙ ap toNode (ap (whole 4) (c .before .words .ensures) ∙ words-whole node (lit≤ tt) (a .st .now) (a .slot .0) 0)
+
+pub at-spec : {M : Type 1} → statement M
+at-spec = tie.close (tie.spec (λ c κs. search needs) (λ c κs. search needs) returns)

@@ -1,0 +1,4 @@
+-- The state as tables: where words lie, what the records are, and the view.
+pub mod Layout
+pub mod Records
+pub mod View

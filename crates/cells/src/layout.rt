@@ -1,0 +1,89 @@
+// Where each record of a node lies. The records of a node stand in the order node, links, ports, tile
+// links, channel-ends, control unit.
+use names::Slot;
+use names::size::ENDS;
+use names::size::LINKS;
+use names::size::PORTS;
+use names::size::TILE_LINKS;
+ghost use mathlib.Core.Path.{_≡_};
+ghost use Prim.Native.Nat.{_+_, _*_, _^_, _<_, _≤_};
+ghost use Rattle.cells.specs.Layout.{stride, Within, begins, nodesIn, wordsOf};
+
+// The words of a node.
+pub const STRIDE: usize = 728;
+
+// A kind of record: how many a node has, where among the node's words the first begins, and how many
+// words each has.
+pub struct Kind {
+    pub many: usize,
+    pub from: usize,
+    pub size: usize,
+}
+
+pub const NODE: Kind = Kind {
+    many: 1,
+    from: 0,
+    size: 4,
+};
+
+pub const LINK: Kind = Kind {
+    many: LINKS,
+    from: 4,
+    size: 10,
+};
+
+pub const PORT: Kind = Kind {
+    many: PORTS,
+    from: 84,
+    size: 6,
+};
+
+pub const TILE: Kind = Kind {
+    many: TILE_LINKS,
+    from: 162,
+    size: 2,
+};
+
+pub const END: Kind = Kind {
+    many: ENDS,
+    from: 170,
+    size: 17,
+};
+
+pub const UNIT: Kind = Kind {
+    many: 1,
+    from: 714,
+    size: 14,
+};
+
+// How many nodes a state has: what its length says.
+pub fn nodes(st: &[u32]) -> usize
+    ensures { λ r. ⌜ r ≡ nodesIn (now (st .entry)) ⌝ }
+{
+    st.len() / STRIDE
+}
+
+// Where record i of a slot begins. Callers have a state that reaches past the slot's node.
+pub fn begins(slot: Slot, i: usize, k: Kind) -> usize
+    requires { ⌜ Within k × (i < k .many) × (slot .0 * stride + stride < 2 ^ 64) ⌝ }
+    ensures { λ r. ⌜ r ≡ begins k (slot .0) i ⌝ }
+{
+    slot.0 * STRIDE + k.from + i * k.size
+}
+
+// The words of record i of a slot, none where there is no such record. Every kind lies within a
+// node's words.
+pub fn words(st: &[u32], slot: Slot, i: usize, k: Kind) -> &[u32]
+    requires { ⌜ Within k ⌝ }
+    ensures { λ r. ⌜ now r ≡ wordsOf k (now (st .entry)) (slot .0) i ⌝ }
+{
+    if slot.0 >= nodes(st) {
+        return &st[..0];
+    }
+    if i >= k.many {
+        return &st[..0];
+    }
+    let a = begins(slot, i, k);
+    let e = a + k.size;
+    &st[a..e]
+}

@@ -1,0 +1,2 @@
+-- Laws of circuits.
+pub mod Backs
