@@ -61,7 +61,7 @@ unit-back k full = λ j. record { serves = k .serves; heard = k .heard; tokens =
 
 -- The view after each kind of record is written
 
-pub node-put : (xs ws : List ℕ) (n a e : ℕ) (k : Node) → n < nodesIn xs → a ≡ begins node n 0 → e ≡ a + 4 → ws ≡ fromNode k
+pub node-put : (xs ws : List ℕ) (n a e : ℕ) (k : Node) → n < nodesIn xs → a ≡ begins node n 0 → e ≡ a + node .size → ws ≡ fromNode k
     → view (putMid a (e - a) xs ws) ≡ withNode (view xs) n k
 unfolding view
 node-put xs ws n a e k hn ha he h =
@@ -76,7 +76,7 @@ node-put xs ws n a e k hn ha he h =
       units = z .there unit toUnit (lit≤ tt) (inl (lit≤ tt)) j;
     }
 
-pub link-put : (xs ws : List ℕ) (n i a e : ℕ) (k : Link) → n < nodesIn xs → i < link .many → a ≡ begins link n i → e ≡ a + 10 → ws ≡ fromLink k
+pub link-put : (xs ws : List ℕ) (n i a e : ℕ) (k : Link) → n < nodesIn xs → i < link .many → a ≡ begins link n i → e ≡ a + link .size → ws ≡ fromLink k
     → view (putMid a (e - a) xs ws) ≡ withLink (view xs) n i k
 unfolding view
 link-put xs ws n i a e k hn hi ha he h =
@@ -91,7 +91,7 @@ link-put xs ws n i a e k hn hi ha he h =
       units = z .there unit toUnit (lit≤ tt) (inl (lit≤ tt)) j;
     }
 
-pub port-put : (xs ws : List ℕ) (n i a e : ℕ) (k : Port) → n < nodesIn xs → i < port .many → a ≡ begins port n i → e ≡ a + 6 → ws ≡ fromPort k
+pub port-put : (xs ws : List ℕ) (n i a e : ℕ) (k : Port) → n < nodesIn xs → i < port .many → a ≡ begins port n i → e ≡ a + port .size → ws ≡ fromPort k
     → view (putMid a (e - a) xs ws) ≡ withPort (view xs) n i k
 unfolding view
 port-put xs ws n i a e k hn hi ha he h =
@@ -106,7 +106,7 @@ port-put xs ws n i a e k hn hi ha he h =
       units = z .there unit toUnit (lit≤ tt) (inl (lit≤ tt)) j;
     }
 
-pub tile-put : (xs ws : List ℕ) (n i a e : ℕ) (k : Tile) → n < nodesIn xs → i < tile .many → a ≡ begins tile n i → e ≡ a + 2 → ws ≡ fromTile k
+pub tile-put : (xs ws : List ℕ) (n i a e : ℕ) (k : Tile) → n < nodesIn xs → i < tile .many → a ≡ begins tile n i → e ≡ a + tile .size → ws ≡ fromTile k
     → view (putMid a (e - a) xs ws) ≡ withTile (view xs) n i k
 unfolding view
 tile-put xs ws n i a e k hn hi ha he h =
@@ -121,7 +121,7 @@ tile-put xs ws n i a e k hn hi ha he h =
       units = z .there unit toUnit (lit≤ tt) (inl (lit≤ tt)) j;
     }
 
-pub end-put : (xs ws : List ℕ) (n i a e : ℕ) (k : End) → n < nodesIn xs → i < end .many → a ≡ begins end n i → e ≡ a + 17 → length (k .tokens) ≡ 8 → ws ≡ fromEnd k
+pub end-put : (xs ws : List ℕ) (n i a e : ℕ) (k : End) → n < nodesIn xs → i < end .many → a ≡ begins end n i → e ≡ a + end .size → length (k .tokens) ≡ 8 → ws ≡ fromEnd k
     → view (putMid a (e - a) xs ws) ≡ withEnd (view xs) n i k
 unfolding view
 end-put xs ws n i a e k hn hi ha he full h =
@@ -136,7 +136,7 @@ end-put xs ws n i a e k hn hi ha he full h =
       units = z .there unit toUnit (lit≤ tt) (inl (lit≤ tt)) j;
     }
 
-pub unit-put : (xs ws : List ℕ) (n a e : ℕ) (k : Unit) → n < nodesIn xs → a ≡ begins unit n 0 → e ≡ a + 14 → length (k .tokens) ≡ 11 → ws ≡ fromUnit k
+pub unit-put : (xs ws : List ℕ) (n a e : ℕ) (k : Unit) → n < nodesIn xs → a ≡ begins unit n 0 → e ≡ a + unit .size → length (k .tokens) ≡ 11 → ws ≡ fromUnit k
     → view (putMid a (e - a) xs ws) ≡ withUnit (view xs) n k
 unfolding view
 unit-put xs ws n a e k hn ha he full h =

@@ -40,29 +40,29 @@ module _ (xs ys : List ℕ) (same : length xs ≡ length ys) where
   word-same s a j i e h r = rw e (sym (row-at s a j xs 0 h) ∙ ap (λ (l : List ℕ). getD l j 0) r ∙ row-at s a j ys 0 h)
 
   module _ (whole : length xs ≡ nodesIn xs * stride) (e : view xs ≡ view ys) where
-    node-rows : (n i : ℕ) → n < nodesIn xs → i < node .many → row 4 (begins node n i) xs ≡ row 4 (begins node n i) ys
+    node-rows : (n i : ℕ) → n < nodesIn xs → i < node .many → row (node .size) (begins node n i) xs ≡ row (node .size) (begins node n i) ys
     unfolding view
-    node-rows = rows-same node (lit≤ tt) toNode fromNode (λ r h. rw (listed 4 r 0 h)) (ap (λ (v : Net). v .own) e)
+    node-rows = rows-same node (lit≤ tt) toNode fromNode (λ r h. rw (listed (node .size) r 0 h)) (ap (λ (v : Net). v .own) e)
 
-    link-rows : (n i : ℕ) → n < nodesIn xs → i < link .many → row 10 (begins link n i) xs ≡ row 10 (begins link n i) ys
+    link-rows : (n i : ℕ) → n < nodesIn xs → i < link .many → row (link .size) (begins link n i) xs ≡ row (link .size) (begins link n i) ys
     unfolding view
-    link-rows = rows-same link (lit≤ tt) toLink fromLink (λ r h. rw (listed 10 r 0 h)) (ap (λ (v : Net). v .links) e)
+    link-rows = rows-same link (lit≤ tt) toLink fromLink (λ r h. rw (listed (link .size) r 0 h)) (ap (λ (v : Net). v .links) e)
 
-    port-rows : (n i : ℕ) → n < nodesIn xs → i < port .many → row 6 (begins port n i) xs ≡ row 6 (begins port n i) ys
+    port-rows : (n i : ℕ) → n < nodesIn xs → i < port .many → row (port .size) (begins port n i) xs ≡ row (port .size) (begins port n i) ys
     unfolding view
-    port-rows = rows-same port (lit≤ tt) toPort fromPort (λ r h. rw (listed 6 r 0 h)) (ap (λ (v : Net). v .ports) e)
+    port-rows = rows-same port (lit≤ tt) toPort fromPort (λ r h. rw (listed (port .size) r 0 h)) (ap (λ (v : Net). v .ports) e)
 
-    tile-rows : (n i : ℕ) → n < nodesIn xs → i < tile .many → row 2 (begins tile n i) xs ≡ row 2 (begins tile n i) ys
+    tile-rows : (n i : ℕ) → n < nodesIn xs → i < tile .many → row (tile .size) (begins tile n i) xs ≡ row (tile .size) (begins tile n i) ys
     unfolding view
-    tile-rows = rows-same tile (lit≤ tt) toTile fromTile (λ r h. rw (listed 2 r 0 h)) (ap (λ (v : Net). v .tiles) e)
+    tile-rows = rows-same tile (lit≤ tt) toTile fromTile (λ r h. rw (listed (tile .size) r 0 h)) (ap (λ (v : Net). v .tiles) e)
 
-    end-rows : (n i : ℕ) → n < nodesIn xs → i < end .many → row 17 (begins end n i) xs ≡ row 17 (begins end n i) ys
+    end-rows : (n i : ℕ) → n < nodesIn xs → i < end .many → row (end .size) (begins end n i) xs ≡ row (end .size) (begins end n i) ys
     unfolding view
-    end-rows = rows-same end (lit≤ tt) toEnd fromEnd (λ r h. rw (listed 17 r 0 h)) (ap (λ (v : Net). v .ends) e)
+    end-rows = rows-same end (lit≤ tt) toEnd fromEnd (λ r h. rw (listed (end .size) r 0 h)) (ap (λ (v : Net). v .ends) e)
 
-    unit-rows : (n i : ℕ) → n < nodesIn xs → i < unit .many → row 14 (begins unit n i) xs ≡ row 14 (begins unit n i) ys
+    unit-rows : (n i : ℕ) → n < nodesIn xs → i < unit .many → row (unit .size) (begins unit n i) xs ≡ row (unit .size) (begins unit n i) ys
     unfolding view
-    unit-rows = rows-same unit (lit≤ tt) toUnit fromUnit (λ r h. rw (listed 14 r 0 h)) (ap (λ (v : Net). v .units) e)
+    unit-rows = rows-same unit (lit≤ tt) toUnit fromUnit (λ r h. rw (listed (unit .size) r 0 h)) (ap (λ (v : Net). v .units) e)
 
     -- word i lies in node i / stride, and among the node's words at i % stride
     pub whole-state : xs ≡ ys
@@ -71,18 +71,18 @@ module _ (xs ys : List ℕ) (same : length xs ≡ length ys) where
         let n = i / stride in
         let r = i % stride in
         ⊎-elim
-        (λ u. word-same 4 (begins node n 0) r i (omega arith) u (node-rows n 0 (omega arith) (omega arith)))
+        (λ u. word-same (node .size) (begins node n 0) r i (omega arith) u (node-rows n 0 (omega arith) (omega arith)))
         (λ u. ⊎-elim
-        (λ v. word-same 10 (begins link n ((r - 4) / 10)) ((r - 4) % 10) i (omega arith) (omega arith) (link-rows n ((r - 4) / 10) (omega arith) (omega arith)))
+        (λ v. word-same (link .size) (begins link n ((r - link .from) / link .size)) ((r - link .from) % link .size) i (omega arith) (omega arith) (link-rows n ((r - link .from) / link .size) (omega arith) (omega arith)))
         (λ v. ⊎-elim
-        (λ w. word-same 6 (begins port n ((r - 84) / 6)) ((r - 84) % 6) i (omega arith) (omega arith) (port-rows n ((r - 84) / 6) (omega arith) (omega arith)))
+        (λ w. word-same (port .size) (begins port n ((r - port .from) / port .size)) ((r - port .from) % port .size) i (omega arith) (omega arith) (port-rows n ((r - port .from) / port .size) (omega arith) (omega arith)))
         (λ w. ⊎-elim
-        (λ x. word-same 2 (begins tile n ((r - 162) / 2)) ((r - 162) % 2) i (omega arith) (omega arith) (tile-rows n ((r - 162) / 2) (omega arith) (omega arith)))
+        (λ x. word-same (tile .size) (begins tile n ((r - tile .from) / tile .size)) ((r - tile .from) % tile .size) i (omega arith) (omega arith) (tile-rows n ((r - tile .from) / tile .size) (omega arith) (omega arith)))
         (λ x. ⊎-elim
-        (λ y. word-same 17 (begins end n ((r - 170) / 17)) ((r - 170) % 17) i (omega arith) (omega arith) (end-rows n ((r - 170) / 17) (omega arith) (omega arith)))
-        (λ y. word-same 14 (begins unit n 0) (r - 714) i (omega arith) (omega arith) (unit-rows n 0 (omega arith) (omega arith)))
-        (order r 714))
-        (order r 170))
-        (order r 162))
-        (order r 84))
-        (order r 4))
+        (λ y. word-same (end .size) (begins end n ((r - end .from) / end .size)) ((r - end .from) % end .size) i (omega arith) (omega arith) (end-rows n ((r - end .from) / end .size) (omega arith) (omega arith)))
+        (λ y. word-same (unit .size) (begins unit n 0) (r - unit .from) i (omega arith) (omega arith) (unit-rows n 0 (omega arith) (omega arith)))
+        (order r (unit .from)))
+        (order r (end .from)))
+        (order r (tile .from)))
+        (order r (port .from)))
+        (order r (link .from)))

@@ -11,7 +11,7 @@ use Rattle.cells.specs.declared.layout.Kind.{Kind}
 
 -- the words of a node
 abbrev pub stride : ℕ
-stride = 728
+stride = 754
 
 -- the kinds of record, one after the other
 abbrev pub node : Kind
@@ -21,16 +21,16 @@ abbrev pub link : Kind
 link = record { many = Size.links; from = 4; size = 10 }
 
 abbrev pub port : Kind
-port = record { many = Size.ports; from = 84; size = 6 }
+port = record { many = Size.ports; from = 84; size = 8 }
 
 abbrev pub tile : Kind
-tile = record { many = Size.tileLinks; from = 162; size = 2 }
+tile = record { many = Size.tileLinks; from = 188; size = 2 }
 
 abbrev pub end : Kind
-end = record { many = Size.ends; from = 170; size = 17 }
+end = record { many = Size.ends; from = 196; size = 17 }
 
 abbrev pub unit : Kind
-unit = record { many = 1; from = 714; size = 14 }
+unit = record { many = 1; from = 740; size = 14 }
 
 -- all records of a kind lie among the node's words
 abbrev pub Within : Kind → Type 0

@@ -40,7 +40,7 @@ toLink r =
 abbrev pub fromLink : Link → List ℕ
 fromLink k = k .wired ∷ k .«far_slot» ∷ k .«far_link» ∷ k .enabled ∷ k .direction ∷ k .network ∷ k .greeted ∷ k .credit ∷ k .user .kind ∷ k .user .index ∷ []
 
--- a port: six words
+-- a port: eight words
 abbrev pub toPort : List ℕ → Port
 toPort r =
     record {
@@ -48,10 +48,11 @@ toPort r =
       circuit = record { kind = getD r 2 0; index = getD r 3 0 };
       tile = getD r 4 0;
       network = getD r 5 0;
+      sender = record { kind = getD r 6 0; index = getD r 7 0 };
     }
 
 abbrev pub fromPort : Port → List ℕ
-fromPort k = k .counters .head ∷ k .counters .held ∷ k .circuit .kind ∷ k .circuit .index ∷ k .tile ∷ k .network ∷ []
+fromPort k = k .counters .head ∷ k .counters .held ∷ k .circuit .kind ∷ k .circuit .index ∷ k .tile ∷ k .network ∷ k .sender .kind ∷ k .sender .index ∷ []
 
 -- a link from the switch to the tile: two words
 abbrev pub toTile : List ℕ → Tile

@@ -10,7 +10,7 @@ ghost use Prim.Native.Nat.{_+_, _*_, _^_, _<_, _≤_};
 ghost use Rattle.cells.specs.Layout.{stride, Within, begins, nodesIn, wordsOf};
 
 // The words of a node.
-pub const STRIDE: usize = 728;
+pub const STRIDE: usize = 754;
 
 // A kind of record: how many a node has, where among the node's words the first begins, and how many
 // words each has.
@@ -35,24 +35,24 @@ pub const LINK: Kind = Kind {
 pub const PORT: Kind = Kind {
     many: PORTS,
     from: 84,
-    size: 6,
+    size: 8,
 };
 
 pub const TILE: Kind = Kind {
     many: TILE_LINKS,
-    from: 162,
+    from: 188,
     size: 2,
 };
 
 pub const END: Kind = Kind {
     many: ENDS,
-    from: 170,
+    from: 196,
     size: 17,
 };
 
 pub const UNIT: Kind = Kind {
     many: 1,
-    from: 714,
+    from: 740,
     size: 14,
 };
 

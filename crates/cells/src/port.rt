@@ -1,4 +1,4 @@
-// A port: six words.
+// A port: eight words.
 use crate::layout::PORT;
 use crate::layout::begins;
 use crate::layout::words;
@@ -21,6 +21,8 @@ pub struct Port {
     pub tile: u32,
     // of the circuit that has taken a tile port
     pub network: u32,
+    // the channel-end whose open circuit goes by it
+    pub sender: Circuit,
 }
 
 // What stands where there is no such record.
@@ -32,11 +34,12 @@ fn none() -> Port
         circuit: Circuit { kind: 0, index: 0 },
         tile: 0,
         network: 0,
+        sender: Circuit { kind: 0, index: 0 },
     }
 }
 
 fn fields(w: &[u32]) -> Port
-    requires { ⌜ length (now w) ≡ 6 ⌝ }
+    requires { ⌜ length (now w) ≡ 8 ⌝ }
     ensures { λ r. ⌜ r ≡ toPort (now (w .entry)) ⌝ }
 {
     Port {
@@ -50,21 +53,25 @@ fn fields(w: &[u32]) -> Port
         },
         tile: w[4],
         network: w[5],
+        sender: Circuit {
+            kind: w[6],
+            index: w[7],
+        },
     }
 }
 
 // Where words are missing there is no record.
 fn read(w: &[u32]) -> Port
-    ensures { λ r. ⌜ r ≡ toPort (whole 6 (now (w .entry))) ⌝ }
+    ensures { λ r. ⌜ r ≡ toPort (whole 8 (now (w .entry))) ⌝ }
 {
-    if w.len() == 6 {
+    if w.len() == 8 {
         return fields(w);
     }
     none()
 }
 
 fn write(w: &mut [u32], k: Port)
-    requires { ⌜ length (now w) ≡ 6 ⌝ }
+    requires { ⌜ length (now w) ≡ 8 ⌝ }
     ensures { λ r. ⌜ now (w .exit) ≡ fromPort k ⌝ }
 {
     w[0] = k.counters.head;
@@ -73,6 +80,8 @@ fn write(w: &mut [u32], k: Port)
     w[3] = k.circuit.index;
     w[4] = k.tile;
     w[5] = k.network;
+    w[6] = k.sender.kind;
+    w[7] = k.sender.index;
 }
 
 pub fn at(st: &[u32], slot: Slot, p: usize) -> Port

@@ -7,7 +7,7 @@ use Rattle.cells.proofs.port.write.Statement.{statement}
 use Rattle.cells.proofs.port.write.Tie as tie
 
 returns : tie.Need-returns
-returns c = rw (listed 6 (c .args .w .now) 0 (c .pre))
+returns c = rw (listed 8 (c .args .w .now) 0 (c .pre))
 
 pub write-spec : {M : Type 1} → statement M
 write-spec =
@@ -17,6 +17,8 @@ write-spec =
     (λ c. search needs)
     (λ c. search needs)
     (λ c. search needs)
+    (λ c. simp length-set (omega arith))
+    (λ c. simp length-set (omega arith))
     (λ c. simp length-set (omega arith))
     (λ c. simp length-set (omega arith))
     (λ c. search needs)
