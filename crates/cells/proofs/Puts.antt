@@ -1,16 +1,16 @@
 -- A record that is written changes its place of its table and nothing else. Assumes nothing.
-use Prim.Native.Nat.{ℕ, _+_, _-_, _≤_, _<_}
+use Prim.Native.Nat.{ℕ, _+_, _*_, _-_, _≤_, _<_}
 use mathlib.Core.Path.{_≡_, refl, sym, ap, _∙_}
 use mathlib.Core.Logic.{inl, inr}
 use mathlib.Core.List.{List}
 use native.Mathlib.Omega.{arith}
 use lib.Dec.{lit≤}
-use lib.ListN.{length}
+use lib.ListN.{length, drop}
 use borrow.Rule.Slice.PartMut.{putMid}
 use Rattle.laws.specs.Row.{Same}
 use Rattle.laws.specs.Table.{upd}
-use Rattle.laws.proofs.Row.{row-put, same-put, listed}
-use Rattle.cells.specs.Layout.{Within, begins, nodesIn, table, node, link, port, tile, end, unit}
+use Rattle.laws.proofs.Row.{row-put, same-put, rest-kept, listed}
+use Rattle.cells.specs.Layout.{stride, Within, begins, nodesIn, table, node, link, port, tile, end, unit}
 use Rattle.cells.specs.Records.{toNode, fromNode, toLink, fromLink, toPort, fromPort, toTile, fromTile, toEnd, fromEnd, toUnit, fromUnit}
 use Rattle.cells.specs.View.{view, withNode, withLink, withPort, withTile, withEnd, withUnit}
 use Rattle.cells.specs.declared.layout.Kind.{Kind}
@@ -20,12 +20,13 @@ use Rattle.cells.specs.declared.port.Port.{Port}
 use Rattle.cells.specs.declared.tile.Tile.{Tile}
 use Rattle.cells.specs.declared.end.End.{End}
 use Rattle.cells.specs.declared.unit.Unit.{Unit}
-use Rattle.cells.proofs.Tables.{Clear, in-state, nodes-same, table-kept, table-set}
+use Rattle.cells.proofs.Tables.{Clear, in-node, in-state, nodes-same, table-kept, table-set}
 
 -- ys is xs with the words of record i of node n replaced by ws
 record Written (k : Kind) (xs ys ws : List ℕ) (n i : ℕ) : Type 1 where
   pub nodes : nodesIn ys ≡ nodesIn xs
   pub here : {A : Type 0} (f : List ℕ → A) → table k f ys ≡ upd (table k f xs) n i (f ws)
+  pub rest : drop (nodesIn ys * stride) ys ≡ drop (nodesIn xs * stride) xs
   pub there : {A : Type 0} (l : Kind) (f : List ℕ → A) → Within l → Clear k l → table l f ys ≡ table l f xs
 
 -- so they are where ws is put into the words from a up to e
@@ -48,6 +49,9 @@ module _ (k : Kind) (w : Within k) (xs ws : List ℕ) (n i a e : ℕ) (hn : n < 
             λ f.
             table-set k w n i hn hi changed f
             ∙ ap (λ (r : List ℕ). upd (table k f xs) n i (f r)) (rw (← ha) (row-put xs ws a e (k .size) (omega arith) ends long sized));
+        rest =
+            ap (λ (m : ℕ). drop (m * stride) (putMid a (e - a) xs ws)) (nodes-same k w n i hn hi changed)
+            ∙ rest-kept changed (nodesIn xs * stride) (omega (arith, in-node k w n i hi));
         there = λ l f wl clear. table-kept k w n i hn hi changed l f wl clear;
       }
 
@@ -74,6 +78,7 @@ node-put xs ws n a e k hn ha he h =
       tiles = z .there tile toTile (lit≤ tt) (inl (lit≤ tt)) j;
       ends = z .there end toEnd (lit≤ tt) (inl (lit≤ tt)) j;
       units = z .there unit toUnit (lit≤ tt) (inl (lit≤ tt)) j;
+      rest = z .rest j;
     }
 
 pub link-put : (xs ws : List ℕ) (n i a e : ℕ) (k : Link) → n < nodesIn xs → i < link .many → a ≡ begins link n i → e ≡ a + link .size → ws ≡ fromLink k
@@ -89,6 +94,7 @@ link-put xs ws n i a e k hn hi ha he h =
       tiles = z .there tile toTile (lit≤ tt) (inl (lit≤ tt)) j;
       ends = z .there end toEnd (lit≤ tt) (inl (lit≤ tt)) j;
       units = z .there unit toUnit (lit≤ tt) (inl (lit≤ tt)) j;
+      rest = z .rest j;
     }
 
 pub port-put : (xs ws : List ℕ) (n i a e : ℕ) (k : Port) → n < nodesIn xs → i < port .many → a ≡ begins port n i → e ≡ a + port .size → ws ≡ fromPort k
@@ -104,6 +110,7 @@ port-put xs ws n i a e k hn hi ha he h =
       tiles = z .there tile toTile (lit≤ tt) (inl (lit≤ tt)) j;
       ends = z .there end toEnd (lit≤ tt) (inl (lit≤ tt)) j;
       units = z .there unit toUnit (lit≤ tt) (inl (lit≤ tt)) j;
+      rest = z .rest j;
     }
 
 pub tile-put : (xs ws : List ℕ) (n i a e : ℕ) (k : Tile) → n < nodesIn xs → i < tile .many → a ≡ begins tile n i → e ≡ a + tile .size → ws ≡ fromTile k
@@ -119,6 +126,7 @@ tile-put xs ws n i a e k hn hi ha he h =
       tiles = (z .here toTile ∙ ap (upd (table tile toTile xs) n i) (ap toTile h)) j;
       ends = z .there end toEnd (lit≤ tt) (inl (lit≤ tt)) j;
       units = z .there unit toUnit (lit≤ tt) (inl (lit≤ tt)) j;
+      rest = z .rest j;
     }
 
 pub end-put : (xs ws : List ℕ) (n i a e : ℕ) (k : End) → n < nodesIn xs → i < end .many → a ≡ begins end n i → e ≡ a + end .size → length (k .tokens) ≡ 8 → ws ≡ fromEnd k
@@ -134,6 +142,7 @@ end-put xs ws n i a e k hn hi ha he full h =
       tiles = z .there tile toTile (lit≤ tt) (inr (lit≤ tt)) j;
       ends = (z .here toEnd ∙ ap (upd (table end toEnd xs) n i) (ap toEnd h ∙ end-back k full)) j;
       units = z .there unit toUnit (lit≤ tt) (inl (lit≤ tt)) j;
+      rest = z .rest j;
     }
 
 pub unit-put : (xs ws : List ℕ) (n a e : ℕ) (k : Unit) → n < nodesIn xs → a ≡ begins unit n 0 → e ≡ a + unit .size → length (k .tokens) ≡ 11 → ws ≡ fromUnit k
@@ -149,4 +158,5 @@ unit-put xs ws n a e k hn ha he full h =
       tiles = z .there tile toTile (lit≤ tt) (inr (lit≤ tt)) j;
       ends = z .there end toEnd (lit≤ tt) (inr (lit≤ tt)) j;
       units = (z .here toUnit ∙ ap (upd (table unit toUnit xs) n 0) (ap toUnit h ∙ unit-back k full)) j;
+      rest = z .rest j;
     }

@@ -1,4 +1,4 @@
--- The view leaves no word out: two states of whole nodes, as long as each other, with one view are the same words. So a contract on views
+-- The view leaves no word out: two states with one view are the same words, whatever their lengths and contents. So a contract on views
 -- names every word of the state. Assumes nothing.
 use Prim.Native.Nat.{ℕ, _+_, _*_, _-_, _/_, _%_, _≤_, _<_}
 use mathlib.Core.Path.{_≡_, refl, sym, ap, _∙_}
@@ -6,8 +6,8 @@ use mathlib.Core.Logic.{⊎-elim}
 use mathlib.Core.List.{List, []}
 use native.Mathlib.Omega.{arith}
 use lib.Dec.{lit≤}
-use lib.ListN.{length, getD}
-use lib.Seq.{ext-getD}
+use lib.ListN.{length, getD, drop, length-drop}
+use lib.Seq.{ext-getD, getD-drop}
 use Rattle.laws.specs.Row.{row}
 use Rattle.laws.proofs.Order.{order}
 use Rattle.laws.proofs.Row.{row-long, row-at, listed}
@@ -17,9 +17,20 @@ use Rattle.cells.specs.View.{view, Net}
 use Rattle.cells.specs.declared.layout.Kind.{Kind}
 use Rattle.cells.proofs.Tables.{in-state, inside-is}
 
-module _ (xs ys : List ℕ) (same : length xs ≡ length ys) where
+module _ (xs ys : List ℕ) (e : view xs ≡ view ys) where
   nodes-same : nodesIn xs ≡ nodesIn ys
-  nodes-same = ap (λ (m : ℕ). m / stride) same
+  unfolding view
+  nodes-same = ap (λ (v : Net). v .nodes) e
+
+  rest-same : drop (nodesIn xs * stride) xs ≡ drop (nodesIn ys * stride) ys
+  unfolding view
+  rest-same = ap (λ (v : Net). v .rest) e
+
+  length-same : length xs ≡ length ys
+  length-same =
+      let r : length xs - nodesIn xs * stride ≡ length ys - nodesIn ys * stride =
+      sym (length-drop (nodesIn xs * stride) xs) ∙ ap length rest-same ∙ length-drop (nodesIn ys * stride) ys in
+      omega (arith, nodes-same)
 
   -- a record of any kind that is read back from its words: where its table is the same, its words are
   rows-same : {A : Type 0} (k : Kind) → Within k → (f : List ℕ → A) (g : A → List ℕ)
@@ -29,60 +40,85 @@ module _ (xs ys : List ℕ) (same : length xs ≡ length ys) where
       → row (k .size) (begins k n i) xs ≡ row (k .size) (begins k n i) ys
   rows-same k w f g back t n i hn hi =
       let hm : n < nodesIn ys = omega (arith, nodes-same) in
-      let e : f (row (k .size) (begins k n i) xs) ≡ f (row (k .size) (begins k n i) ys) =
+      let q : f (row (k .size) (begins k n i) xs) ≡ f (row (k .size) (begins k n i) ys) =
       rw (inside-is k xs n i hn hi, inside-is k ys n i hm hi) at (ap (λ h. h n i) t) in
       sym (back (row (k .size) (begins k n i) xs) (row-long (k .size) (begins k n i) xs (in-state k w xs n i hn hi)))
-      ∙ ap g e
+      ∙ ap g q
       ∙ back (row (k .size) (begins k n i) ys) (row-long (k .size) (begins k n i) ys (in-state k w ys n i hm hi))
 
-  -- a word of that record
-  word-same : (s a j i : ℕ) → i ≡ a + j → j < s → row s a xs ≡ row s a ys → getD xs i 0 ≡ getD ys i 0
-  word-same s a j i e h r = rw e (sym (row-at s a j xs 0 h) ∙ ap (λ (l : List ℕ). getD l j 0) r ∙ row-at s a j ys 0 h)
+  -- word i, as word j of a row that begins at a, or past the last node
+  in-row : (s a j i : ℕ) → i ≡ a + j → j < s → row s a xs ≡ row s a ys → getD xs i 0 ≡ getD ys i 0
+  in-row s a j i q h r = rw q (sym (row-at s a j xs 0 h) ∙ ap (λ (l : List ℕ). getD l j 0) r ∙ row-at s a j ys 0 h)
 
-  module _ (whole : length xs ≡ nodesIn xs * stride) (e : view xs ≡ view ys) where
-    node-rows : (n i : ℕ) → n < nodesIn xs → i < node .many → row (node .size) (begins node n i) xs ≡ row (node .size) (begins node n i) ys
-    unfolding view
-    node-rows = rows-same node (lit≤ tt) toNode fromNode (λ r h. rw (listed (node .size) r 0 h)) (ap (λ (v : Net). v .own) e)
+  in-rest : (i : ℕ) → nodesIn xs * stride ≤ i → getD xs i 0 ≡ getD ys i 0
+  in-rest i h =
+      let b = nodesIn xs * stride in
+      let q : b + (i - b) ≡ i = omega arith in
+      let r : drop b xs ≡ drop b ys = rest-same ∙ ap (λ (m : ℕ). drop (m * stride) ys) (sym nodes-same) in
+      rw (← q) (sym (getD-drop b xs (i - b) 0) ∙ ap (λ (l : List ℕ). getD l (i - b) 0) r ∙ getD-drop b ys (i - b) 0)
 
-    link-rows : (n i : ℕ) → n < nodesIn xs → i < link .many → row (link .size) (begins link n i) xs ≡ row (link .size) (begins link n i) ys
-    unfolding view
-    link-rows = rows-same link (lit≤ tt) toLink fromLink (λ r h. rw (listed (link .size) r 0 h)) (ap (λ (v : Net). v .links) e)
+  node-rows : (n i : ℕ) → n < nodesIn xs → i < node .many → row (node .size) (begins node n i) xs ≡ row (node .size) (begins node n i) ys
+  unfolding view
+  node-rows = rows-same node (lit≤ tt) toNode fromNode (λ r h. rw (listed (node .size) r 0 h)) (ap (λ (v : Net). v .own) e)
 
-    port-rows : (n i : ℕ) → n < nodesIn xs → i < port .many → row (port .size) (begins port n i) xs ≡ row (port .size) (begins port n i) ys
-    unfolding view
-    port-rows = rows-same port (lit≤ tt) toPort fromPort (λ r h. rw (listed (port .size) r 0 h)) (ap (λ (v : Net). v .ports) e)
+  link-rows : (n i : ℕ) → n < nodesIn xs → i < link .many → row (link .size) (begins link n i) xs ≡ row (link .size) (begins link n i) ys
+  unfolding view
+  link-rows = rows-same link (lit≤ tt) toLink fromLink (λ r h. rw (listed (link .size) r 0 h)) (ap (λ (v : Net). v .links) e)
 
-    tile-rows : (n i : ℕ) → n < nodesIn xs → i < tile .many → row (tile .size) (begins tile n i) xs ≡ row (tile .size) (begins tile n i) ys
-    unfolding view
-    tile-rows = rows-same tile (lit≤ tt) toTile fromTile (λ r h. rw (listed (tile .size) r 0 h)) (ap (λ (v : Net). v .tiles) e)
+  port-rows : (n i : ℕ) → n < nodesIn xs → i < port .many → row (port .size) (begins port n i) xs ≡ row (port .size) (begins port n i) ys
+  unfolding view
+  port-rows = rows-same port (lit≤ tt) toPort fromPort (λ r h. rw (listed (port .size) r 0 h)) (ap (λ (v : Net). v .ports) e)
 
-    end-rows : (n i : ℕ) → n < nodesIn xs → i < end .many → row (end .size) (begins end n i) xs ≡ row (end .size) (begins end n i) ys
-    unfolding view
-    end-rows = rows-same end (lit≤ tt) toEnd fromEnd (λ r h. rw (listed (end .size) r 0 h)) (ap (λ (v : Net). v .ends) e)
+  tile-rows : (n i : ℕ) → n < nodesIn xs → i < tile .many → row (tile .size) (begins tile n i) xs ≡ row (tile .size) (begins tile n i) ys
+  unfolding view
+  tile-rows = rows-same tile (lit≤ tt) toTile fromTile (λ r h. rw (listed (tile .size) r 0 h)) (ap (λ (v : Net). v .tiles) e)
 
-    unit-rows : (n i : ℕ) → n < nodesIn xs → i < unit .many → row (unit .size) (begins unit n i) xs ≡ row (unit .size) (begins unit n i) ys
-    unfolding view
-    unit-rows = rows-same unit (lit≤ tt) toUnit fromUnit (λ r h. rw (listed (unit .size) r 0 h)) (ap (λ (v : Net). v .units) e)
+  end-rows : (n i : ℕ) → n < nodesIn xs → i < end .many → row (end .size) (begins end n i) xs ≡ row (end .size) (begins end n i) ys
+  unfolding view
+  end-rows = rows-same end (lit≤ tt) toEnd fromEnd (λ r h. rw (listed (end .size) r 0 h)) (ap (λ (v : Net). v .ends) e)
 
-    -- word i lies in node i / stride, and among the node's words at i % stride
-    pub whole-state : xs ≡ ys
-    whole-state =
-        ext-getD 0 xs ys same (λ i h.
-        let n = i / stride in
-        let r = i % stride in
+  unit-rows : (n i : ℕ) → n < nodesIn xs → i < unit .many → row (unit .size) (begins unit n i) xs ≡ row (unit .size) (begins unit n i) ys
+  unfolding view
+  unit-rows = rows-same unit (lit≤ tt) toUnit fromUnit (λ r h. rw (listed (unit .size) r 0 h)) (ap (λ (v : Net). v .units) e)
+
+  -- a word of a whole node: r is its place among the node's words
+  module _ (i n r : ℕ) (at : i ≡ n * stride + r) (hn : n < nodesIn xs) (hr : r < stride) where
+    from-end : end .from ≤ r → getD xs i 0 ≡ getD ys i 0
+    from-end h =
         ⊎-elim
-        (λ u. word-same (node .size) (begins node n 0) r i (omega arith) u (node-rows n 0 (omega arith) (omega arith)))
-        (λ u. ⊎-elim
-        (λ v. word-same (link .size) (begins link n ((r - link .from) / link .size)) ((r - link .from) % link .size) i (omega arith) (omega arith) (link-rows n ((r - link .from) / link .size) (omega arith) (omega arith)))
-        (λ v. ⊎-elim
-        (λ w. word-same (port .size) (begins port n ((r - port .from) / port .size)) ((r - port .from) % port .size) i (omega arith) (omega arith) (port-rows n ((r - port .from) / port .size) (omega arith) (omega arith)))
-        (λ w. ⊎-elim
-        (λ x. word-same (tile .size) (begins tile n ((r - tile .from) / tile .size)) ((r - tile .from) % tile .size) i (omega arith) (omega arith) (tile-rows n ((r - tile .from) / tile .size) (omega arith) (omega arith)))
-        (λ x. ⊎-elim
-        (λ y. word-same (end .size) (begins end n ((r - end .from) / end .size)) ((r - end .from) % end .size) i (omega arith) (omega arith) (end-rows n ((r - end .from) / end .size) (omega arith) (omega arith)))
-        (λ y. word-same (unit .size) (begins unit n 0) (r - unit .from) i (omega arith) (omega arith) (unit-rows n 0 (omega arith) (omega arith)))
-        (order r (unit .from)))
-        (order r (end .from)))
-        (order r (tile .from)))
-        (order r (port .from)))
-        (order r (link .from)))
+        (λ l.
+        let q = (r - end .from) / end .size in
+        in-row (end .size) (begins end n q) ((r - end .from) % end .size) i (omega arith) (omega arith) (end-rows n q hn (omega arith)))
+        (λ l. in-row (unit .size) (begins unit n 0) (r - unit .from) i (omega arith) (omega arith) (unit-rows n 0 hn (lit≤ tt)))
+        (order r (unit .from))
+
+    from-port : port .from ≤ r → r < end .from → getD xs i 0 ≡ getD ys i 0
+    from-port h g =
+        ⊎-elim
+        (λ l.
+        let q = (r - port .from) / port .size in
+        in-row (port .size) (begins port n q) ((r - port .from) % port .size) i (omega arith) (omega arith) (port-rows n q hn (omega arith)))
+        (λ l.
+        let q = (r - tile .from) / tile .size in
+        in-row (tile .size) (begins tile n q) ((r - tile .from) % tile .size) i (omega arith) (omega arith) (tile-rows n q hn (omega arith)))
+        (order r (tile .from))
+
+    from-node : r < port .from → getD xs i 0 ≡ getD ys i 0
+    from-node g =
+        ⊎-elim
+        (λ l. in-row (node .size) (begins node n 0) r i (omega arith) l (node-rows n 0 hn (lit≤ tt)))
+        (λ l.
+        let q = (r - link .from) / link .size in
+        in-row (link .size) (begins link n q) ((r - link .from) % link .size) i (omega arith) (omega arith) (link-rows n q hn (omega arith)))
+        (order r (link .from))
+
+    in-node : getD xs i 0 ≡ getD ys i 0
+    in-node = ⊎-elim from-node (λ h. ⊎-elim (from-port h) from-end (order r (end .from))) (order r (port .from))
+
+  pub whole-state : xs ≡ ys
+  whole-state =
+      ext-getD 0 xs ys length-same (λ i h.
+      ⊎-elim
+      (λ l. in-node i (i / stride) (i % stride) (omega arith) (omega arith) (omega arith))
+      (in-rest i)
+      (order i (nodesIn xs * stride)))

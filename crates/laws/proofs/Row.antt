@@ -97,19 +97,19 @@ module _ {A : Type 0} where
         long = same-len-mid a (e - a) l ws (n ∙ sym (mid-len a e l g));
       }
 
+  drop-from : (e b : ℕ) → e ≤ b → (l : List A) → drop b l ≡ drop (b - e) (drop e l)
+  drop-from e b h l = let at-b : e + (b - e) ≡ b = omega arith in sym (drop-drop (b - e) e l ∙ ap (λ (n : ℕ). drop n l) at-b)
+
+  pub rest-kept : {a e : ℕ} {xs ys : List A} → Same a e xs ys → (b : ℕ) → e ≤ b → drop b ys ≡ drop b xs
+  rest-kept {a} {e} {xs} {ys} same b h =
+      drop-from e b h ys ∙ ap (λ (l : List A). drop (b - e) l) (same .back) ∙ sym (drop-from e b h xs)
+
   pub row-kept : {a e : ℕ} {xs ys : List A} → Same a e xs ys → (b s : ℕ) → Apart a e b s → row s b ys ≡ row s b xs
   row-kept {a} {e} {xs} {ys} same b s (inl h) =
       take-drop b s ys
       ∙ ap (λ (l : List A). drop b l) (sym (take-take (b + s) a ys h) ∙ ap (λ (l : List A). take (b + s) l) (same .front) ∙ take-take (b + s) a xs h)
       ∙ sym (take-drop b s xs)
-  row-kept {a} {e} {xs} {ys} same b s (inr h) =
-      ap (λ (l : List A). take s l) (drop-from ys ∙ ap (λ (l : List A). drop (b - e) l) (same .back) ∙ sym (drop-from xs))
-    where
-      at-b : e + (b - e) ≡ b
-      at-b = omega arith
-
-      drop-from : (l : List A) → drop b l ≡ drop (b - e) (drop e l)
-      drop-from l = sym (drop-drop (b - e) e l ∙ ap (λ (n : ℕ). drop n l) at-b)
+  row-kept {a} {e} {xs} {ys} same b s (inr h) = ap (λ (l : List A). take s l) (rest-kept same b h)
 
 -- A table of records, each read from a row of s elements, record q from place w q on
 module _ {A B : Type 0} {a e : ℕ} {xs ys : List A} (same : Same a e xs ys) (f : List A → B) (w : ℕ → ℕ) (s k : ℕ) where

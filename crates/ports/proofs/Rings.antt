@@ -60,3 +60,19 @@ take-removes p s f l =
     ap (ring s (p .head)) e
     ∙ ap (λ (k : ℕ). getD s k 0 ∷ ring s (suc (p .head)) n) h
     ∙ ap (λ (x : List ℕ). getD s (p .head) 0 ∷ x) (sym o)
+
+-- The ring as a loop goes over it: all of it at first, one token less at each turn, none at last
+module _ (s : List ℕ) (h n : ℕ) where
+  pub ring-start : ring s (h + 0) (n - 0) ≡ ring s h n
+  ring-start = let p : h + 0 ≡ h = omega arith in let q : n - 0 ≡ n = omega arith in rw (p, q)
+
+  pub ring-next : (i : ℕ) → i < n → ring s (h + i) (n - i) ≡ getD s ((h + i) % capacity) 0 ∷ ring s (h + (i + 1)) (n - (i + 1))
+  unfolding ring
+  ring-next i l =
+      let p : n - i ≡ suc (n - (i + 1)) = omega arith in
+      let q : suc (h + i) ≡ h + (i + 1) = omega arith in
+      rw (p, q)
+
+  pub ring-done : (i : ℕ) → n ≤ i → ring s (h + i) (n - i) ≡ []
+  unfolding ring
+  ring-done i l = let p : n - i ≡ 0 = omega arith in rw p

@@ -1,0 +1,3 @@
+-- The grammar of what may stand in a port.
+pub mod Stage
+pub mod Walk
