@@ -2,3 +2,4 @@
 pub mod Layout
 pub mod Records
 pub mod View
+pub mod World

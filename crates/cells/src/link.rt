@@ -12,6 +12,7 @@ ghost use Rattle.names.specs.Size.{links};
 ghost use Rattle.cells.specs.Layout.{whole};
 ghost use Rattle.cells.specs.Records.{toLink, fromLink};
 ghost use Rattle.cells.specs.View.{view, withLink};
+ghost use Rattle.cells.specs.World.{farOf};
 
 pub struct Link {
     // 0 or 1; the far end is not looked at while it is 0
@@ -25,6 +26,22 @@ pub struct Link {
     pub credit: u32,
     // the port whose circuit leaves by it
     pub user: Circuit,
+}
+
+// Where a cable leads.
+pub enum Far {
+    Nowhere,
+    At(Slot, usize),
+}
+
+// The far end of a link's cable.
+pub fn far_of(k: Link) -> Far
+    ensures { λ r. ⌜ r ≡ farOf k ⌝ }
+{
+    if k.wired == 1 {
+        return Far::At(Slot(k.far_slot as usize), k.far_link as usize);
+    }
+    Far::Nowhere
 }
 
 // What stands where there is no such record.

@@ -1,6 +1,7 @@
 // A node's own settings: four words.
 use crate::layout::NODE;
 use crate::layout::begins;
+use crate::layout::nodes;
 use crate::layout::words;
 use names::Slot;
 use routing::direction::Directions;
@@ -66,6 +67,13 @@ fn write(w: &mut [u32], k: Node)
     w[1] = k.width;
     w[2] = k.directions.first;
     w[3] = k.directions.second;
+}
+
+// How many nodes a state has.
+pub fn count(st: &[u32]) -> usize
+    ensures { λ r. ⌜ r ≡ view (now (st .entry)) .nodes ⌝ }
+{
+    nodes(st)
 }
 
 pub fn at(st: &[u32], slot: Slot) -> Node

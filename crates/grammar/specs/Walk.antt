@@ -1,12 +1,12 @@
 -- The walk over a port's tokens, oldest first, from where the port's circuit stands (document 01, "Sound").
 use Prim.Native.Nat.{ℕ, suc}
-use mathlib.Core.Bool.{Bool, true, false, not}
+use mathlib.Core.Bool.{Bool, true, false}
 use mathlib.Core.List.{List, [], _∷_}
 use Rattle.laws.specs.Pick.{pick}
 use Rattle.circuits.specs.declared.Hop.{Hop}
 use Rattle.circuits.specs.declared.Hop.the-variants.{Shut, Out, Channel, Unit, Dropped}
 use Rattle.tokens.specs.Shape.{shapeOf}
-use Rattle.grammar.specs.Stage.{step, ofThree, ofOne, due, isBad}
+use Rattle.grammar.specs.Stage.{step, ofThree, ofOne, due}
 use Rattle.grammar.specs.declared.stage.Stage.{Stage}
 use Rattle.grammar.specs.declared.stage.Stage.the-variants.{Fresh, Body}
 
@@ -38,8 +38,3 @@ frontOf (Dropped c) q = lead q
 -- and past the last
 abbrev pub backOf : Hop → List ℕ → Stage
 backOf h q = walk (frontOf h q) q
-
--- "tokens and headers are legal; a port with no circuit is empty or starts with a header, and so does what follows an END or PAUSE; such a
--- header is short only at its port's end; header tokens stand elsewhere only at the front of a circuit .."
-abbrev pub wellFormed : Hop → List ℕ → Bool
-wellFormed h q = not (isBad (backOf h q))

@@ -27,3 +27,7 @@ ends = 32
 -- "channel-end input buffer: 8 tokens"
 abbrev pub endBuffer : ℕ
 endBuffer = 8
+
+-- "Channel 255 is the sink: it takes and forgets"
+abbrev pub sink : ℕ
+sink = 255

@@ -21,3 +21,6 @@ pub const ENDS: usize = 32;
 
 // Tokens that a channel-end holds, at most.
 pub const END_BUFFER: usize = 8;
+
+// The channel that takes and forgets.
+pub const SINK: u32 = 255;

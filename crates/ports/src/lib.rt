@@ -6,7 +6,7 @@ ghost use mathlib.Core.Path.{_≡_};
 ghost use Prim.Native.Nat.{_+_, _^_, _≤_, _<_};
 ghost use lib.ListN.{length};
 ghost use Rattle.ports.specs.Queue.{capacity, Fair, emptyCounters, putCounters, putWords, takeCounters, takeWords, firstWord};
-ghost use Rattle.ports.specs.Memory.{place, putMemory, takeMemory, firstOf};
+ghost use Rattle.ports.specs.Memory.{place, stretch, putMemory, takeMemory, firstOf};
 
 // The port's counters: where in the ring the oldest token lies, and how many are held behind it.
 pub struct Counters {
@@ -67,6 +67,16 @@ fn place(slot: Slot, port: usize) -> usize
     ensures { λ r. ⌜ r ≡ place (slot .0) port ⌝ }
 {
     (slot.0 * PORTS + port) * Counters::CAPACITY as usize
+}
+
+// A port's own stretch of the whole memory, to look at.
+pub fn stretch(memory: &[u16], slot: Slot, port: usize) -> &[u16]
+    requires { ⌜ place (slot .0) port + capacity ≤ length (now memory) ⌝ }
+    ensures { λ r. ⌜ now r ≡ stretch (now (memory .entry)) (place (slot .0) port) ⌝ }
+{
+    let a = place(slot, port);
+    let e = a + Counters::CAPACITY as usize;
+    &memory[a..e]
 }
 
 // Puts a token into a port, on that port's own stretch of the whole memory. The memory has such a

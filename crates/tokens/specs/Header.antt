@@ -7,6 +7,7 @@ use mathlib.Core.Bool.{Bool, true, false}
 use mathlib.Core.List.{List, [], _∷_, map}
 use lib.Dec.{ltb, eqb}
 use Rattle.laws.specs.Pick.{pick}
+use Rattle.names.specs.Size.{ends, sink}
 use Rattle.names.specs.Number.{highByte, lowByte, ofBytes}
 use Rattle.names.specs.declared.NodeNumber.{NodeNumber}
 use Rattle.tokens.specs.Shape.{legalChannel}
@@ -33,7 +34,7 @@ threeOf n last = H.Three (headerWord (highByte n) Three) (headerWord (lowByte n)
 
 -- the header of a destination at a width
 unfoldable pub headerOf : Target → Width → Header
-headerOf (Channel n c) One = pick (ltb c 32) (H.One (headerWord (compared One n .0 * 32 + c) One)) H.Narrow
+headerOf (Channel n c) One = pick (ltb c ends) (H.One (headerWord (compared One n .0 * 32 + c) One)) H.Narrow
 headerOf (Unit n) One = H.Narrow
 headerOf (Channel n c) Three = threeOf n (headerWord c Three)
 headerOf (Unit n) Three = threeOf n unitWord
@@ -63,7 +64,7 @@ Reads (H.Three a b c) t = readThree a b c ≡ t
 
 -- what a width carries: sixteen bits of a number; a channel 0..31 at one byte, any byte at three; a control unit at three only
 abbrev pub Carried : Width → Target → Type 0
-Carried One (Channel n c) = (n .0 < 65536) × (c < 32)
+Carried One (Channel n c) = (n .0 < 65536) × (c < ends)
 Carried One (Unit n) = ⊥
 Carried Three (Channel n c) = (n .0 < 65536) × (c < 256)
 Carried Three (Unit n) = n .0 < 65536
@@ -75,7 +76,7 @@ comparedTarget w (Unit n) = Unit (compared w n)
 
 -- 9 Narrow: "opening at one-byte width towards channel 255 or a control unit"
 abbrev pub narrow : Width → Target → Bool
-narrow One (Channel n c) = eqb c 255
+narrow One (Channel n c) = eqb c sink
 narrow One (Unit n) = true
 narrow Three (Channel n c) = false
 narrow Three (Unit n) = false

@@ -3,6 +3,7 @@ use Prim.Native.Nat.{ℕ, _-_}
 use mathlib.Core.Bool.{Bool, _||_}
 use lib.Dec.{eqb, ltb}
 use Rattle.laws.specs.Pick.{pick}
+use Rattle.names.specs.Size.{ends, sink}
 use Rattle.tokens.specs.Control.{ssctrl}
 use Rattle.tokens.specs.Word.{controlWord, closes}
 use Rattle.tokens.specs.declared.word.Shape.{Shape}
@@ -10,7 +11,7 @@ use Rattle.tokens.specs.declared.word.Shape.the-variants.{Wrong, Body, C
 
 -- "channel 0..31 or 255"
 abbrev pub legalChannel : ℕ → Bool
-legalChannel c = ltb c 32 || eqb c 255
+legalChannel c = ltb c ends || eqb c sink
 
 -- a token of a three-byte header, its marks taken off: any data, of control SSCTRL alone
 unfoldable pub threeShape : ℕ → Shape

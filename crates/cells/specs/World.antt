@@ -1,0 +1,34 @@
+-- What the definitions above take and give: the state as tables, and the token memory. A later change adds a second memory here, and no
+-- signature moves.
+use Prim.Native.Nat.{ℕ}
+use mathlib.Core.List.{List}
+use lib.Dec.{eqb}
+use Rattle.laws.specs.Pick.{pick}
+use Rattle.names.specs.declared.Slot.{Slot}
+use Rattle.circuits.specs.Circuit.{hopOf}
+use Rattle.circuits.specs.declared.Hop.{Hop}
+use Rattle.ports.specs.Memory.{place, held}
+use Rattle.cells.specs.View.{Net, view}
+use Rattle.cells.specs.declared.link.Link.{Link}
+use Rattle.cells.specs.declared.link.Far.{Far}
+use Rattle.cells.specs.declared.link.Far.the-variants.{Nowhere, At}
+
+pub record World : Type 0 where
+  pub net : Net
+  pub memory : List ℕ
+
+-- the world that two lent slices are
+abbrev pub world : List ℕ → List ℕ → World
+world st mem = record { net = view st; memory = mem }
+
+-- where a link's cable leads
+abbrev pub farOf : Link → Far
+farOf k = pick (eqb (k .wired) 1) (At (record { 0 = k .«far_slot» }) (k .«far_link»)) Nowhere
+
+-- where the circuit of port p of node n goes
+abbrev pub hop : Net → ℕ → ℕ → Hop
+hop s n p = hopOf (s .ports n p .circuit) (s .ports n p .tile)
+
+-- what that port holds, oldest first
+abbrev pub queue : World → ℕ → ℕ → List ℕ
+queue w n p = held (w .net .ports n p .counters) (w .memory) (place n p)

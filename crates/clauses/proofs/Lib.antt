@@ -1,0 +1,2 @@
+-- Laws of the clauses.
+pub mod Readies

@@ -1,0 +1,55 @@
+-- A port that is ready: the memory reaches past its stretch, its counters are those of a ring, and a stage read off its tokens is that of the
+-- port. Assumes nothing.
+use Prim.Native.Nat.{ℕ, _+_, _*_, _/_, _≤_, _<_}
+use mathlib.Core.Bool.{Bool, true, false, _&&_}
+use mathlib.Core.List.{List}
+use mathlib.Core.Path.{_≡_, refl, sym}
+use native.Mathlib.Omega.{arith}
+use lib.Dec.{ltb, leb}
+use lib.ListN.{length}
+use Rattle.laws.specs.Pick.{pick}
+use Rattle.laws.proofs.All.{both, below, at-most}
+use Rattle.names.specs.Size.{ports}
+use Rattle.circuits.specs.Circuit.{hopOf}
+use Rattle.circuits.specs.declared.Hop.{Hop}
+use Rattle.ports.specs.Queue.{capacity, Fair, contents}
+use Rattle.ports.specs.Memory.{place, stretch}
+use Rattle.grammar.specs.declared.stage.Stage.{Stage}
+use Rattle.grammar.specs.declared.stage.Stage.the-variants.{Bad}
+use Rattle.cells.specs.World.{World, hop, queue}
+use Rattle.cells.specs.declared.port.Port.{Port}
+use Rattle.clauses.specs.Contents.{ready}
+
+module _ (w : World) (n p : ℕ) where
+  -- the four tests, each as a fact
+  pub record Ready : Type 0 where
+    pub node : n < length (w .memory) / (ports * capacity)
+    pub port : p < ports
+    pub head : w .net .ports n p .counters .head < capacity
+    pub held : w .net .ports n p .counters .held ≤ capacity
+
+  pub is-ready : ready w n p ≡ true → Ready
+  is-ready e =
+      let c = w .net .ports n p .counters in
+      let a = ltb n (length (w .memory) / (ports * capacity)) in
+      let b = ltb p ports in
+      let d = ltb (c .head) capacity in
+      let f = leb (c .held) capacity in
+      let z = both a (b && (d && f)) (below n _) (both b (d && f) (below p _) (both d f (below (c .head) _) (at-most (c .held) _))) .sure e in
+      record { node = z .0; port = z .1 .0; head = z .1 .1 .0; held = z .1 .1 .1 }
+
+  module _ (e : ready w n p ≡ true) where
+    pub reaches : place n p + capacity ≤ length (w .memory)
+    reaches = let z = is-ready e in omega arith
+
+    pub fair : Fair (w .net .ports n p .counters)
+    fair = let z = is-ready e in record { head-in = z .head; held-in = z .held }
+
+    -- a stage that is read off the port's record and its stretch
+    pub read-off : (f : Hop → List ℕ → Stage) {k : Port} {h : Hop} {s : List ℕ} {r : Stage}
+        → k ≡ w .net .ports n p
+        → h ≡ hopOf (k .circuit) (k .tile)
+        → s ≡ stretch (w .memory) (place n p)
+        → r ≡ f h (contents (k .counters) s)
+        → r ≡ pick (ready w n p) (f (hop (w .net) n p) (queue w n p)) Bad
+    read-off f ek eh es er = rw (er, es, eh, ek, e)

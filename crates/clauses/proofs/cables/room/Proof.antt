@@ -1,0 +1,23 @@
+-- `clauses::cables::room` meets its contract. Assumes nothing.
+use borrow.Author.Needs.{needs}
+use Rattle.clauses.proofs.cables.room.Statement.{statement}
+use Rattle.clauses.proofs.cables.room.Tie as tie
+
+returns : tie.Need-returns
+returns c = rw (← c .before .before .before .at .ensures, ← c .before .before .far-of .ensures, c .enum-told .given .1)
+
+returns-2 : tie.Need-returns-2
+returns-2 c = rw (← c .before .before .before .before .before .before .at .ensures, ← c .before .before .before .before .before .far-of .ensures, c .before .before .before .m .given .1, c .room-for .ensures, c .before .at2 .ensures)
+
+pub room-spec : {M : Type 1} → statement M
+room-spec =
+    tie.close
+    (tie.spec
+    (λ c κs. search needs)
+    (λ c κs. search needs)
+    (λ c. search needs)
+    (λ c. search needs)
+    (λ c κs. search needs)
+    (λ c κs. search needs)
+    returns
+    returns-2)

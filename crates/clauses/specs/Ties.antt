@@ -1,0 +1,49 @@
+-- Tight: the five ties that make soundness last. They are no part of the Sound list.
+use Prim.Native.Nat.{ℕ}
+use mathlib.Core.Bool.{Bool, true, false, _||_}
+use lib.Dec.{eqb}
+use Rattle.names.specs.Size.{replyPort}
+use Rattle.circuits.specs.Circuit.{peerOf}
+use Rattle.circuits.specs.declared.Peer.{Peer}
+use Rattle.circuits.specs.declared.Peer.the-variants.{Nobody, Port, End}
+use Rattle.grammar.specs.Stage.{crossed, sameStage}
+use Rattle.grammar.specs.declared.stage.Stage.{Stage}
+use Rattle.grammar.specs.declared.stage.Stage.the-variants.{Fresh, Body}
+use Rattle.cells.specs.View.{Net}
+use Rattle.cells.specs.World.{World, farOf}
+use Rattle.clauses.specs.Cables.{onFar}
+use Rattle.clauses.specs.Contents.{front, back}
+
+-- what a link has carried: as much as has left the port that uses it, or nothing unfinished
+abbrev pub carriedFor : World → ℕ → Peer → Stage
+carriedFor w n Nobody = Fresh
+carriedFor w n (Port p) = crossed (front w n p)
+carriedFor w n (End e) = Fresh
+
+-- fed: over a cable the far port ends where the circuit that is sent to it has come to
+abbrev pub fedTo : World → ℕ → ℕ → ℕ → ℕ → Bool
+fedTo w n l m k = sameStage (back w m k) (carriedFor w n (peerOf (w .net .links n l .user)))
+
+abbrev pub fed : World → ℕ → ℕ → Bool
+fed w n l = onFar (farOf (w .net .links n l)) true (fedTo w n l)
+
+-- unfed: an unwired link's port ends with a circuit's end
+abbrev pub unfed : World → ℕ → ℕ → Bool
+unfed w n l = eqb (w .net .links n l .wired) 1 || sameStage (back w n l) Fresh
+
+-- idle: a disabled link is used by nobody
+abbrev pub idle : Net → ℕ → ℕ → Bool
+idle s n l = eqb (s .links n l .enabled) 1 || eqb (s .links n l .user .kind) 0
+
+-- sends: the port of an open channel-end ends past a header, without END or PAUSE
+abbrev pub inBody : World → ℕ → Peer → Bool
+inBody w n Nobody = true
+inBody w n (Port p) = sameStage (back w n p) Body
+inBody w n (End c) = true
+
+abbrev pub sends : World → ℕ → ℕ → Bool
+sends w n e = inBody w n (peerOf (w .net .ends n e .sending))
+
+-- replied: port 12 ends with a circuit's end
+abbrev pub replied : World → ℕ → ℕ → Bool
+replied w n i = sameStage (back w n replyPort) Fresh

@@ -1,0 +1,94 @@
+// Cables and credits, link by link.
+use cells::link;
+use cells::link::Far;
+use cells::link::Link;
+use cells::link::far_of;
+use cells::node;
+use cells::port;
+use names::Slot;
+use names::size::LINKS;
+ghost use mathlib.Core.Path.{_≡_};
+ghost use Prim.Native.Nat.{_+_};
+ghost use lib.Dec.{leb};
+ghost use Rattle.ports.specs.Queue.{capacity};
+ghost use Rattle.cells.specs.View.{view};
+ghost use Rattle.clauses.specs.Cables.{leadsTo, joined, cable, credited, enabled, farEnabled, greeted, room};
+
+// A cable leads to this very link.
+fn leads_to(f: Far, slot: Slot, l: usize) -> bool
+    ensures { λ r. ⌜ r ≡ leadsTo f (slot .0) l ⌝ }
+{
+    match f {
+        Far::Nowhere => false,
+        Far::At(m, k) => (m.0 == slot.0) & (k == l),
+    }
+}
+
+fn joined(st: &[u32], slot: Slot, l: usize, m: Slot, k: usize) -> bool
+    ensures { λ r. ⌜ r ≡ joined (view (now (st .entry))) (slot .0) l (m .0) k ⌝ }
+{
+    let back = leads_to(far_of(link::at(st, m, k)), slot, l);
+    (m.0 < node::count(st)) & ((k < LINKS) & (!((m.0 == slot.0) & (k == l)) & back))
+}
+
+// "cables agree at both ends"
+pub fn cable(st: &[u32], slot: Slot, l: usize) -> bool
+    ensures { λ r. ⌜ r ≡ cable (view (now (st .entry))) (slot .0) l ⌝ }
+{
+    match far_of(link::at(st, slot, l)) {
+        Far::Nowhere => true,
+        Far::At(m, k) => joined(st, slot, l, m, k),
+    }
+}
+
+// "credit only where greeted"
+pub fn credited(st: &[u32], slot: Slot, l: usize) -> bool
+    ensures { λ r. ⌜ r ≡ credited (view (now (st .entry))) (slot .0) l ⌝ }
+{
+    let k = link::at(st, slot, l);
+    (k.credit == 0) | (k.greeted == 1)
+}
+
+fn enabled(st: &[u32], slot: Slot, l: usize) -> bool
+    ensures { λ r. ⌜ r ≡ enabled (view (now (st .entry))) (slot .0) l ⌝ }
+{
+    let k = link::at(st, slot, l);
+    k.enabled == 1
+}
+
+fn far_enabled(st: &[u32], k: Link) -> bool
+    ensures { λ r. ⌜ r ≡ farEnabled (view (now (st .entry))) k ⌝ }
+{
+    match far_of(k) {
+        Far::Nowhere => false,
+        Far::At(m, j) => enabled(st, m, j),
+    }
+}
+
+// "greeted only where wired with both ends enabled"
+pub fn greeted(st: &[u32], slot: Slot, l: usize) -> bool
+    ensures { λ r. ⌜ r ≡ greeted (view (now (st .entry))) (slot .0) l ⌝ }
+{
+    let k = link::at(st, slot, l);
+    !(k.greeted == 1) | ((k.enabled == 1) & far_enabled(st, k))
+}
+
+fn room_for(credit: u32, held: u32) -> bool
+    ensures { λ r. ⌜ r ≡ leb (credit + held) capacity ⌝ }
+{
+    credit as u64 + held as u64 <= 64
+}
+
+// "credit plus tokens held at the far end at most 64"
+pub fn room(st: &[u32], slot: Slot, l: usize) -> bool
+    ensures { λ r. ⌜ r ≡ room (view (now (st .entry))) (slot .0) l ⌝ }
+{
+    let k = link::at(st, slot, l);
+    match far_of(k) {
+        Far::Nowhere => true,
+        Far::At(m, j) => {
+            let far = port::at(st, m, j);
+            room_for(k.credit, far.counters.held)
+        }
+    }
+}

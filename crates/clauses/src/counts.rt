@@ -1,0 +1,60 @@
+// "counts within their limits", record by record.
+use cells::end::End;
+use cells::link::Link;
+use cells::node::Node;
+use cells::port::Port;
+use cells::tile::Tile;
+use cells::unit::Unit;
+ghost use mathlib.Core.Path.{_≡_};
+ghost use Rattle.clauses.specs.Counts.{nodeCounts, linkCounts, portCounts, tileCounts, endCounts, unitCounts, aimCounts};
+
+pub fn node_counts(k: Node) -> bool
+    ensures { λ r. ⌜ r ≡ nodeCounts k ⌝ }
+{
+    (k.number < 65536) & ((k.width == 1) | (k.width == 3))
+}
+
+pub fn link_counts(k: Link) -> bool
+    ensures { λ r. ⌜ r ≡ linkCounts k ⌝ }
+{
+    (k.wired <= 1)
+        & ((k.enabled <= 1)
+            & ((k.direction < 16)
+                & ((k.network < 4) & ((k.greeted <= 1) & ((k.credit <= 64) & (k.user.kind <= 1))))))
+}
+
+pub fn port_counts(k: Port) -> bool
+    ensures { λ r. ⌜ r ≡ portCounts k ⌝ }
+{
+    (k.counters.head < 64)
+        & ((k.counters.held <= 64)
+            & ((k.circuit.kind <= 5)
+                & ((k.network < 4) & ((k.sender.kind == 0) | (k.sender.kind == 2)))))
+}
+
+pub fn tile_counts(k: Tile) -> bool
+    ensures { λ r. ⌜ r ≡ tileCounts k ⌝ }
+{
+    k.user.kind <= 1
+}
+
+fn aim_counts(k: End) -> bool
+    ensures { λ r. ⌜ r ≡ aimCounts k ⌝ }
+{
+    (k.aim == 0)
+        | ((k.number < 65536)
+            & ((k.network < 4)
+                & ((k.aim == 2) | ((k.aim == 1) & ((k.channel < 32) | (k.channel == 255))))))
+}
+
+pub fn end_counts(k: End) -> bool
+    ensures { λ r. ⌜ r ≡ endCounts k ⌝ }
+{
+    aim_counts(k) & ((k.sending.kind <= 2) & ((k.claim.kind <= 2) & (k.held <= 8)))
+}
+
+pub fn unit_counts(k: Unit) -> bool
+    ensures { λ r. ⌜ r ≡ unitCounts k ⌝ }
+{
+    (k.serves.kind <= 1) & (k.heard <= 11)
+}
