@@ -1,12 +1,16 @@
 -- What the definitions above take and give: the state as tables, and the token memory. A later change adds a second memory here, and no
 -- signature moves.
-use Prim.Native.Nat.{ℕ}
-use mathlib.Core.List.{List}
-use lib.Dec.{eqb}
+use Prim.Native.Nat.{ℕ, _*_}
+use mathlib.Core.Bool.{Bool, true, false, _&&_}
+use mathlib.Core.List.{List, [], _∷_}
+use lib.Dec.{eqb, leb}
+use lib.ListN.{length}
 use Rattle.laws.specs.Pick.{pick}
+use Rattle.names.specs.Size.{nodes, ports}
 use Rattle.names.specs.declared.Slot.{Slot}
 use Rattle.circuits.specs.Circuit.{hopOf}
 use Rattle.circuits.specs.declared.Hop.{Hop}
+use Rattle.ports.specs.Queue.{capacity}
 use Rattle.ports.specs.Memory.{place, held}
 use Rattle.cells.specs.View.{Net, view}
 use Rattle.cells.specs.declared.link.Link.{Link}
@@ -32,3 +36,13 @@ hop s n p = hopOf (s .ports n p .circuit) (s .ports n p .tile)
 -- what that port holds, oldest first
 abbrev pub queue : World → ℕ → ℕ → List ℕ
 queue w n p = held (w .net .ports n p .counters) (w .memory) (place n p)
+
+abbrev pub isEmpty : List ℕ → Bool
+isEmpty [] = true
+isEmpty (x ∷ l) = false
+
+-- "A network of 1 to 16 XS1-L nodes"; "The host lends one token memory: nodes × 13 ports × 64 words of 16 bits, exactly"
+unfoldable pub shaped : World → Bool
+shaped w =
+    isEmpty (w .net .rest)
+    && (leb 1 (w .net .nodes) && (leb (w .net .nodes) nodes && eqb (length (w .memory)) (w .net .nodes * (ports * capacity))))

@@ -3,10 +3,12 @@
 use names::Slot;
 use names::size::ENDS;
 use names::size::LINKS;
+use names::size::NODES;
 use names::size::PORTS;
 use names::size::TILE_LINKS;
 ghost use mathlib.Core.Path.{_≡_};
 ghost use Prim.Native.Nat.{_+_, _*_, _^_, _<_, _≤_};
+ghost use Rattle.cells.specs.World.{world, shaped};
 ghost use Rattle.cells.specs.Layout.{stride, Within, begins, nodesIn, wordsOf};
 
 // The words of a node.
@@ -86,4 +88,18 @@ pub fn words(st: &[u32], slot: Slot, i: usize, k: Kind) -> &[u32]
     let a = begins(slot, i, k);
     let e = a + k.size;
     &st[a..e]
+}
+
+// Both lengths are those of 1 to 16 nodes.
+pub fn shaped(st: &[u32], mem: &[u16]) -> bool
+    ensures { λ r. ⌜ r ≡ shaped (world (now (st .entry)) (now (mem .entry))) ⌝ }
+{
+    let n = nodes(st);
+    if st.len() % STRIDE != 0 {
+        return false;
+    }
+    if n > NODES {
+        return false;
+    }
+    (1 <= n) & (mem.len() == n * (PORTS * 64))
 }

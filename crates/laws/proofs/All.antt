@@ -1,14 +1,14 @@
 -- Laws of `all`, for the loops that compute it and for those who read it; tests and what they mean. Assumes nothing.
-use Prim.Native.Nat.{ℕ, zero, suc, _+_, _<_, _≤_}
+use Prim.Native.Nat.{ℕ, zero, suc, _+_, _-_, _<_, _≤_}
 use mathlib.Core.Path.{_≡_, refl, ap, _∙_, sym}
-use mathlib.Core.Bool.{Bool, true, false, _&&_}
+use mathlib.Core.Bool.{Bool, true, false, not, _&&_}
 use native.Mathlib.Decide.{ℕ-discrete}
 use native.Mathlib.Omega.{arith}
 use native.Mathlib.Numerals.{add-one}
 use lib.Dec.{eqb, ltb, leb}
-use borrow.Author.Tests.{eqb-true, eq-eqb, ltb-true, lt-ltb, leb-true, le-leb}
-use Rattle.laws.specs.All.{all, every, Means}
-use Rattle.laws.proofs.Order.{clash}
+use borrow.Author.Tests.{eqb-true, eq-eqb, ltb-true, lt-ltb, leb-true, le-leb, not-true, not-false}
+use Rattle.laws.specs.All.{all, failing, every, Means}
+use Rattle.laws.proofs.Order.{by-test, clash}
 
 and-left : (a b : Bool) → (a && b) ≡ true → a ≡ true
 and-left true b e = refl
@@ -39,6 +39,9 @@ both a b m k =
       sure = λ e. (m .sure (and-left a b e), k .sure (and-right a b e));
       back = λ h. rw (m .back (h .0), k .back (h .1));
     }
+
+pub as-is : (b : Bool) → Means b (b ≡ true)
+as-is b = record { sure = λ e. e; back = λ e. e }
 
 pub same-as : {P Q : Type 0} {b : Bool} → (P → Q) → (Q → P) → Means b P → Means b Q
 same-as f g m = record { sure = λ e. f (m .sure e); back = λ h. m .back (g h) }
@@ -91,3 +94,44 @@ pub all-same : (f g : ℕ → Bool) (n : ℕ) → ((i : ℕ) → i < n → f i �
 unfolding all
 all-same f g zero h = refl
 all-same f g (suc n) h = rw (all-same f g n (λ i l. h i (omega arith)), h n (omega arith))
+
+-- As a loop computes it, with b the test at i and m the bound: it stops at a test that fails, goes on past one that holds, and ends
+pub loop-stops : (f : ℕ → Bool) (n i : ℕ) {m : ℕ} {b : Bool} → m ≡ n → i < m → b ≡ f i → not b ≡ true → false ≡ all n f
+loop-stops f n i {m} {b} q l e h = sym (all-miss f n i (omega arith) (sym e ∙ not-true b h))
+
+pub loop-goes : (f : ℕ → Bool) (i : ℕ) {b : Bool} → all i f ≡ true → b ≡ f i → not b ≡ false → all (i + 1) f ≡ true
+loop-goes f i {b} a e h = all-more f i a (sym e ∙ not-false b h)
+
+pub loop-ends : (f : ℕ → Bool) (n i : ℕ) {m : ℕ} → m ≡ n → i ≤ m → m ≤ i → all i f ≡ true → true ≡ all n f
+loop-ends f n i q l h a = sym (all-done f n i (omega arith) (omega arith) a)
+
+-- The first test that fails, as a loop seeks it, with k tests passed: where one fails it is that one, and where none does, all hold
+pub failing-start : (f : ℕ → Bool) (n : ℕ) → failing (n - 0) 0 f ≡ failing n 0 f
+failing-start f n = let q : n - 0 ≡ n = omega arith in rw q
+
+pub failing-here : (f : ℕ → Bool) (n k : ℕ) → k < n → f k ≡ false → failing (n - k) k f ≡ k
+unfolding failing
+failing-here f n k l e = let q : n - k ≡ suc (n - (k + 1)) = omega arith in rw (q, e)
+
+pub failing-next : (f : ℕ → Bool) (n k : ℕ) → k < n → f k ≡ true → failing (n - k) k f ≡ failing (n - (k + 1)) (k + 1) f
+unfolding failing
+failing-next f n k l e = let q : n - k ≡ suc (n - (k + 1)) = omega arith in rw (q, e, add-one)
+
+pub failing-none : (f : ℕ → Bool) (n k : ℕ) → n ≤ k → failing (n - k) k f ≡ k
+unfolding failing
+failing-none f n k l = let q : n - k ≡ 0 = omega arith in rw q
+
+-- a seek that ends at a test that fails, or at the bound with all tests passed
+pub data Sought (f : ℕ → Bool) (m k : ℕ) : Type 0 where
+  fails : failing m k f < k + m → f (failing m k f) ≡ false → Sought f m k
+  passes : failing m k f ≡ k + m → ((i : ℕ) → k ≤ i → i < k + m → f i ≡ true) → Sought f m k
+
+pub seek : (f : ℕ → Bool) (m k : ℕ) → Sought f m k
+unfolding failing
+seek f zero k = passes (omega arith) (λ i l h. absurd (omega arith))
+seek f (suc m) k = by-test (f k) (λ e. on e (seek f m (suc k))) (λ e. fails (rw e (omega arith)) (rw e e))
+  where
+    on : f k ≡ true → Sought f m (suc k) → Sought f (suc m) k
+    on e (fails l h) = fails (rw e (omega arith)) (rw e h)
+    on e (passes q h) =
+        passes (rw e (omega arith)) (λ i l b. elim (ℕ-discrete i k) [ yes d ↦ rw d e | no d ↦ h i (omega arith) (omega arith) ])

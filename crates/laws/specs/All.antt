@@ -4,13 +4,19 @@ use Prim.Native.Nat.{ℕ, zero, suc}
 use mathlib.Core.Path.{_≡_}
 use mathlib.Core.Bool.{Bool, true, false, _&&_}
 use mathlib.Core.List.{List, [], _∷_}
+use Rattle.laws.specs.Pick.{pick}
 
 -- f 0, f 1, .. f (n - 1) all hold
 unfoldable pub all : ℕ → (ℕ → Bool) → Bool
 all zero f = true
 all (suc n) f = all n f && f n
 
--- the same over two indices, a node and a place of it
+-- the first index from k on at which f fails, among m; k + m where none does
+unfoldable pub failing : ℕ → ℕ → (ℕ → Bool) → ℕ
+failing zero k f = k
+failing (suc m) k f = pick (f k) (failing m (suc k) f) k
+
+-- `all` over two indices, a node and a place of it
 unfoldable pub every : ℕ → ℕ → (ℕ → ℕ → Bool) → Bool
 every a b f = all a (λ n. all b (λ i. f n i))
 

@@ -1,0 +1,2 @@
+-- Laws of Sound.
+pub mod Sounds

@@ -1,0 +1,13 @@
+-- `sound::links_test` meets its contract. Assumes nothing.
+use Prim.Native.Nat.{ℕ}
+use mathlib.Core.Path.{_≡_}
+use native.Mathlib.Omega.{arith}
+use borrow.Author.Needs.{needs}
+use Rattle.sound.proofs.links_test.Statement.{statement}
+use Rattle.sound.proofs.links_test.Tie as tie
+
+returns-6 : tie.Need-returns-6
+returns-6 c = let e : c .before .args .k ≡ 11 = omega arith in rw e
+
+pub links-test-spec : {M : Type 1} → statement M
+links-test-spec = tie.close (tie.spec (λ c. search needs) (λ c. search needs) (λ c. search needs) (λ c. search needs) (λ c. search needs) returns-6)

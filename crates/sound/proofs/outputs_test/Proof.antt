@@ -1,0 +1,27 @@
+-- `sound::outputs_test` meets its contract. Assumes nothing.
+use Prim.Native.Nat.{ℕ}
+use mathlib.Core.Path.{_≡_}
+use native.Mathlib.Omega.{arith}
+use Rattle.sound.proofs.outputs_test.Statement.{statement}
+use Rattle.sound.proofs.outputs_test.Tie as tie
+
+returns : tie.Need-returns
+returns c = let e : c .before .args .k ≡ 12 = omega arith in rw e
+
+returns-2 : tie.Need-returns-2
+returns-2 c = let e : c .before .args .k ≡ 13 = omega arith in rw e
+
+returns-3 : tie.Need-returns-3
+returns-3 c = let e : c .before .args .k ≡ 14 = omega arith in rw e
+
+returns-4 : tie.Need-returns-4
+returns-4 c = let e : c .before .args .k ≡ 15 = omega arith in rw e
+
+returns-5 : tie.Need-returns-5
+returns-5 c = let e : c .before .args .k ≡ 16 = omega arith in rw e
+
+returns-6 : tie.Need-returns-6
+returns-6 c = let e : c .before .args .k ≡ 17 = omega arith in rw e
+
+pub outputs-test-spec : {M : Type 1} → statement M
+outputs-test-spec = tie.close (tie.spec returns returns-2 returns-3 returns-4 returns-5 returns-6)

@@ -1,0 +1,3 @@
+-- Sound, tight and quiet.
+pub mod Tests
+pub mod Sound
