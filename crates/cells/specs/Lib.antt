@@ -3,3 +3,4 @@ pub mod Layout
 pub mod Records
 pub mod View
 pub mod World
+pub mod Fresh

@@ -7,7 +7,9 @@ use native.Mathlib.Omega.{arith}
 use native.Mathlib.Numerals.{add-one}
 use lib.Dec.{eqb, ltb, leb}
 use borrow.Author.Tests.{eqb-true, eq-eqb, ltb-true, lt-ltb, leb-true, le-leb, not-true, not-false}
-use Rattle.laws.specs.All.{all, failing, every, Means}
+use mathlib.Core.List.{List, [], _∷_}
+use lib.ListN.{length, getD}
+use Rattle.laws.specs.All.{all, failing, every, Means, Each}
 use Rattle.laws.proofs.Order.{by-test, clash}
 
 and-left : (a b : Bool) → (a && b) ≡ true → a ≡ true
@@ -135,3 +137,9 @@ seek f (suc m) k = by-test (f k) (λ e. on e (seek f m (suc k))) (λ e. fails (r
     on e (fails l h) = fails (rw e (omega arith)) (rw e h)
     on e (passes q h) =
         passes (rw e (omega arith)) (λ i l b. elim (ℕ-discrete i k) [ yes d ↦ rw d e | no d ↦ h i (omega arith) (omega arith) ])
+
+-- what holds of each element of a list holds of the one at an index
+pub each-at : {A : Type 0} (P : A → Type 0) (l : List A) (d : A) → Each P l → (k : ℕ) → k < length l → P (getD l k d)
+each-at P [] d e k h = absurd (omega arith)
+each-at P (x ∷ l) d e zero h = e .0
+each-at P (x ∷ l) d e (suc k) h = each-at P l d (e .1) k (omega arith)

@@ -1,2 +1,3 @@
 -- Laws of Sound.
 pub mod Sounds
+pub mod Fresh

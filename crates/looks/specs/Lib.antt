@@ -1,0 +1,2 @@
+-- The definitions that contracts cite for looks.
+pub mod Looks
