@@ -11,7 +11,7 @@ ghost use Rattle.cells.specs.World.{world};
 ghost use Rattle.sound.specs.Sound.{soundTest, clauseOf, unsoundClause, sound, tie, tight, quiet};
 
 // How many tests the Sound list is.
-const MANY: u32 = 26;
+pub const MANY: u32 = 26;
 
 // The clause of each test, in the order of the list.
 const CLAUSES: [u32; 26] = [
@@ -104,7 +104,7 @@ fn claims_test(k: u32) -> Test
 }
 
 // The tests of the list, in its order.
-fn sound_test(k: u32) -> Test
+pub fn sound_test(k: u32) -> Test
     ensures { λ r. ⌜ r ≡ soundTest k ⌝ }
 {
     match k {
@@ -117,7 +117,7 @@ fn sound_test(k: u32) -> Test
     }
 }
 
-fn clause_of(k: u32) -> u32
+pub fn clause_of(k: u32) -> u32
     ensures { λ r. ⌜ r ≡ clauseOf k ⌝ }
 {
     if k < MANY {
