@@ -1,2 +1,3 @@
 -- Laws of the clauses.
 pub mod Readies
+pub mod Meanings

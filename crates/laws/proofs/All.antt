@@ -1,7 +1,8 @@
 -- Laws of `all`, for the loops that compute it and for those who read it; tests and what they mean. Assumes nothing.
 use Prim.Native.Nat.{ℕ, zero, suc, _+_, _-_, _<_, _≤_}
 use mathlib.Core.Path.{_≡_, refl, ap, _∙_, sym}
-use mathlib.Core.Bool.{Bool, true, false, not, _&&_}
+use mathlib.Core.Bool.{Bool, true, false, not, _&&_, _||_}
+use mathlib.Core.Logic.{_⊎_, inl, inr, ⊎-elim}
 use native.Mathlib.Decide.{ℕ-discrete}
 use native.Mathlib.Omega.{arith}
 use native.Mathlib.Numerals.{add-one}
@@ -41,6 +42,17 @@ both a b m k =
       sure = λ e. (m .sure (and-left a b e), k .sure (and-right a b e));
       back = λ h. rw (m .back (h .0), k .back (h .1));
     }
+
+pub also : {P Q : Type 0} {a b : Bool} → Means a P → Means b Q → Means (a && b) (P × Q)
+also {a = a} {b = b} m k = both a b m k
+
+pub either : {P Q : Type 0} {a b : Bool} → Means a P → Means b Q → Means (a || b) (P ⊎ Q)
+either {a = true} m k = record { sure = λ e. inl (m .sure refl); back = λ h. refl }
+either {a = false} m k = record { sure = λ e. inr (k .sure e); back = λ h. ⊎-elim (λ x. clash (sym (m .back x))) (k .back) h }
+
+pub denied : {P : Type 0} {b : Bool} → Means b P → Means (not b) (P → ⊥)
+denied {b = true} m = record { sure = λ e x. clash (sym e); back = λ h. absurd (h (m .sure refl)) }
+denied {b = false} m = record { sure = λ e x. clash (sym (m .back x)); back = λ h. refl }
 
 pub as-is : (b : Bool) → Means b (b ≡ true)
 as-is b = record { sure = λ e. e; back = λ e. e }

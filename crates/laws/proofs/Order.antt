@@ -20,6 +20,9 @@ order m n = elim (decLt m n) [ yes h ↦ inl h | no h ↦ inr (omega arith) ]
 pub next : (i m s : ℕ) → i < m → i * s + s ≤ m * s
 next i m s h = rw (← suc-mul i s) (mul-le-mul-right s h)
 
--- true is not false
+-- 0 is not 1, which `cc` shows of two constructors that are not one; so true is not false
+pub never : {P : Type 0} → _≡_ {A = ℕ} 0 1 → P
+never z = absurd (omega arith)
+
 pub clash : {P : Type 0} → true ≡ false → P
-clash e = let z : _≡_ {A = ℕ} 0 1 = cc in absurd (omega arith)
+clash e = never (cc)

@@ -1,3 +1,4 @@
 -- Laws of Sound.
 pub mod Sounds
+pub mod Facts
 pub mod Fresh
