@@ -20,7 +20,7 @@ use Rattle.cells.specs.declared.link.Far.the-variants.{Nowhere, At}
 use Rattle.cells.specs.declared.port.Port.{Port}
 use Rattle.cells.specs.declared.end.End.{End}
 use Rattle.cells.specs.declared.unit.Unit.{Unit}
-use Rattle.clauses.specs.Counts.{nodeCounts, linkCounts, portCounts, aimCounts, endCounts, unitCounts}
+use Rattle.clauses.specs.Counts.{nodeCounts, linkCounts, tilePort, isFree, portCounts, aimCounts, endCounts, unitCounts}
 use Rattle.clauses.specs.Cables.{onFar, leadsTo, cable, credited, greeted, farEnabled, enabled, room}
 use Rattle.clauses.specs.Pairs.{namedBy, backward, players, isNamed, onNamed, agrees, silent}
 use Rattle.clauses.specs.declared.pairs.Named.{Named}
@@ -48,19 +48,19 @@ link-counts k =
     (λ f. (f .wired, (f .enabled, (f .direction, (f .network, (f .greeted, (f .credit, f .user)))))))
     (also (at-most _ _) (also (at-most _ _) (also (below _ _) (also (below _ _) (also (at-most _ _) (also (at-most _ _) (at-most _ _)))))))
 
-pub record PortFacts (k : Port) : Type 0 where
+pub record PortFacts (p : ℕ) (k : Port) : Type 0 where
   pub head : k .counters .head < capacity
   pub held : k .counters .held ≤ capacity
   pub kind : k .circuit .kind ≤ 5
-  pub network : k .network < 4
+  pub network : ((tilePort p ≡ true → ⊥) ⊎ (isFree k ≡ true)) ⊎ (k .network < 4)
   pub sender : (k .sender .kind ≡ 0) ⊎ (k .sender .kind ≡ 2)
 
-pub port-counts : (k : Port) → Means (portCounts k) (PortFacts k)
-port-counts k =
+pub port-counts : (p : ℕ) (k : Port) → Means (portCounts p k) (PortFacts p k)
+port-counts p k =
     same-as
     (λ z. record { head = z .0; held = z .1 .0; kind = z .1 .1 .0; network = z .1 .1 .1 .0; sender = z .1 .1 .1 .1 })
     (λ f. (f .head, (f .held, (f .kind, (f .network, f .sender)))))
-    (also (below _ _) (also (at-most _ _) (also (at-most _ _) (also (below _ _) (either (equal _ _) (equal _ _))))))
+    (also (below _ _) (also (at-most _ _) (also (at-most _ _) (also (either (either (denied (as-is (tilePort p))) (as-is (isFree k))) (below _ _)) (either (equal _ _) (equal _ _))))))
 
 -- a destination that is there
 pub record AimFacts (k : End) : Type 0 where
@@ -89,8 +89,8 @@ end-counts k =
     (λ f. (f .aim, (f .sending, (f .claim, f .held))))
     (also (aim-counts k) (also (at-most _ _) (also (at-most _ _) (at-most _ _))))
 
-pub unit-counts : (k : Unit) → Means (unitCounts k) ((k .serves .kind ≤ 1) × (k .heard ≤ 11))
-unit-counts k = also (at-most _ _) (at-most _ _)
+pub unit-counts : (k : Unit) → Means (unitCounts k) ((k .serves .kind ≤ 1) × ((k .serves .kind ≡ 0) ⊎ (k .heard ≤ 11)))
+unit-counts k = also (at-most _ _) (either (equal _ _) (at-most _ _))
 
 -- Cables and credits
 

@@ -1,9 +1,10 @@
 -- "counts within their limits" (document 01, "Sound"), record by record: numbers, widths, directions, networks, credits, what is held, and
--- codes that mean something. What a record does not say now is not looked at: a destination while unaimed, a far end while unwired.
+-- codes that mean something. What nothing reads now is not looked at: a destination while unaimed, a far end while unwired, the network of a
+-- port that no circuit of a channel-end has taken, what an idle control unit heard last.
 use Prim.Native.Nat.{ℕ}
-use mathlib.Core.Bool.{Bool, _&&_, _||_}
+use mathlib.Core.Bool.{Bool, not, _&&_, _||_}
 use lib.Dec.{eqb, ltb, leb}
-use Rattle.names.specs.Size.{endBuffer}
+use Rattle.names.specs.Size.{links, replyPort, endBuffer}
 use Rattle.circuits.specs.Circuit.{legalPeer, legalHopKind}
 use Rattle.circuits.specs.declared.Circuit.{Circuit}
 use Rattle.ports.specs.Queue.{capacity}
@@ -40,11 +41,23 @@ linkCounts k =
     && (ltb (k .direction) 16
     && (ltb (k .network) 4 && (flag (k .greeted) && (leb (k .credit) capacity && byPort (k .user))))))
 
+-- "four links from the tile to the switch (ports 8..11)"
+abbrev pub tilePort : ℕ → Bool
+tilePort p = leb links p && ltb p replyPort
+
+-- no circuit, and no token
+abbrev pub isFree : Port → Bool
+isFree k = eqb (k .circuit .kind) 0 && eqb (k .counters .held) 0
+
+-- the network of the circuit that has taken a tile port; nothing reads that of another
+abbrev pub portNetwork : ℕ → Port → Bool
+portNetwork p k = (not (tilePort p) || isFree k) || ltb (k .network) 4
+
 -- "port buffer 64 tokens"
-abbrev pub portCounts : Port → Bool
-portCounts k =
+abbrev pub portCounts : ℕ → Port → Bool
+portCounts p k =
     ltb (k .counters .head) capacity
-    && (leb (k .counters .held) capacity && (legalHopKind (k .circuit) && (ltb (k .network) 4 && byEnd (k .sender))))
+    && (leb (k .counters .held) capacity && (legalHopKind (k .circuit) && (portNetwork p k && byEnd (k .sender))))
 
 abbrev pub tileCounts : Tile → Bool
 tileCounts k = byPort (k .user)
@@ -59,6 +72,6 @@ aimCounts k =
 abbrev pub endCounts : End → Bool
 endCounts k = aimCounts k && (legalPeer (k .sending) && (legalPeer (k .claim) && leb (k .held) endBuffer))
 
--- eleven tokens of a message decide what becomes of it
+-- what a control unit has heard of a message, while it listens: eleven tokens decide what becomes of it
 abbrev pub unitCounts : Unit → Bool
-unitCounts k = byPort (k .serves) && leb (k .heard) 11
+unitCounts k = byPort (k .serves) && (eqb (k .serves .kind) 0 || leb (k .heard) 11)

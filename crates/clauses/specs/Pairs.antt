@@ -3,7 +3,7 @@
 -- claims; channel-ends and the claims that they have; channel-ends and the ports that they send by.
 use Prim.Native.Nat.{ℕ}
 use mathlib.Core.Bool.{Bool, true, false, not, _&&_, _||_}
-use lib.Dec.{eqb, ltb, leb}
+use lib.Dec.{eqb, ltb}
 use Rattle.laws.specs.Pick.{pick}
 use Rattle.names.specs.Size.{links, ports, tileLinks, ends, sink, replyPort}
 use Rattle.circuits.specs.Circuit.{peerOf}
@@ -13,6 +13,7 @@ use Rattle.circuits.specs.declared.Hop.{Hop}
 use Rattle.circuits.specs.declared.Hop.the-variants.{Shut, Out, Channel, Unit, Dropped}
 use Rattle.cells.specs.View.{Net}
 use Rattle.cells.specs.World.{hop}
+use Rattle.clauses.specs.Counts.{tilePort, isFree}
 use Rattle.clauses.specs.declared.pairs.Named.{Named}
 use Rattle.clauses.specs.declared.pairs.Named.the-variants.{Nothing, One}
 use Rattle.clauses.specs.declared.pairs.Role.{Role}
@@ -127,13 +128,9 @@ onNamed (One j) f = f j
 abbrev pub agrees : Role → Net → ℕ → ℕ → Bool
 agrees r s n i = onNamed (namedBy r s n i) (namesBack r s n i)
 
--- "four links from the tile to the switch (ports 8..11)"
-abbrev pub tilePort : ℕ → Bool
-tilePort p = leb links p && ltb p replyPort
-
 -- "The port is taken until its END or PAUSE has left it": it has a circuit, or holds a token
 abbrev pub taken : Net → ℕ → ℕ → Bool
-taken s n p = not (eqb (s .ports n p .circuit .kind) 0 && eqb (s .ports n p .counters .held) 0)
+taken s n p = not (isFree (s .ports n p))
 
 -- an open channel-end is aimed, and goes by a tile port that is taken, or straight to a channel
 abbrev pub openBy : Net → ℕ → Peer → Bool

@@ -6,7 +6,7 @@ use cells::port::Port;
 use cells::tile::Tile;
 use cells::unit::Unit;
 ghost use mathlib.Core.Path.{_≡_};
-ghost use Rattle.clauses.specs.Counts.{nodeCounts, linkCounts, portCounts, tileCounts, endCounts, unitCounts, aimCounts};
+ghost use Rattle.clauses.specs.Counts.{nodeCounts, linkCounts, portNetwork, portCounts, tileCounts, endCounts, unitCounts, aimCounts};
 
 pub fn node_counts(k: Node) -> bool
     ensures { λ r. ⌜ r ≡ nodeCounts k ⌝ }
@@ -23,13 +23,19 @@ pub fn link_counts(k: Link) -> bool
                 & ((k.network < 4) & ((k.greeted <= 1) & ((k.credit <= 64) & (k.user.kind <= 1))))))
 }
 
-pub fn port_counts(k: Port) -> bool
-    ensures { λ r. ⌜ r ≡ portCounts k ⌝ }
+fn port_network(k: Port, p: usize) -> bool
+    ensures { λ r. ⌜ r ≡ portNetwork p k ⌝ }
 {
+    let free = (k.circuit.kind == 0) & (k.counters.held == 0);
+    (!((8 <= p) & (p < 12)) | free) | (k.network < 4)
+}
+
+pub fn port_counts(k: Port, p: usize) -> bool
+    ensures { λ r. ⌜ r ≡ portCounts p k ⌝ }
+{
+    let sender = (k.sender.kind == 0) | (k.sender.kind == 2);
     (k.counters.head < 64)
-        & ((k.counters.held <= 64)
-            & ((k.circuit.kind <= 5)
-                & ((k.network < 4) & ((k.sender.kind == 0) | (k.sender.kind == 2)))))
+        & ((k.counters.held <= 64) & ((k.circuit.kind <= 5) & (port_network(k, p) & sender)))
 }
 
 pub fn tile_counts(k: Tile) -> bool
@@ -56,5 +62,5 @@ pub fn end_counts(k: End) -> bool
 pub fn unit_counts(k: Unit) -> bool
     ensures { λ r. ⌜ r ≡ unitCounts k ⌝ }
 {
-    (k.serves.kind <= 1) & (k.heard <= 11)
+    (k.serves.kind <= 1) & ((k.serves.kind == 0) | (k.heard <= 11))
 }

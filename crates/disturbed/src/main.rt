@@ -267,6 +267,8 @@ fn unit_counts() {
     let mut st = [0u32; WORDS];
     let mem = [0u16; TOKENS];
     fresh(&mut st);
+    set_hop(&mut st, 1, 0, 3, 0, 0);
+    set_serves(&mut st, 1, 1, 0);
     set_heard(&mut st, 1, 12);
     report(b"2 twelve tokens heard", &st, &mem);
     set_heard(&mut st, 1, 11);

@@ -45,13 +45,13 @@ module _ (w : World) (s : sound w ≡ true) where
     pub link-facts : (l : ℕ) → l < links → LinkFacts (w .net .links n l)
     link-facts l h = link-counts (w .net .links n l) .sure (sound-at w s 1 n l (lit≤ tt) hn h)
 
-    pub port-facts : (p : ℕ) → p < ports → PortFacts (w .net .ports n p)
-    port-facts p h = port-counts (w .net .ports n p) .sure (sound-at w s 2 n p (lit≤ tt) hn h)
+    pub port-facts : (p : ℕ) → p < ports → PortFacts p (w .net .ports n p)
+    port-facts p h = port-counts p (w .net .ports n p) .sure (sound-at w s 2 n p (lit≤ tt) hn h)
 
     pub end-facts : (c : ℕ) → c < ends → EndFacts (w .net .ends n c)
     end-facts c h = end-counts (w .net .ends n c) .sure (sound-at w s 4 n c (lit≤ tt) hn h)
 
-    pub unit-facts : (w .net .units n 0 .serves .kind ≤ 1) × (w .net .units n 0 .heard ≤ 11)
+    pub unit-facts : (w .net .units n 0 .serves .kind ≤ 1) × ((w .net .units n 0 .serves .kind ≡ 0) ⊎ (w .net .units n 0 .heard ≤ 11))
     unit-facts = unit-counts (w .net .units n 0) .sure (sound-at w s 5 n 0 (lit≤ tt) hn (lit≤ tt))
 
     pub credit-facts : (l : ℕ) → l < links → (w .net .links n l .credit ≡ 0) ⊎ (w .net .links n l .greeted ≡ 1)

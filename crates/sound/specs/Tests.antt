@@ -25,7 +25,7 @@ quietEnd s n c = eqb (s .ends n c .held) 0 && (eqb (s .ends n c .claim .kind) 0 
 abbrev pub holdsAt : Test → World → ℕ → ℕ → Bool
 holdsAt Nodes w n i = nodeCounts (w .net .own n 0)
 holdsAt Links w n i = linkCounts (w .net .links n i)
-holdsAt Ports w n i = portCounts (w .net .ports n i)
+holdsAt Ports w n i = portCounts i (w .net .ports n i)
 holdsAt Tiles w n i = tileCounts (w .net .tiles n i)
 holdsAt Ends w n i = endCounts (w .net .ends n i)
 holdsAt Units w n i = unitCounts (w .net .units n 0)

@@ -102,7 +102,7 @@ fn holds_at(st: &[u32], mem: &[u16], t: Test, slot: Slot, i: usize) -> bool
     match t {
         Test::Nodes => node_counts(node::at(st, slot)),
         Test::Links => link_counts(link::at(st, slot, i)),
-        Test::Ports => port_counts(port::at(st, slot, i)),
+        Test::Ports => port_counts(port::at(st, slot, i), i),
         Test::Tiles => tile_counts(tile::at(st, slot, i)),
         Test::Ends => end_counts(end::at(st, slot, i)),
         Test::Units => unit_counts(unit::at(st, slot)),
