@@ -1,0 +1,174 @@
+//! The calls, and the door through which each is made.
+
+use crate::answers::{Answer, No};
+use crate::network::{
+    memory_words, Aim, LinkEnd, Network, HIGHEST_NETWORK, HIGHEST_NUMBER, MOST_NODES,
+};
+use crate::output;
+use crate::set::{self, Setting};
+use crate::sound;
+use crate::step;
+use crate::tokens::{is_channel, Destination, Kind, Token};
+
+/// A call with its arguments, which may be out of range: that is what refusals
+/// are for.
+#[derive(Clone, Copy, Debug, PartialEq, Eq)]
+pub enum Call {
+    Fresh {
+        nodes: usize,
+        memory_words: usize,
+    },
+    Wire {
+        one: LinkEnd,
+        other: LinkEnd,
+    },
+    Set {
+        slot: usize,
+        setting: Setting,
+    },
+    Aim {
+        slot: usize,
+        channel_end: usize,
+        destination: Destination,
+        network: u32,
+    },
+    Output {
+        slot: usize,
+        channel_end: usize,
+        kind: Kind,
+        value: u8,
+    },
+    Input {
+        slot: usize,
+        channel_end: usize,
+        kind: Kind,
+    },
+    Step {
+        slot: usize,
+        port: usize,
+    },
+}
+
+/// Makes a call. A refused call changes nothing.
+pub fn apply(network: &mut Option<Network>, call: &Call) -> Answer {
+    make(network, call).unwrap_or_else(Answer::No)
+}
+
+/// Every call but Fresh looks first at whether the state is sound.
+fn make(state: &mut Option<Network>, call: &Call) -> Result<Answer, No> {
+    match *call {
+        Call::Fresh {
+            nodes,
+            memory_words,
+        } => fresh(state, nodes, memory_words),
+        Call::Wire { one, other } => wire(sound_network(state)?, one, other),
+        Call::Set { slot, setting } => set::set(sound_network(state)?, slot, setting),
+        Call::Aim {
+            slot,
+            channel_end,
+            destination,
+            network,
+        } => {
+            let aim_at = Aim {
+                destination,
+                network,
+            };
+            aim(sound_network(state)?, slot, channel_end, aim_at)
+        }
+        Call::Output {
+            slot,
+            channel_end,
+            kind,
+            value,
+        } => {
+            let token = Token::plain(kind, value);
+            output::output(sound_network(state)?, slot, channel_end, token)
+        }
+        Call::Input {
+            slot,
+            channel_end,
+            kind,
+        } => input(sound_network(state)?, slot, channel_end, kind),
+        Call::Step { slot, port } => step::step(sound_network(state)?, slot, port),
+    }
+}
+
+/// Unsound: "memory of the wrong length, or (not Fresh) state that fails the list".
+/// Before the first Fresh that succeeds there is no network, and that is Unsound
+/// too.
+fn sound_network(state: &mut Option<Network>) -> Result<&mut Network, No> {
+    let network = state.as_mut().ok_or(No::Unsound)?;
+    if sound::is_sound(network) {
+        Ok(network)
+    } else {
+        Err(No::Unsound)
+    }
+}
+
+/// "Fresh: all nodes number 0, width three, directions 0, links unwired, disabled,
+/// network 0; channel-ends unaimed; every token word 0. A node count outside 1..16
+/// is NoSuch at any memory length."
+fn fresh(network: &mut Option<Network>, nodes: usize, words: usize) -> Result<Answer, No> {
+    if !(1..=MOST_NODES).contains(&nodes) {
+        return Err(No::NoSuch);
+    }
+    if memory_words(nodes) != Some(words) {
+        return Err(No::Unsound);
+    }
+    *network = Some(Network::fresh(nodes, words));
+    Ok(Answer::Done)
+}
+
+/// "Wire: join two different link ends, both unwired and disabled." Value is "a
+/// link joined to itself", Busy is "Wire on a wired or enabled end".
+fn wire(network: &mut Network, one: LinkEnd, other: LinkEnd) -> Result<Answer, No> {
+    let ends = [network.link(one)?, network.link(other)?];
+    if one == other {
+        return Err(No::Value);
+    }
+    if ends.iter().any(|end| end.far.is_some() || end.enabled) {
+        return Err(No::Busy);
+    }
+    network.link_mut(one).far = Some(other);
+    network.link_mut(other).far = Some(one);
+    Ok(Answer::Done)
+}
+
+/// "Aim: a channel-end's destination (number with channel 0..31 or 255, or
+/// number's control unit) and network." Open is "Aim between its opening Output
+/// and that circuit's END or PAUSE".
+fn aim(network: &mut Network, slot: usize, channel_end: usize, aim: Aim) -> Result<Answer, No> {
+    let sending = network.channel_end(slot, channel_end)?.sending;
+    if is_out_of_range(aim) {
+        return Err(No::Value);
+    }
+    if sending.is_some() {
+        return Err(No::Open);
+    }
+    network.nodes[slot].channel_ends[channel_end].aim = Some(aim);
+    Ok(Answer::Done)
+}
+
+/// Value: "channel 32..254", and what lies beyond a byte, sixteen bits or network 3
+/// (open point 17a).
+fn is_out_of_range(aim: Aim) -> bool {
+    let bad_channel = match aim.destination {
+        Destination::Channel { channel, .. } => !is_channel(channel),
+        Destination::Control { .. } => false,
+    };
+    bad_channel || aim.destination.number() > HIGHEST_NUMBER || aim.network > HIGHEST_NETWORK
+}
+
+/// "Input the next token as data or as control." Empty is "Input with nothing
+/// held"; Trap is "Input of the wrong kind; the token stays".
+fn input(network: &mut Network, slot: usize, channel_end: usize, kind: Kind) -> Result<Answer, No> {
+    let held = &network.channel_end(slot, channel_end)?.tokens;
+    let token = *held.front().ok_or(No::Empty)?;
+    if token.kind != kind {
+        return Err(No::Trap);
+    }
+    network.nodes[slot].channel_ends[channel_end]
+        .tokens
+        .pop_front();
+    Ok(Answer::Token(token.value))
+}

@@ -1,0 +1,37 @@
+//! An independent reference model of the bench of document 01, "Full scope and
+//! exact rules": a network of 1 to 16 XS1-L nodes, their links, circuits,
+//! credits and switch messages.
+//!
+//! It is written from the documents alone, to be run beside another
+//! implementation. It aims at being easy to compare with the text: each function
+//! quotes the sentence it implements, and no cleverness stands between them.
+//! Entries of the list of open points are cited as "open point N".
+//!
+//! The door is [`calls::apply`]: one [`calls::Call`] in, one [`answers::Answer`]
+//! out, for any arguments. [`sound`] is the list "Sound", [`digest`] the digest of
+//! a state, [`script`] the text form of runs, and [`runs`] makes random ones.
+
+pub mod answers;
+pub mod calls;
+pub mod credits;
+pub mod digest;
+pub mod messages;
+pub mod network;
+pub mod output;
+mod print;
+pub mod random;
+pub mod registers;
+pub mod routing;
+pub mod runs;
+pub mod script;
+pub mod set;
+pub mod sound;
+pub mod speech;
+pub mod step;
+pub mod tokens;
+pub mod topology;
+pub mod words;
+
+pub use answers::{Answer, No};
+pub use calls::{apply, Call};
+pub use network::Network;

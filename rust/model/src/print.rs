@@ -1,0 +1,129 @@
+//! Printing calls, answers and faults as the script and trace format writes them.
+
+use std::fmt;
+
+use crate::answers::{Answer, Cause, Opening};
+use crate::calls::Call;
+use crate::network::LinkEnd;
+use crate::script::{Fault, Outcome};
+use crate::set::Setting;
+use crate::tokens::{Destination, Kind};
+
+impl fmt::Display for Kind {
+    fn fmt(&self, f: &mut fmt::Formatter) -> fmt::Result {
+        f.write_str(match self {
+            Kind::Data => "data",
+            Kind::Control => "control",
+        })
+    }
+}
+
+impl fmt::Display for Destination {
+    fn fmt(&self, f: &mut fmt::Formatter) -> fmt::Result {
+        match self {
+            Destination::Channel { number, channel } => write!(f, "channel {number} {channel}"),
+            Destination::Control { number } => write!(f, "control {number} 0"),
+        }
+    }
+}
+
+impl fmt::Display for Setting {
+    fn fmt(&self, f: &mut fmt::Formatter) -> fmt::Result {
+        match self {
+            Setting::Number { value } => write!(f, "number 0 {value}"),
+            Setting::Width { value } => write!(f, "width 0 {value}"),
+            Setting::Direction { bit, value } => write!(f, "direction {bit} {value}"),
+            Setting::LinkDirection { link, value } => write!(f, "linkdirection {link} {value}"),
+            Setting::Network { link, value } => write!(f, "network {link} {value}"),
+            Setting::Enable { link, value } => write!(f, "enable {link} {value}"),
+            Setting::Hello { link } => write!(f, "hello {link} 0"),
+        }
+    }
+}
+
+impl fmt::Display for LinkEnd {
+    fn fmt(&self, f: &mut fmt::Formatter) -> fmt::Result {
+        write!(f, "{} {}", self.slot, self.link)
+    }
+}
+
+impl fmt::Display for Call {
+    fn fmt(&self, f: &mut fmt::Formatter) -> fmt::Result {
+        match self {
+            Call::Fresh {
+                nodes,
+                memory_words,
+            } => write!(f, "fresh {nodes} {memory_words}"),
+            Call::Wire { one, other } => write!(f, "wire {one} {other}"),
+            Call::Set { slot, setting } => write!(f, "set {slot} {setting}"),
+            Call::Aim {
+                slot,
+                channel_end,
+                destination,
+                network,
+            } => write!(f, "aim {slot} {channel_end} {destination} {network}"),
+            Call::Output {
+                slot,
+                channel_end,
+                kind,
+                value,
+            } => write!(f, "output {slot} {channel_end} {kind} {value}"),
+            Call::Input {
+                slot,
+                channel_end,
+                kind,
+            } => write!(f, "input {slot} {channel_end} {kind}"),
+            Call::Step { slot, port } => write!(f, "step {slot} {port}"),
+        }
+    }
+}
+
+impl fmt::Display for Cause {
+    fn fmt(&self, f: &mut fmt::Formatter) -> fmt::Result {
+        f.write_str(match self {
+            Cause::Split => "split",
+            Cause::NoRoute => "noroute",
+        })
+    }
+}
+
+impl fmt::Display for Answer {
+    fn fmt(&self, f: &mut fmt::Formatter) -> fmt::Result {
+        match self {
+            Answer::No(no) => write!(f, "no {}", no.number()),
+            Answer::Done => f.write_str("done"),
+            Answer::Granted(credit) => write!(f, "granted {credit}"),
+            Answer::Token(value) => write!(f, "token {value}"),
+            Answer::Idle => f.write_str("idle"),
+            Answer::Waiting => f.write_str("waiting"),
+            Answer::Moved => f.write_str("moved"),
+            Answer::Opened(Opening::Link(link)) => write!(f, "opened link {link}"),
+            Answer::Opened(Opening::Channel) => f.write_str("opened channel"),
+            Answer::Opened(Opening::Control) => f.write_str("opened control"),
+            Answer::Refused(cause) => write!(f, "refused {cause}"),
+            Answer::Dropped(cause) => write!(f, "dropped {cause}"),
+            Answer::Malformed => f.write_str("malformed"),
+            Answer::Unheard => f.write_str("unheard"),
+        }
+    }
+}
+
+impl fmt::Display for Outcome {
+    fn fmt(&self, f: &mut fmt::Formatter) -> fmt::Result {
+        write!(f, "{} # {:016x}", self.answer, self.digest)
+    }
+}
+
+impl fmt::Display for Fault {
+    fn fmt(&self, f: &mut fmt::Formatter) -> fmt::Result {
+        match self {
+            Fault::Unreadable { line, expected } => write!(f, "line {line}: {expected}"),
+            Fault::Differs {
+                line,
+                call,
+                stated,
+                found,
+            } => write!(f, "line {line}: {call} gives {found}, stated is {stated}"),
+        }
+    }
+}

@@ -1,0 +1,78 @@
+//! Calls without much sense: arguments out of range, tokens out of place.
+
+use super::{Runner, TALKERS};
+use crate::calls::Call;
+use crate::network::{memory_words, LinkEnd, CHANNEL_ENDS, LINKS, PORTS, REPLY_PORT};
+use crate::tokens::Destination;
+
+impl Runner {
+    pub(super) fn wire(&mut self) -> Call {
+        let one = self.link_end();
+        let another = self.link_end();
+        let same = self.random.chance(10);
+        let other = if same { one } else { another };
+        Call::Wire { one, other }
+    }
+
+    fn link_end(&mut self) -> LinkEnd {
+        let slot = self.any_slot();
+        let link = self.below_or_beyond(LINKS);
+        LinkEnd { slot, link }
+    }
+
+    pub(super) fn odd_output(&mut self) -> Call {
+        let few = self.random.chance(80);
+        let talkers = if few { TALKERS } else { CHANNEL_ENDS };
+        Call::Output {
+            slot: self.any_slot(),
+            channel_end: self.below_or_beyond(talkers),
+            kind: self.kind(),
+            value: self.random.byte(),
+        }
+    }
+
+    pub(super) fn odd_aim(&mut self) -> Call {
+        let number = self.value_below_or_beyond(0x1_0000);
+        let channels = [0, 31, 32, 254, 255, 256, usize::MAX];
+        let channel = self.random.pick(&channels).unwrap_or(0);
+        let to_channel = self.random.chance(70);
+        Call::Aim {
+            slot: self.any_slot(),
+            channel_end: self.below_or_beyond(TALKERS),
+            destination: if to_channel {
+                Destination::Channel { number, channel }
+            } else {
+                Destination::Control { number }
+            },
+            network: self.value_below_or_beyond(4),
+        }
+    }
+
+    pub(super) fn odd_step(&mut self) -> Call {
+        let reply = self.random.chance(20);
+        let slot = self.any_slot();
+        let any_port = self.below_or_beyond(PORTS);
+        let port = if reply { REPLY_PORT } else { any_port };
+        Call::Step { slot, port }
+    }
+
+    pub(super) fn odd_input(&mut self) -> Call {
+        Call::Input {
+            slot: self.any_slot(),
+            channel_end: self.below_or_beyond(CHANNEL_ENDS),
+            kind: self.kind(),
+        }
+    }
+
+    /// A Fresh that is refused: no such count, or another memory.
+    pub(super) fn odd_fresh(&mut self) -> Call {
+        let counts = [0, 1, 5, 16, 17, usize::MAX];
+        let nodes = self.random.pick(&counts).unwrap_or(0);
+        let right = memory_words(nodes).unwrap_or(usize::MAX);
+        let lengths = [0, 1, right - right.min(1), right.saturating_add(1)];
+        Call::Fresh {
+            nodes,
+            memory_words: self.random.pick(&lengths).unwrap_or(0),
+        }
+    }
+}

@@ -1,0 +1,41 @@
+//! Sound: credits, greetings and cables.
+
+use crate::network::{Link, LinkEnd, Network, MOST_CREDIT};
+
+/// "credit only where greeted"
+pub(super) fn credit_only_where_greeted(network: &Network) -> bool {
+    all_links(network, |_, link| link.credit == 0 || link.greeted)
+}
+
+/// "greeted only where wired with both ends enabled"
+pub(super) fn greeted_only_where_wired(network: &Network) -> bool {
+    all_links(network, |_, link| {
+        !link.greeted || (link.enabled && far_link(network, link).is_some_and(|far| far.enabled))
+    })
+}
+
+/// "credit plus tokens held at the far end at most 64"
+pub(super) fn credit_and_held_at_most_64(network: &Network) -> bool {
+    all_links(network, |_, link| {
+        let held = link.far.map_or(0, |far| network.held_at(far));
+        link.credit + held <= MOST_CREDIT
+    })
+}
+
+/// "cables agree at both ends", and no end is its own far end.
+pub(super) fn cables_agree(network: &Network) -> bool {
+    all_links(network, |end, link| {
+        link.far != Some(end) && far_link(network, link).is_none_or(|far| far.far == Some(end))
+    })
+}
+
+fn far_link<'a>(network: &'a Network, link: &Link) -> Option<&'a Link> {
+    network.link(link.far?).ok()
+}
+
+fn all_links(network: &Network, holds: impl Fn(LinkEnd, &Link) -> bool) -> bool {
+    (0..).zip(&network.nodes).all(|(slot, node)| {
+        let mut links = (0..).zip(&node.links);
+        links.all(|(link, state)| holds(LinkEnd { slot, link }, state))
+    })
+}

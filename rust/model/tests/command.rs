@@ -1,0 +1,73 @@
+//! The command `model`: its output and its exit status.
+
+use std::path::PathBuf;
+use std::process::{Command, Output};
+
+fn model(words: &[&str]) -> Output {
+    let program = env!("CARGO_BIN_EXE_model");
+    Command::new(program)
+        .args(words)
+        .output()
+        .expect("an output")
+}
+
+fn file(name: &str, text: &str) -> PathBuf {
+    let path = PathBuf::from(env!("CARGO_TARGET_TMPDIR")).join(name);
+    std::fs::write(&path, text).expect("a file");
+    path
+}
+
+fn text(bytes: &[u8]) -> String {
+    String::from_utf8_lossy(bytes).into_owned()
+}
+
+#[test]
+fn random_run_and_check() {
+    let random = model(&["random", "11", "200"]);
+    assert!(random.status.success());
+    let printed = text(&random.stdout);
+    assert_eq!(printed.lines().count(), 200);
+    assert!(printed.starts_with("fresh "));
+    let path = file("random.txt", &printed);
+    let path = path.to_str().expect("a path");
+    let checked = model(&["check", path]);
+    assert!(checked.status.success());
+    assert_eq!(text(&checked.stdout), "200 calls agree\n");
+    let run = model(&["run", path]);
+    assert!(run.status.success());
+    assert_eq!(text(&run.stdout), printed);
+}
+
+#[test]
+fn faults_end_with_status_one() {
+    let differs = file(
+        "differs.txt",
+        "fresh 1 832\nstep 0 0 -> moved # 0000000000000000\n",
+    );
+    let unreadable = file("unreadable.txt", "fresh 1 832\nstep 0\n");
+    let cases = [
+        (
+            &["check", differs.to_str().expect("a path")][..],
+            "line 2: step 0 0 gives idle",
+        ),
+        (
+            &["run", unreadable.to_str().expect("a path")],
+            "line 2: expected a port",
+        ),
+        (
+            &["check", unreadable.to_str().expect("a path")],
+            "line 2: expected a port",
+        ),
+        (&["run", "no-such-file"], "no-such-file: "),
+        (&["random", "x", "1"], "usage: model run FILE"),
+        (&["dance"], "usage: model run FILE"),
+        (&[], "usage: model run FILE"),
+    ];
+    for (words, expected) in cases {
+        let output = model(words);
+        assert_eq!(output.status.code(), Some(1), "{words:?}");
+        let complaint = text(&output.stderr);
+        assert!(complaint.contains(expected), "{complaint}");
+        assert!(output.stdout.is_empty());
+    }
+}
