@@ -6,6 +6,7 @@ use names::size::LINKS;
 use names::size::NODES;
 use names::size::PORTS;
 use names::size::TILE_LINKS;
+use ports::Counters;
 ghost use mathlib.Core.Path.{_≡_};
 ghost use Prim.Native.Nat.{_+_, _*_, _^_, _<_, _≤_};
 ghost use Rattle.cells.specs.World.{world, shaped};
@@ -13,6 +14,9 @@ ghost use Rattle.cells.specs.Layout.{stride, Within, begins, nodesIn, wo
 
 // The words of a node.
 pub const STRIDE: usize = 754;
+
+// The words of token memory of a node: its ports' stretches.
+pub const TOKEN_WORDS: usize = PORTS * Counters::CAPACITY as usize;
 
 // A kind of record: how many a node has, where among the node's words the first begins, and how many
 // words each has.
@@ -101,5 +105,5 @@ pub fn shaped(st: &[u32], mem: &[u16]) -> bool
     if n > NODES {
         return false;
     }
-    (1 <= n) & (mem.len() == n * (PORTS * 64))
+    (1 <= n) & (mem.len() == n * TOKEN_WORDS)
 }

@@ -7,6 +7,7 @@ use cells::node;
 use cells::port;
 use names::Slot;
 use names::size::LINKS;
+use ports::Counters;
 ghost use mathlib.Core.Path.{_≡_};
 ghost use Prim.Native.Nat.{_+_};
 ghost use lib.Dec.{leb};
@@ -76,7 +77,7 @@ pub fn greeted(st: &[u32], slot: Slot, l: usize) -> bool
 fn room_for(credit: u32, held: u32) -> bool
     ensures { λ r. ⌜ r ≡ leb (credit + held) capacity ⌝ }
 {
-    credit as u64 + held as u64 <= 64
+    credit as u64 + held as u64 <= Counters::CAPACITY as u64
 }
 
 // "credit plus tokens held at the far end at most 64"

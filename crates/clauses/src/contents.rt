@@ -1,12 +1,14 @@
 // What ports and channel-ends hold.
 use cells::end;
 use cells::end::End;
+use cells::layout::TOKEN_WORDS;
 use cells::port;
 use circuits::hop_of;
 use grammar::stage::Stage;
 use grammar::stage::is_bad;
 use names::Slot;
 use names::size::PORTS;
+use ports::Counters;
 use ports::stretch;
 ghost use mathlib.Core.Path.{_≡_};
 ghost use Prim.Native.Nat.{_<_};
@@ -20,8 +22,9 @@ fn ready(st: &[u32], mem: &[u16], slot: Slot, p: usize) -> bool
     ensures { λ r. ⌜ r ≡ ready (world (now (st .entry)) (now (mem .entry))) (slot .0) p ⌝ }
 {
     let k = port::at(st, slot, p);
-    (slot.0 < mem.len() / (PORTS * 64))
-        & ((p < PORTS) & ((k.counters.head < 64) & (k.counters.held <= 64)))
+    (slot.0 < mem.len() / TOKEN_WORDS)
+        & ((p < PORTS)
+            & ((k.counters.head < Counters::CAPACITY) & (k.counters.held <= Counters::CAPACITY)))
 }
 
 // Where a port's circuit stands before its first token.

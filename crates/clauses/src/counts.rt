@@ -5,8 +5,19 @@ use cells::node::Node;
 use cells::port::Port;
 use cells::tile::Tile;
 use cells::unit::Unit;
+use names::size::END_BUFFER;
+use names::size::ENDS;
+use names::size::LINKS;
+use names::size::REPLY_PORT;
+use names::size::SINK;
+use ports::Counters;
 ghost use mathlib.Core.Path.{_≡_};
 ghost use Rattle.clauses.specs.Counts.{nodeCounts, linkCounts, portNetwork, portCounts, tileCounts, endCounts, unitCounts, aimCounts};
+
+// Channels 0..31, and what one holds, beside words of 32 bits.
+const CHANNELS: u32 = ENDS as u32;
+
+const BUFFER: u32 = END_BUFFER as u32;
 
 pub fn node_counts(k: Node) -> bool
     ensures { λ r. ⌜ r ≡ nodeCounts k ⌝ }
@@ -20,22 +31,25 @@ pub fn link_counts(k: Link) -> bool
     (k.wired <= 1)
         & ((k.enabled <= 1)
             & ((k.direction < 16)
-                & ((k.network < 4) & ((k.greeted <= 1) & ((k.credit <= 64) & (k.user.kind <= 1))))))
+                & ((k.network < 4)
+                    & ((k.greeted <= 1)
+                        & ((k.credit <= Counters::CAPACITY) & (k.user.kind <= 1))))))
 }
 
 fn port_network(k: Port, p: usize) -> bool
     ensures { λ r. ⌜ r ≡ portNetwork p k ⌝ }
 {
     let free = (k.circuit.kind == 0) & (k.counters.held == 0);
-    (!((8 <= p) & (p < 12)) | free) | (k.network < 4)
+    (!((LINKS <= p) & (p < REPLY_PORT)) | free) | (k.network < 4)
 }
 
 pub fn port_counts(k: Port, p: usize) -> bool
     ensures { λ r. ⌜ r ≡ portCounts p k ⌝ }
 {
     let sender = (k.sender.kind == 0) | (k.sender.kind == 2);
-    (k.counters.head < 64)
-        & ((k.counters.held <= 64) & ((k.circuit.kind <= 5) & (port_network(k, p) & sender)))
+    (k.counters.head < Counters::CAPACITY)
+        & ((k.counters.held <= Counters::CAPACITY)
+            & ((k.circuit.kind <= 5) & (port_network(k, p) & sender)))
 }
 
 pub fn tile_counts(k: Tile) -> bool
@@ -50,13 +64,13 @@ fn aim_counts(k: End) -> bool
     (k.aim == 0)
         | ((k.number < 65536)
             & ((k.network < 4)
-                & ((k.aim == 2) | ((k.aim == 1) & ((k.channel < 32) | (k.channel == 255))))))
+                & ((k.aim == 2) | ((k.aim == 1) & ((k.channel < CHANNELS) | (k.channel == SINK))))))
 }
 
 pub fn end_counts(k: End) -> bool
     ensures { λ r. ⌜ r ≡ endCounts k ⌝ }
 {
-    aim_counts(k) & ((k.sending.kind <= 2) & ((k.claim.kind <= 2) & (k.held <= 8)))
+    aim_counts(k) & ((k.sending.kind <= 2) & ((k.claim.kind <= 2) & (k.held <= BUFFER)))
 }
 
 pub fn unit_counts(k: Unit) -> bool

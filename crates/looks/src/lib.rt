@@ -3,6 +3,7 @@
 // (`node::count`, `node::at`, `link::at`, `port::at`, `tile::at`, `end::at`, `unit::at`), and whether the
 // network is quiet by crate sound (`is_quiet`).
 use cells::end;
+use cells::layout::TOKEN_WORDS;
 use cells::node;
 use cells::port;
 use names::Slot;
@@ -48,7 +49,7 @@ pub fn port_token(st: &[u32], mem: &[u16], slot: Slot, p: usize, i: u32) -> Seen
     ensures { λ r. ⌜ r ≡ portToken (world (now (st .entry)) (now (mem .entry))) (slot .0) p i ⌝ }
 {
     let k = port::at(st, slot, p);
-    if slot.0 >= mem.len() / (PORTS * 64) {
+    if slot.0 >= mem.len() / TOKEN_WORDS {
         return Seen::Nothing;
     }
     if p >= PORTS {

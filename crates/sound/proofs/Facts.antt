@@ -8,7 +8,7 @@ use lib.Dec.{lit≤}
 use lib.ListN.{length}
 use borrow.Author.Tests.{lt-ltb, le-leb, not-true}
 use Rattle.laws.proofs.All.{also, as-is, at-most, equal}
-use Rattle.names.specs.Size.{nodes, links, ports, ends, replyPort}
+use Rattle.names.specs.Size.{nodes, links, ports, tileLinks, ends, replyPort}
 use Rattle.names.specs.declared.Slot.{Slot}
 use Rattle.ports.specs.Queue.{capacity, Fair}
 use Rattle.ports.specs.Memory.{place}
@@ -16,8 +16,8 @@ use Rattle.grammar.specs.Stage.{isBad}
 use Rattle.grammar.specs.Walk.{backOf}
 use Rattle.cells.specs.World.{World, shaped, isEmpty, farOf, hop, queue}
 use Rattle.cells.specs.declared.link.Far.the-variants.{At}
-use Rattle.clauses.specs.Contents.{ready}
-use Rattle.clauses.specs.Pairs.{namedBy, backward, players}
+use Rattle.clauses.specs.Contents.{ready, heldTokens}
+use Rattle.clauses.specs.Pairs.{namedBy, backward, players, openEnd}
 use Rattle.clauses.specs.declared.pairs.Named.the-variants.{One}
 use Rattle.clauses.specs.declared.pairs.Role.{Role}
 use Rattle.clauses.specs.declared.pairs.Role.the-variants.{PortLink, LinkPort, PortTile, TilePort, PortUnit, UnitPort, PortClaim, ClaimPort, EndClaim, ClaimEnd, EndPort, PortEnd}
@@ -47,6 +47,9 @@ module _ (w : World) (s : sound w ≡ true) where
 
     pub port-facts : (p : ℕ) → p < ports → PortFacts p (w .net .ports n p)
     port-facts p h = port-counts p (w .net .ports n p) .sure (sound-at w s 2 n p (lit≤ tt) hn h)
+
+    pub tile-facts : (t : ℕ) → t < tileLinks → w .net .tiles n t .user .kind ≤ 1
+    tile-facts t h = at-most (w .net .tiles n t .user .kind) 1 .sure (sound-at w s 3 n t (lit≤ tt) hn h)
 
     pub end-facts : (c : ℕ) → c < ends → EndFacts (w .net .ends n c)
     end-facts c h = end-counts (w .net .ends n c) .sure (sound-at w s 4 n c (lit≤ tt) hn h)
@@ -82,6 +85,14 @@ module _ (w : World) (s : sound w ≡ true) where
 
     pub contents-facts : (p : ℕ) → p < ports → isBad (backOf (hop (w .net) n p) (queue w n p)) ≡ false
     contents-facts p h = not-true _ (rw (is-ready p h) at (sound-at w s 10 n p (lit≤ tt) hn h))
+
+    -- every token that a channel-end holds is legal there
+    pub held-facts : (c : ℕ) → c < ends → heldTokens (w .net) n c ≡ true
+    held-facts c h = sound-at w s 11 n c (lit≤ tt) hn h
+
+    -- an open channel-end is aimed, and goes by a port that is taken, or straight to a channel
+    pub open-facts : (c : ℕ) → c < ends → openEnd (w .net) n c ≡ true
+    open-facts c h = sound-at w s 24 n c (lit≤ tt) hn h
 
     -- what a record names in a role names it back
     pub pair-facts : (r : Role) (i : ℕ) → i < players r → (j : ℕ) → namedBy r (w .net) n i ≡ One j

@@ -44,4 +44,4 @@ returns-3 c =
 pub shaped-spec : {M : Type 1} → statement M
 shaped-spec =
     tie.close
-    (tie.spec (λ c κs. search needs) returns returns-2 (λ c. search needs) (λ c. search needs) returns-3)
+    (tie.spec (λ c κs. search needs) returns returns-2 (λ c. search needs) returns-3)

@@ -7,4 +7,4 @@ returns : tie.Need-returns
 returns c = rw (c .before .before .before .at .ensures)
 
 pub ready-spec : {M : Type 1} → statement M
-ready-spec = tie.close (tie.spec (λ c κs. search needs) (λ c. search needs) (λ c. search needs) returns)
+ready-spec = tie.close (tie.spec (λ c κs. search needs) returns)
