@@ -22,16 +22,12 @@ use Rattle.clauses.specs.declared.pairs.Role.the-variants.{PortLink, LinkPort, 
 use Rattle.sound.specs.Tests.{holdsAt, places, everywhere}
 use Rattle.sound.specs.Sound.{many, soundTests, soundTest, sound, ties, tie, tight, quiet}
 use Rattle.sound.specs.declared.tests.Test.{Test}
+use Rattle.sound.proofs.Sounds.{at-places, sound-from}
 use Rattle.sound.specs.declared.tests.Test.the-variants.{Nodes, Links, Ports, Tiles, Ends, Units, Credited, Greeted, Room, Cable, Contents, Held, Agrees, OpenEnd, Silent, Fed, Unfed, Idle, Sends, Replied, QuietPort, QuietEnd}
 
 or-true : (b : Bool) → (b || true) ≡ true
 or-true true = refl
 or-true false = refl
-
-from-places : (t : Test) (w : World) → ((m i : ℕ) → m < w .net .nodes → i < places t → holdsAt t w m i ≡ true) → everywhere t w ≡ true
-unfolding everywhere
-from-places t w h =
-    each-place {P = λ m i. holdsAt t w m i ≡ true} (w .net .nodes) (places t) (holdsAt t w) (λ m i. as-is (holdsAt t w m i)) .back h
 
 module _ (n : ℕ) (some : 1 ≤ n) (few : n ≤ nodes) where
   memory-nodes : length (freshWorld n .memory) / (ports * capacity) ≡ n
@@ -44,7 +40,7 @@ module _ (n : ℕ) (some : 1 ≤ n) (few : n ≤ nodes) where
 
   -- a test that the all-zero records pass
   passes : (t : Test) → ((m i : ℕ) → m < n → i < places t → holdsAt t (freshWorld n) m i ≡ true) → everywhere t (freshWorld n) ≡ true
-  passes t h = from-places t (freshWorld n) h
+  passes t h = at-places t (freshWorld n) .back h
 
   -- a port that is free has no network to look at
   zero-port : (i : ℕ) → portCounts i (toPort []) ≡ true
@@ -63,11 +59,7 @@ module _ (n : ℕ) (some : 1 ≤ n) (few : n ≤ nodes) where
       rw (le-leb 1 n some, le-leb n nodes few, eq-eqb (length (freshWorld n .memory)) (n * (ports * capacity)) (length-replicate (n * (ports * capacity)) 0))
 
   pub fresh-sound : sound (freshWorld n) ≡ true
-  unfolding sound
-  fresh-sound =
-      rw (fresh-shaped)
-      (each {P = λ k. everywhere (soundTest k) (freshWorld n) ≡ true} many (λ k. everywhere (soundTest k) (freshWorld n)) (λ k. as-is _) .back
-      (λ k h. each-at (λ t. everywhere t (freshWorld n) ≡ true) soundTests Silent listed k h))
+  fresh-sound = sound-from (freshWorld n) fresh-shaped listed
 
   pub fresh-tight : tight (freshWorld n) ≡ true
   unfolding tight

@@ -1,4 +1,5 @@
 -- Laws of Sound.
 pub mod Sounds
+pub mod OnePass
 pub mod Facts
 pub mod Fresh

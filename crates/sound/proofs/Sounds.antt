@@ -5,12 +5,14 @@ use mathlib.Core.Path.{_≡_, refl, sym, ap, _∙_}
 use native.Mathlib.Omega.{arith}
 use lib.Dec.{eqb}
 use borrow.Author.Tests.{eq-eqb, not-true}
-use Rattle.laws.specs.All.{all, every, failing}
-use Rattle.laws.proofs.All.{each, each-place, both, as-is, all-miss, Sought, fails, passes, seek}
+use Rattle.laws.specs.All.{all, every, failing, Means, Each}
+use Rattle.laws.proofs.All.{each, each-place, each-at, both, as-is, all-miss, Sought, fails, passes, seek}
 use Rattle.laws.proofs.Order.{by-test}
 use Rattle.cells.specs.World.{World, shaped}
 use Rattle.sound.specs.Tests.{holdsAt, places, everywhere}
-use Rattle.sound.specs.Sound.{many, soundTest, clauseOf, unsoundClause, sound}
+use Rattle.sound.specs.declared.tests.Test.{Test}
+use Rattle.sound.specs.declared.tests.Test.the-variants.{Silent}
+use Rattle.sound.specs.Sound.{many, soundTests, soundTest, clauseOf, unsoundClause, sound}
 
 -- every test belongs to a clause
 known : (k : ℕ) → k < many → eqb (clauseOf k) 0 ≡ false
@@ -38,10 +40,23 @@ pub sound-shaped : (w : World) → sound w ≡ true → shaped w ≡ true
 unfolding sound
 sound-shaped w e = both (shaped w) (all many (λ k. everywhere (soundTest k) w)) (as-is _) (as-is _) .sure e .0
 
+-- a test everywhere is that test at every place
+pub at-places : (t : Test) (w : World) → Means (everywhere t w) ((n i : ℕ) → n < w .net .nodes → i < places t → holdsAt t w n i ≡ true)
+unfolding everywhere
+at-places t w = each-place {P = λ n i. holdsAt t w n i ≡ true} (w .net .nodes) (places t) (holdsAt t w) (λ n i. as-is (holdsAt t w n i))
+
 pub sound-at : (w : World) → sound w ≡ true → (k n i : ℕ) → k < many → n < w .net .nodes → i < places (soundTest k) → holdsAt (soundTest k) w n i ≡ true
-unfolding sound everywhere
+unfolding sound
 sound-at w e k n i hk hn hi =
-    let t = soundTest k in
     let s = both (shaped w) (all many (λ j. everywhere (soundTest j) w)) (as-is _) (as-is _) .sure e .1 in
     let f = each {P = λ j. everywhere (soundTest j) w ≡ true} many (λ j. everywhere (soundTest j) w) (λ j. as-is _) .sure s k hk in
-    each-place {P = λ m j. holdsAt t w m j ≡ true} (w .net .nodes) (places t) (holdsAt t w) (λ m j. as-is (holdsAt t w m j)) .sure f n i hn hi
+    at-places (soundTest k) w .sure f n i hn hi
+
+-- A state of the right lengths that passes the list is sound
+
+pub sound-from : (w : World) → shaped w ≡ true → Each (λ t. everywhere t w ≡ true) soundTests → sound w ≡ true
+unfolding sound
+sound-from w h l =
+    rw (h)
+    (each {P = λ k. everywhere (soundTest k) w ≡ true} many (λ k. everywhere (soundTest k) w) (λ k. as-is _) .back
+    (λ k g. each-at (λ t. everywhere t w ≡ true) soundTests Silent l k g))

@@ -1,3 +1,4 @@
 -- Sound, tight and quiet.
+pub mod Passes
 pub mod Tests
 pub mod Sound

@@ -11,8 +11,9 @@ use Rattle.clauses.specs.Cables.{cable, credited, greeted, room}
 use Rattle.clauses.specs.Contents.{contents, heldTokens}
 use Rattle.clauses.specs.Pairs.{agrees, players, openEnd, silent}
 use Rattle.clauses.specs.Ties.{fed, unfed, idle, sends, replied}
+use Rattle.sound.specs.Passes.{ofNode, ofLink, ofPort, ofTile, ofEnd}
 use Rattle.sound.specs.declared.tests.Test.{Test}
-use Rattle.sound.specs.declared.tests.Test.the-variants.{Nodes, Links, Ports, Tiles, Ends, Units, Credited, Greeted, Room, Cable, Contents, Held, Agrees, OpenEnd, Silent, Fed, Unfed, Idle, Sends, Replied, QuietPort, QuietEnd}
+use Rattle.sound.specs.declared.tests.Test.the-variants.{Nodes, Links, Ports, Tiles, Ends, Units, Credited, Greeted, Room, Cable, Contents, Held, Agrees, OpenEnd, Silent, Fed, Unfed, Idle, Sends, Replied, QuietPort, QuietEnd, OfNode, OfLink, OfPort, OfTile, OfEnd}
 
 -- "no token, no claim, no open circuit anywhere"
 abbrev pub quietPort : Net → ℕ → ℕ → Bool
@@ -45,6 +46,11 @@ holdsAt Sends w n i = sends w n i
 holdsAt Replied w n i = replied w n 0
 holdsAt QuietPort w n i = quietPort (w .net) n i
 holdsAt QuietEnd w n i = quietEnd (w .net) n i
+holdsAt OfNode w n i = ofNode (w .net) n i
+holdsAt OfLink w n i = ofLink (w .net) n i
+holdsAt OfPort w n i = ofPort w n i
+holdsAt OfTile w n i = ofTile (w .net) n i
+holdsAt OfEnd w n i = ofEnd (w .net) n i
 
 -- how many places of a node it is made at
 abbrev pub places : Test → ℕ
@@ -70,6 +76,11 @@ places Sends = ends
 places Replied = 1
 places QuietPort = ports
 places QuietEnd = ends
+places OfNode = 1
+places OfLink = links
+places OfPort = ports
+places OfTile = tileLinks
+places OfEnd = ends
 
 -- the test at every place of every node
 unfoldable pub everywhere : Test → World → Bool

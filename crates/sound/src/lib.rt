@@ -1,4 +1,5 @@
 // Sound, tight and quiet: tests over the whole state and token memory, for any words at all.
+pub mod passes;
 pub mod tests;
 
 use crate::tests::Test;
@@ -144,11 +145,16 @@ pub fn unsound_clause(st: &[u32], mem: &[u16]) -> u32
     0
 }
 
-// The Sound list of document 01 holds, and both lengths are right.
+// The Sound list of document 01 holds, and both lengths are right: one pass over each table.
 pub fn is_sound(st: &[u32], mem: &[u16]) -> bool
     ensures { λ r. ⌜ r ≡ sound (world (now (st .entry)) (now (mem .entry))) ⌝ }
 {
-    unsound_clause(st, mem) == 0
+    if !shaped(st, mem) {
+        return false;
+    }
+    let outside = everywhere(st, mem, Test::OfNode) & everywhere(st, mem, Test::OfLink);
+    let inside = everywhere(st, mem, Test::OfTile) & everywhere(st, mem, Test::OfEnd);
+    outside & (everywhere(st, mem, Test::OfPort) & inside)
 }
 
 fn tie_test(k: u32) -> Test

@@ -1,4 +1,9 @@
 // The tests of the state, place by place: the Sound list, the ties, and quiet.
+use crate::passes::of_end;
+use crate::passes::of_link;
+use crate::passes::of_node;
+use crate::passes::of_port;
+use crate::passes::of_tile;
 use cells::end;
 use cells::link;
 use cells::node;
@@ -79,6 +84,12 @@ pub enum Test {
     QuietPort,
     // no token, no claim and no open circuit at a channel-end
     QuietEnd,
+    // all that the Sound list asks of a node, link, port, tile link and channel-end
+    OfNode,
+    OfLink,
+    OfPort,
+    OfTile,
+    OfEnd,
 }
 
 fn quiet_port(st: &[u32], slot: Slot, p: usize) -> bool
@@ -122,6 +133,11 @@ fn holds_at(st: &[u32], mem: &[u16], t: Test, slot: Slot, i: usize) -> bool
         Test::Replied => replied(st, mem, slot),
         Test::QuietPort => quiet_port(st, slot, i),
         Test::QuietEnd => quiet_end(st, slot, i),
+        Test::OfNode => of_node(st, slot, i),
+        Test::OfLink => of_link(st, slot, i),
+        Test::OfPort => of_port(st, mem, slot, i),
+        Test::OfTile => of_tile(st, slot, i),
+        Test::OfEnd => of_end(st, slot, i),
     }
 }
 
@@ -152,6 +168,11 @@ fn places(t: Test) -> usize
         Test::Replied => 1,
         Test::QuietPort => PORTS,
         Test::QuietEnd => ENDS,
+        Test::OfNode => 1,
+        Test::OfLink => LINKS,
+        Test::OfPort => PORTS,
+        Test::OfTile => TILE_LINKS,
+        Test::OfEnd => ENDS,
     }
 }
 

@@ -69,6 +69,21 @@ returns-21 c = rw (c .before .enum-told20 .given .1, c .quiet-port .ensures)
 returns-22 : tie.Need-returns-22
 returns-22 c = rw (c .before .enum-told21 .given .1, c .quiet-end .ensures)
 
+returns-23 : tie.Need-returns-23
+returns-23 c = rw (c .before .enum-told22 .given .1, c .of-node .ensures)
+
+returns-24 : tie.Need-returns-24
+returns-24 c = rw (c .before .enum-told23 .given .1, c .of-link .ensures)
+
+returns-25 : tie.Need-returns-25
+returns-25 c = rw (c .before .enum-told24 .given .1, c .of-port .ensures)
+
+returns-26 : tie.Need-returns-26
+returns-26 c = rw (c .before .enum-told25 .given .1, c .of-tile .ensures)
+
+returns-27 : tie.Need-returns-27
+returns-27 c = rw (c .before .enum-told26 .given .1, c .of-end .ensures)
+
 pub holds-at-spec : {M : Type 1} → statement M
 holds-at-spec =
     tie.close
@@ -123,6 +138,16 @@ holds-at-spec =
     (λ c κs. search needs)
     (λ c. search needs)
     (λ c κs. search needs)
+    (λ c. search needs)
+    (λ c κs. search needs)
+    (λ c. search needs)
+    (λ c κs. search needs)
+    (λ c. search needs)
+    (λ c κs. search needs)
+    (λ c. search needs)
+    (λ c κs. search needs)
+    (λ c. search needs)
+    (λ c κs. search needs)
     returns
     returns-2
     returns-3
@@ -144,4 +169,9 @@ holds-at-spec =
     returns-19
     returns-20
     returns-21
-    returns-22)
+    returns-22
+    returns-23
+    returns-24
+    returns-25
+    returns-26
+    returns-27)

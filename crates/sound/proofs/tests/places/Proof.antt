@@ -69,6 +69,21 @@ returns-21 c = rw (c .enum-told20 .given .1)
 returns-22 : tie.Need-returns-22
 returns-22 c = rw (c .enum-told21 .given .1)
 
+returns-23 : tie.Need-returns-23
+returns-23 c = rw (c .enum-told22 .given .1)
+
+returns-24 : tie.Need-returns-24
+returns-24 c = rw (c .enum-told23 .given .1)
+
+returns-25 : tie.Need-returns-25
+returns-25 c = rw (c .enum-told24 .given .1)
+
+returns-26 : tie.Need-returns-26
+returns-26 c = rw (c .enum-told25 .given .1)
+
+returns-27 : tie.Need-returns-27
+returns-27 c = rw (c .enum-told26 .given .1)
+
 pub places-spec : {M : Type 1} → statement M
 places-spec =
     tie.close
@@ -87,6 +102,11 @@ places-spec =
     (λ c. search needs)
     (λ c. search needs)
     (λ c κs. search needs)
+    (λ c. search needs)
+    (λ c. search needs)
+    (λ c. search needs)
+    (λ c. search needs)
+    (λ c. search needs)
     (λ c. search needs)
     (λ c. search needs)
     (λ c. search needs)
@@ -117,4 +137,9 @@ places-spec =
     returns-19
     returns-20
     returns-21
-    returns-22)
+    returns-22
+    returns-23
+    returns-24
+    returns-25
+    returns-26
+    returns-27)
