@@ -7,7 +7,7 @@ use mathlib.Core.Path.{_≡_, refl, sym, ap, _∙_, subst}
 use Rattle.laws.specs.All.{Means}
 use Rattle.laws.proofs.All.{also, either, denied, as-is, same-as, below, at-most, equal}
 use Rattle.laws.proofs.Order.{never, clash}
-use Rattle.names.specs.Size.{links, ends, endBuffer, replyPort}
+use Rattle.names.specs.Size.{links, endBuffer, replyPort}
 use Rattle.names.specs.declared.Slot.{Slot}
 use Rattle.ports.specs.Queue.{capacity}
 use Rattle.tokens.specs.Shape.{legalChannel}
@@ -21,7 +21,7 @@ use Rattle.cells.specs.declared.port.Port.{Port}
 use Rattle.cells.specs.declared.end.End.{End}
 use Rattle.cells.specs.declared.unit.Unit.{Unit}
 use Rattle.clauses.specs.Counts.{nodeCounts, linkCounts, tilePort, isFree, portCounts, aimCounts, endCounts, unitCounts}
-use Rattle.clauses.specs.Cables.{onFar, leadsTo, cable, credited, greeted, farEnabled, enabled, room}
+use Rattle.clauses.specs.Cables.{onFar, leadsTo, cable, credited, greeted, enabled, room}
 use Rattle.clauses.specs.Pairs.{namedBy, backward, players, isNamed, onNamed, agrees, silent}
 use Rattle.clauses.specs.declared.pairs.Named.{Named}
 use Rattle.clauses.specs.declared.pairs.Named.the-variants.{Nothing, One}

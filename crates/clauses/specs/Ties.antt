@@ -1,6 +1,6 @@
 -- Tight: the five ties that make soundness last. They are no part of the Sound list.
 use Prim.Native.Nat.{ℕ}
-use mathlib.Core.Bool.{Bool, true, false, _||_}
+use mathlib.Core.Bool.{Bool, true, _||_}
 use lib.Dec.{eqb}
 use Rattle.names.specs.Size.{replyPort}
 use Rattle.circuits.specs.Circuit.{peerOf}

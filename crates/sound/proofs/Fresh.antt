@@ -9,8 +9,7 @@ use lib.Dec.{lit≤}
 use lib.ListN.{length, replicate, length-replicate}
 use borrow.Author.Tests.{lt-ltb, le-leb, eq-eqb}
 use Rattle.laws.specs.All.{all, every, Each}
-use Rattle.laws.proofs.All.{each, each-place, each-at, as-is}
-use Rattle.names.specs.Size.{nodes, links, ports, replyPort}
+use Rattle.names.specs.Size.{nodes, ports, replyPort}
 use Rattle.ports.specs.Queue.{capacity, ring}
 use Rattle.grammar.specs.declared.stage.Stage.the-variants.{Fresh}
 use Rattle.cells.specs.World.{World, shaped}
@@ -20,10 +19,10 @@ use Rattle.clauses.specs.Counts.{portCounts, tilePort}
 use Rattle.clauses.specs.Contents.{back}
 use Rattle.clauses.specs.declared.pairs.Role.the-variants.{PortLink, LinkPort, PortTile, TilePort, PortUnit, UnitPort, PortClaim, ClaimPort, EndClaim, ClaimEnd, EndPort, PortEnd}
 use Rattle.sound.specs.Tests.{holdsAt, places, everywhere}
-use Rattle.sound.specs.Sound.{many, soundTests, soundTest, sound, ties, tie, tight, quiet}
+use Rattle.sound.specs.Sound.{soundTests, soundTest, sound, tight, quiet}
 use Rattle.sound.specs.declared.tests.Test.{Test}
 use Rattle.sound.proofs.Sounds.{at-places, sound-from}
-use Rattle.sound.specs.declared.tests.Test.the-variants.{Nodes, Links, Ports, Tiles, Ends, Units, Credited, Greeted, Room, Cable, Contents, Held, Agrees, OpenEnd, Silent, Fed, Unfed, Idle, Sends, Replied, QuietPort, QuietEnd}
+use Rattle.sound.specs.declared.tests.Test.the-variants.{Nodes, Links, Ports, Tiles, Ends, Units, Credited, Greeted, Room, Cable, Contents, Held, Agrees, OpenEnd, Silent, Tied, Sends, Replied, QuietPort, QuietEnd}
 
 or-true : (b : Bool) → (b || true) ≡ true
 or-true true = refl
@@ -50,9 +49,6 @@ module _ (n : ℕ) (some : 1 ≤ n) (few : n ≤ nodes) where
   listed =
       (passes Nodes (λ m i h g. rw (lt-ltb m n h)), (passes Links (λ m i h g. refl), (passes Ports (λ m i h g. zero-port i), (passes Tiles (λ m i h g. refl), (passes Ends (λ m i h g. refl), (passes Units (λ m i h g. refl), (passes Credited (λ m i h g. refl), (passes Greeted (λ m i h g. refl), (passes Room (λ m i h g. refl), (passes Cable (λ m i h g. refl), (passes Contents (λ m i h g. rw (empty-back m i h g)), (passes Held (λ m i h g. refl), (passes (Agrees PortLink) (λ m i h g. refl), (passes (Agrees LinkPort) (λ m i h g. refl), (passes (Agrees PortTile) (λ m i h g. refl), (passes (Agrees TilePort) (λ m i h g. refl), (passes (Agrees PortUnit) (λ m i h g. refl), (passes (Agrees UnitPort) (λ m i h g. refl), (passes (Agrees PortClaim) (λ m i h g. refl), (passes (Agrees ClaimPort) (λ m i h g. refl), (passes (Agrees EndClaim) (λ m i h g. refl), (passes (Agrees ClaimEnd) (λ m i h g. refl), (passes (Agrees EndPort) (λ m i h g. refl), (passes (Agrees PortEnd) (λ m i h g. refl), (passes OpenEnd (λ m i h g. refl), (passes Silent (λ m i h g. refl), tt))))))))))))))))))))))))))
 
-  tied : Each (λ t. everywhere t (freshWorld n) ≡ true) ties
-  tied = (passes Fed (λ m i h g. refl), (passes Unfed (λ m i h g. rw (empty-back m i h (omega arith))), (passes Idle (λ m i h g. refl), (passes Sends (λ m i h g. refl), (passes Replied (λ m i h g. rw (empty-back m replyPort h (lit≤ tt))), tt)))))
-
   pub fresh-shaped : shaped (freshWorld n) ≡ true
   unfolding shaped
   fresh-shaped =
@@ -64,8 +60,7 @@ module _ (n : ℕ) (some : 1 ≤ n) (few : n ≤ nodes) where
   pub fresh-tight : tight (freshWorld n) ≡ true
   unfolding tight
   fresh-tight =
-      each {P = λ k. everywhere (tie k) (freshWorld n) ≡ true} 5 (λ k. everywhere (tie k) (freshWorld n)) (λ k. as-is _) .back
-      (λ k h. each-at (λ t. everywhere t (freshWorld n) ≡ true) ties Replied tied k h)
+      rw (passes Tied (λ m i h g. rw (empty-back m i h (omega arith))), passes Sends (λ m i h g. refl), passes Replied (λ m i h g. rw (empty-back m replyPort h (lit≤ tt))))
 
   pub fresh-quiet : quiet (freshWorld n) ≡ true
   unfolding quiet

@@ -14,7 +14,7 @@ use Rattle.clauses.specs.Contents.{contents, heldTokens}
 use Rattle.clauses.specs.Pairs.{agrees, openEnd, silent}
 use Rattle.clauses.specs.declared.pairs.Role.the-variants.{PortLink, LinkPort, PortTile, TilePort, PortUnit, UnitPort, PortClaim, ClaimPort, EndClaim, ClaimEnd, EndPort, PortEnd}
 use Rattle.sound.specs.Passes.{ofNode, ofLink, portPairs, ofPort, ofTile, endPairs, ofEnd}
-use Rattle.sound.specs.Tests.{holdsAt, places, everywhere}
+use Rattle.sound.specs.Tests.{places, everywhere}
 use Rattle.sound.specs.Sound.{soundTests, sound}
 use Rattle.sound.specs.declared.tests.Test.the-variants.{Nodes, Links, Ports, Tiles, Ends, Units, Credited, Greeted, Room, Cable, Contents, Held, Agrees, OpenEnd, Silent, OfNode, OfLink, OfPort, OfTile, OfEnd}
 use Rattle.sound.proofs.Sounds.{sound-shaped, sound-at, at-places, sound-from}

@@ -1,10 +1,10 @@
 -- No clause fails exactly where the state is sound, and a sound state passes every test at every place. Assumes nothing.
-use Prim.Native.Nat.{ℕ, _+_, _<_}
-use mathlib.Core.Bool.{Bool, true, false, not, _&&_}
+use Prim.Native.Nat.{ℕ, _<_}
+use mathlib.Core.Bool.{Bool, true, false, not}
 use mathlib.Core.Path.{_≡_, refl, sym, ap, _∙_}
 use native.Mathlib.Omega.{arith}
 use lib.Dec.{eqb}
-use borrow.Author.Tests.{eq-eqb, not-true}
+use borrow.Author.Tests.{not-true}
 use Rattle.laws.specs.All.{all, every, failing, Means, Each}
 use Rattle.laws.proofs.All.{each, each-place, each-at, both, as-is, all-miss, Sought, fails, passes, seek}
 use Rattle.laws.proofs.Order.{by-test}

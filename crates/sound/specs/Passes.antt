@@ -1,4 +1,4 @@
--- All that the Sound list asks at one place of one table, so that one pass over each table is enough to know whether it holds.
+-- All that the Sound list, and the ties, ask at one place of one table, so that one pass over each table is enough to know whether it holds.
 use Prim.Native.Nat.{ℕ}
 use mathlib.Core.Bool.{Bool, _&&_}
 use Rattle.cells.specs.View.{Net}
@@ -7,6 +7,7 @@ use Rattle.clauses.specs.Counts.{nodeCounts, linkCounts, portCounts, tileCounts
 use Rattle.clauses.specs.Cables.{cable, credited, greeted, room}
 use Rattle.clauses.specs.Contents.{contents, heldTokens}
 use Rattle.clauses.specs.Pairs.{agrees, openEnd, silent}
+use Rattle.clauses.specs.Ties.{fed, unfed, idle}
 use Rattle.clauses.specs.declared.pairs.Role.the-variants.{PortLink, LinkPort, PortTile, TilePort, PortUnit, UnitPort, PortClaim, ClaimPort, EndClaim, ClaimEnd, EndPort, PortEnd}
 
 -- of a node, with its control unit
@@ -36,3 +37,7 @@ endPairs s n c = agrees ClaimPort s n c && (agrees EndClaim s n c && (agrees Cla
 
 abbrev pub ofEnd : Net → ℕ → ℕ → Bool
 ofEnd s n c = endCounts (s .ends n c) && (heldTokens s n c && (endPairs s n c && openEnd s n c))
+
+-- all that the ties ask of a link
+abbrev pub tied : World → ℕ → ℕ → Bool
+tied w n l = fed w n l && (unfed w n l && idle (w .net) n l)

@@ -9,7 +9,7 @@ use Rattle.cells.specs.World.{World, shaped}
 use Rattle.clauses.specs.declared.pairs.Role.the-variants.{PortLink, LinkPort, PortTile, TilePort, PortUnit, UnitPort, PortClaim, ClaimPort, EndClaim, ClaimEnd, EndPort, PortEnd}
 use Rattle.sound.specs.Tests.{everywhere}
 use Rattle.sound.specs.declared.tests.Test.{Test}
-use Rattle.sound.specs.declared.tests.Test.the-variants.{Nodes, Links, Ports, Tiles, Ends, Units, Credited, Greeted, Room, Cable, Contents, Held, Agrees, OpenEnd, Silent, Fed, Unfed, Idle, Sends, Replied, QuietPort, QuietEnd}
+use Rattle.sound.specs.declared.tests.Test.the-variants.{Nodes, Links, Ports, Tiles, Ends, Units, Credited, Greeted, Room, Cable, Contents, Held, Agrees, OpenEnd, Silent, Tied, Sends, Replied, QuietPort, QuietEnd}
 
 -- the tests, and below them their clauses: 2 counts within their limits; 3 credit only where greeted; 4 greeted only where wired with both ends
 -- enabled; 5 credit plus tokens held at the far end at most 64; 6 cables agree at both ends; 7 what ports hold; 8 what channel-ends hold; 9 a
@@ -38,15 +38,9 @@ unsoundClause w = pick (shaped w) (clauseOf (failing many 0 (λ k. everywhere (s
 unfoldable pub sound : World → Bool
 sound w = shaped w && all many (λ k. everywhere (soundTest k) w)
 
--- Tight: the five ties, which make soundness last
-abbrev pub ties : List Test
-ties = Fed ∷ Unfed ∷ Idle ∷ Sends ∷ Replied ∷ []
-
-abbrev pub tie : ℕ → Test
-tie k = getD ties k Replied
-
+-- Tight: the five ties, which make soundness last: fed, unfed and idle at links, sends at channel-ends, replied at port 12
 unfoldable pub tight : World → Bool
-tight w = all 5 (λ k. everywhere (tie k) w)
+tight w = everywhere Tied w && (everywhere Sends w && everywhere Replied w)
 
 -- "no token, no claim, no open circuit anywhere"
 unfoldable pub quiet : World → Bool

@@ -10,10 +10,10 @@ use Rattle.clauses.specs.Counts.{nodeCounts, linkCounts, portCounts, tileCounts
 use Rattle.clauses.specs.Cables.{cable, credited, greeted, room}
 use Rattle.clauses.specs.Contents.{contents, heldTokens}
 use Rattle.clauses.specs.Pairs.{agrees, players, openEnd, silent}
-use Rattle.clauses.specs.Ties.{fed, unfed, idle, sends, replied}
-use Rattle.sound.specs.Passes.{ofNode, ofLink, ofPort, ofTile, ofEnd}
+use Rattle.clauses.specs.Ties.{sends, replied}
+use Rattle.sound.specs.Passes.{ofNode, ofLink, ofPort, ofTile, ofEnd, tied}
 use Rattle.sound.specs.declared.tests.Test.{Test}
-use Rattle.sound.specs.declared.tests.Test.the-variants.{Nodes, Links, Ports, Tiles, Ends, Units, Credited, Greeted, Room, Cable, Contents, Held, Agrees, OpenEnd, Silent, Fed, Unfed, Idle, Sends, Replied, QuietPort, QuietEnd, OfNode, OfLink, OfPort, OfTile, OfEnd}
+use Rattle.sound.specs.declared.tests.Test.the-variants.{Nodes, Links, Ports, Tiles, Ends, Units, Credited, Greeted, Room, Cable, Contents, Held, Agrees, OpenEnd, Silent, Tied, Sends, Replied, QuietPort, QuietEnd, OfNode, OfLink, OfPort, OfTile, OfEnd}
 
 -- "no token, no claim, no open circuit anywhere"
 abbrev pub quietPort : Net → ℕ → ℕ → Bool
@@ -39,9 +39,7 @@ holdsAt Held w n i = heldTokens (w .net) n i
 holdsAt (Agrees r) w n i = agrees r (w .net) n i
 holdsAt OpenEnd w n i = openEnd (w .net) n i
 holdsAt Silent w n i = silent (w .net) n 0
-holdsAt Fed w n i = fed w n i
-holdsAt Unfed w n i = unfed w n i
-holdsAt Idle w n i = idle (w .net) n i
+holdsAt Tied w n i = tied w n i
 holdsAt Sends w n i = sends w n i
 holdsAt Replied w n i = replied w n 0
 holdsAt QuietPort w n i = quietPort (w .net) n i
@@ -69,9 +67,7 @@ places Held = ends
 places (Agrees r) = players r
 places OpenEnd = ends
 places Silent = 1
-places Fed = links
-places Unfed = links
-places Idle = links
+places Tied = links
 places Sends = ends
 places Replied = 1
 places QuietPort = ports

@@ -9,7 +9,7 @@ use clauses::pairs::Role;
 ghost use mathlib.Core.Path.{_≡_};
 ghost use Prim.Native.Nat.{_<_};
 ghost use Rattle.cells.specs.World.{world};
-ghost use Rattle.sound.specs.Sound.{soundTest, clauseOf, unsoundClause, sound, tie, tight, quiet};
+ghost use Rattle.sound.specs.Sound.{soundTest, clauseOf, unsoundClause, sound, tight, quiet};
 
 // How many tests the Sound list is.
 pub const MANY: u32 = 26;
@@ -157,30 +157,12 @@ pub fn is_sound(st: &[u32], mem: &[u16]) -> bool
     outside & (everywhere(st, mem, Test::OfPort) & inside)
 }
 
-fn tie_test(k: u32) -> Test
-    ensures { λ r. ⌜ r ≡ tie k ⌝ }
-{
-    match k {
-        0 => Test::Fed,
-        1 => Test::Unfed,
-        2 => Test::Idle,
-        3 => Test::Sends,
-        _ => Test::Replied,
-    }
-}
-
 // The five ties hold.
 pub fn is_tight(st: &[u32], mem: &[u16]) -> bool
     ensures { λ r. ⌜ r ≡ tight (world (now (st .entry)) (now (mem .entry))) ⌝ }
 {
-    let mut k = 0;
-    while k < 5 {
-        if !everywhere(st, mem, tie_test(k)) {
-            return false;
-        }
-        k += 1;
-    }
-    true
+    let sent = everywhere(st, mem, Test::Sends) & everywhere(st, mem, Test::Replied);
+    everywhere(st, mem, Test::Tied) & sent
 }
 
 // No token, no claim and no open circuit anywhere.

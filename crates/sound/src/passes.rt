@@ -22,11 +22,14 @@ use clauses::pairs::Role;
 use clauses::pairs::agrees;
 use clauses::pairs::open_end;
 use clauses::pairs::silent;
+use clauses::ties::fed;
+use clauses::ties::idle;
+use clauses::ties::unfed;
 use names::Slot;
 ghost use mathlib.Core.Path.{_≡_};
 ghost use Rattle.cells.specs.View.{view};
 ghost use Rattle.cells.specs.World.{world};
-ghost use Rattle.sound.specs.Passes.{ofNode, ofLink, portPairs, ofPort, ofTile, endPairs, ofEnd};
+ghost use Rattle.sound.specs.Passes.{ofNode, ofLink, portPairs, ofPort, ofTile, endPairs, ofEnd, tied};
 
 pub fn of_node(st: &[u32], slot: Slot, i: usize) -> bool
     ensures { λ r. ⌜ r ≡ ofNode (view (now (st .entry))) (slot .0) i ⌝ }
@@ -76,4 +79,11 @@ pub fn of_end(st: &[u32], slot: Slot, c: usize) -> bool
 {
     let rest = end_pairs(st, slot, c) & open_end(st, slot, c);
     end_counts(end::at(st, slot, c)) & (held_tokens(st, slot, c) & rest)
+}
+
+// All that the ties ask of a link.
+pub fn tied(st: &[u32], mem: &[u16], slot: Slot, l: usize) -> bool
+    ensures { λ r. ⌜ r ≡ tied (world (now (st .entry)) (now (mem .entry))) (slot .0) l ⌝ }
+{
+    fed(st, mem, slot, l) & (unfed(st, mem, slot, l) & idle(st, slot, l))
 }

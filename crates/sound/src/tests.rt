@@ -4,6 +4,7 @@ use crate::passes::of_link;
 use crate::passes::of_node;
 use crate::passes::of_port;
 use crate::passes::of_tile;
+use crate::passes::tied;
 use cells::end;
 use cells::link;
 use cells::node;
@@ -27,11 +28,8 @@ use clauses::pairs::agrees;
 use clauses::pairs::open_end;
 use clauses::pairs::players;
 use clauses::pairs::silent;
-use clauses::ties::fed;
-use clauses::ties::idle;
 use clauses::ties::replied;
 use clauses::ties::sends;
-use clauses::ties::unfed;
 use names::Slot;
 use names::size::ENDS;
 use names::size::LINKS;
@@ -74,10 +72,8 @@ pub enum Test {
     OpenEnd,
     // port 12 is empty while the control unit serves a circuit
     Silent,
-    // the five ties
-    Fed,
-    Unfed,
-    Idle,
+    // the ties: those of a link, of a channel-end, of port 12
+    Tied,
     Sends,
     Replied,
     // no token and no circuit in a port
@@ -126,9 +122,7 @@ fn holds_at(st: &[u32], mem: &[u16], t: Test, slot: Slot, i: usize) -> bool
         Test::Agrees(r) => agrees(st, slot, r, i),
         Test::OpenEnd => open_end(st, slot, i),
         Test::Silent => silent(st, slot),
-        Test::Fed => fed(st, mem, slot, i),
-        Test::Unfed => unfed(st, mem, slot, i),
-        Test::Idle => idle(st, slot, i),
+        Test::Tied => tied(st, mem, slot, i),
         Test::Sends => sends(st, mem, slot, i),
         Test::Replied => replied(st, mem, slot),
         Test::QuietPort => quiet_port(st, slot, i),
@@ -161,9 +155,7 @@ fn places(t: Test) -> usize
         Test::Agrees(r) => players(r),
         Test::OpenEnd => ENDS,
         Test::Silent => 1,
-        Test::Fed => LINKS,
-        Test::Unfed => LINKS,
-        Test::Idle => LINKS,
+        Test::Tied => LINKS,
         Test::Sends => ENDS,
         Test::Replied => 1,
         Test::QuietPort => PORTS,

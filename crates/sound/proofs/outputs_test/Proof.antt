@@ -1,5 +1,4 @@
 -- `sound::outputs_test` meets its contract. Assumes nothing.
-use Prim.Native.Nat.{ℕ}
 use mathlib.Core.Path.{_≡_}
 use native.Mathlib.Omega.{arith}
 use Rattle.sound.proofs.outputs_test.Statement.{statement}

@@ -1,5 +1,4 @@
 -- `clauses::pairs::claimable` meets its contract. Assumes nothing.
-use borrow.Author.Needs.{needs}
 use borrow.Author.Tests.{eq-eqb, ne-eqb}
 use Rattle.clauses.proofs.pairs.claimable.Statement.{statement}
 use Rattle.clauses.proofs.pairs.claimable.Tie as tie

@@ -49,40 +49,34 @@ returns-15 : tie.Need-returns-15
 returns-15 c = rw (c .before .enum-told14 .given .1, c .silent .ensures)
 
 returns-16 : tie.Need-returns-16
-returns-16 c = rw (c .before .enum-told15 .given .1, c .fed .ensures)
+returns-16 c = rw (c .before .enum-told15 .given .1, c .tied .ensures)
 
 returns-17 : tie.Need-returns-17
-returns-17 c = rw (c .before .enum-told16 .given .1, c .unfed .ensures)
+returns-17 c = rw (c .before .enum-told16 .given .1, c .sends .ensures)
 
 returns-18 : tie.Need-returns-18
-returns-18 c = rw (c .before .enum-told17 .given .1, c .idle .ensures)
+returns-18 c = rw (c .before .enum-told17 .given .1, c .replied .ensures)
 
 returns-19 : tie.Need-returns-19
-returns-19 c = rw (c .before .enum-told18 .given .1, c .sends .ensures)
+returns-19 c = rw (c .before .enum-told18 .given .1, c .quiet-port .ensures)
 
 returns-20 : tie.Need-returns-20
-returns-20 c = rw (c .before .enum-told19 .given .1, c .replied .ensures)
+returns-20 c = rw (c .before .enum-told19 .given .1, c .quiet-end .ensures)
 
 returns-21 : tie.Need-returns-21
-returns-21 c = rw (c .before .enum-told20 .given .1, c .quiet-port .ensures)
+returns-21 c = rw (c .before .enum-told20 .given .1, c .of-node .ensures)
 
 returns-22 : tie.Need-returns-22
-returns-22 c = rw (c .before .enum-told21 .given .1, c .quiet-end .ensures)
+returns-22 c = rw (c .before .enum-told21 .given .1, c .of-link .ensures)
 
 returns-23 : tie.Need-returns-23
-returns-23 c = rw (c .before .enum-told22 .given .1, c .of-node .ensures)
+returns-23 c = rw (c .before .enum-told22 .given .1, c .of-port .ensures)
 
 returns-24 : tie.Need-returns-24
-returns-24 c = rw (c .before .enum-told23 .given .1, c .of-link .ensures)
+returns-24 c = rw (c .before .enum-told23 .given .1, c .of-tile .ensures)
 
 returns-25 : tie.Need-returns-25
-returns-25 c = rw (c .before .enum-told24 .given .1, c .of-port .ensures)
-
-returns-26 : tie.Need-returns-26
-returns-26 c = rw (c .before .enum-told25 .given .1, c .of-tile .ensures)
-
-returns-27 : tie.Need-returns-27
-returns-27 c = rw (c .before .enum-told26 .given .1, c .of-end .ensures)
+returns-25 c = rw (c .before .enum-told24 .given .1, c .of-end .ensures)
 
 pub holds-at-spec : {M : Type 1} → statement M
 holds-at-spec =
@@ -105,10 +99,6 @@ holds-at-spec =
     (λ c κs. search needs)
     (λ c. search needs)
     (λ c κs. search needs)
-    (λ c κs. search needs)
-    (λ c. search needs)
-    (λ c κs. search needs)
-    (λ c. search needs)
     (λ c κs. search needs)
     (λ c. search needs)
     (λ c κs. search needs)
@@ -172,6 +162,4 @@ holds-at-spec =
     returns-22
     returns-23
     returns-24
-    returns-25
-    returns-26
-    returns-27)
+    returns-25)

@@ -78,12 +78,6 @@ returns-24 c = rw (c .enum-told23 .given .1)
 returns-25 : tie.Need-returns-25
 returns-25 c = rw (c .enum-told24 .given .1)
 
-returns-26 : tie.Need-returns-26
-returns-26 c = rw (c .enum-told25 .given .1)
-
-returns-27 : tie.Need-returns-27
-returns-27 c = rw (c .enum-told26 .given .1)
-
 pub places-spec : {M : Type 1} → statement M
 places-spec =
     tie.close
@@ -102,8 +96,6 @@ places-spec =
     (λ c. search needs)
     (λ c. search needs)
     (λ c κs. search needs)
-    (λ c. search needs)
-    (λ c. search needs)
     (λ c. search needs)
     (λ c. search needs)
     (λ c. search needs)
@@ -140,6 +132,4 @@ places-spec =
     returns-22
     returns-23
     returns-24
-    returns-25
-    returns-26
-    returns-27)
+    returns-25)
