@@ -2,3 +2,4 @@
 pub mod Tables
 pub mod Puts
 pub mod Whole
+pub mod Zeros

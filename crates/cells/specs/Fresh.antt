@@ -16,11 +16,12 @@ use Rattle.cells.specs.declared.node.Node.{Node}
 abbrev pub freshNode : Node
 freshNode = record { number = 0; width = 3; directions = record { first = 0; second = 0 } }
 
-abbrev pub freshNet : ℕ → Net
-freshNet n =
+-- n nodes, of which the first k have their settings; all other words are 0
+abbrev pub freshTo : ℕ → ℕ → Net
+freshTo k n =
     record {
       nodes = n;
-      own = λ m i. pick (ltb m n && ltb i 1) freshNode (toNode []);
+      own = λ m i. pick (ltb m k && ltb i 1) freshNode (toNode []);
       links = λ m i. toLink [];
       ports = λ m i. toPort [];
       tiles = λ m i. toTile [];
@@ -28,6 +29,9 @@ freshNet n =
       units = λ m i. toUnit [];
       rest = [];
     }
+
+abbrev pub freshNet : ℕ → Net
+freshNet n = freshTo n n
 
 abbrev pub freshWorld : ℕ → World
 freshWorld n = record { net = freshNet n; memory = replicate (n * (ports * capacity)) 0 }

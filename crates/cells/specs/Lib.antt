@@ -2,5 +2,6 @@
 pub mod Layout
 pub mod Records
 pub mod View
+pub mod Changes
 pub mod World
 pub mod Fresh

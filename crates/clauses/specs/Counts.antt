@@ -4,7 +4,7 @@
 use Prim.Native.Nat.{ℕ}
 use mathlib.Core.Bool.{Bool, not, _&&_, _||_}
 use lib.Dec.{eqb, ltb, leb}
-use Rattle.names.specs.Size.{links, replyPort, endBuffer}
+use Rattle.names.specs.Size.{links, replyPort, endBuffer, networks, directions}
 use Rattle.circuits.specs.Circuit.{legalPeer, legalHopKind}
 use Rattle.circuits.specs.declared.Circuit.{Circuit}
 use Rattle.ports.specs.Queue.{capacity}
@@ -38,8 +38,8 @@ abbrev pub linkCounts : Link → Bool
 linkCounts k =
     flag (k .wired)
     && (flag (k .enabled)
-    && (ltb (k .direction) 16
-    && (ltb (k .network) 4 && (flag (k .greeted) && (leb (k .credit) capacity && byPort (k .user))))))
+    && (ltb (k .direction) directions
+    && (ltb (k .network) networks && (flag (k .greeted) && (leb (k .credit) capacity && byPort (k .user))))))
 
 -- "four links from the tile to the switch (ports 8..11)"
 abbrev pub tilePort : ℕ → Bool
@@ -51,7 +51,7 @@ isFree k = eqb (k .circuit .kind) 0 && eqb (k .counters .held) 0
 
 -- the network of the circuit that has taken a tile port; nothing reads that of another
 abbrev pub portNetwork : ℕ → Port → Bool
-portNetwork p k = (not (tilePort p) || isFree k) || ltb (k .network) 4
+portNetwork p k = (not (tilePort p) || isFree k) || ltb (k .network) networks
 
 -- "port buffer 64 tokens"
 abbrev pub portCounts : ℕ → Port → Bool
@@ -66,7 +66,7 @@ tileCounts k = byPort (k .user)
 abbrev pub aimCounts : End → Bool
 aimCounts k =
     eqb (k .aim) 0
-    || (ltb (k .number) 65536 && (ltb (k .network) 4 && (eqb (k .aim) 2 || (eqb (k .aim) 1 && legalChannel (k .channel)))))
+    || (ltb (k .number) 65536 && (ltb (k .network) networks && (eqb (k .aim) 2 || (eqb (k .aim) 1 && legalChannel (k .channel)))))
 
 -- "channel-end input buffer 8 tokens"
 abbrev pub endCounts : End → Bool

@@ -57,7 +57,8 @@ fn enabled(st: &[u32], slot: Slot, l: usize) -> bool
     k.enabled == 1
 }
 
-fn far_enabled(st: &[u32], k: Link) -> bool
+// The far end exists and is enabled.
+pub fn far_enabled(st: &[u32], k: Link) -> bool
     ensures { λ r. ⌜ r ≡ farEnabled (view (now (st .entry))) k ⌝ }
 {
     match far_of(k) {

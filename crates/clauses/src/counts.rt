@@ -5,9 +5,11 @@ use cells::node::Node;
 use cells::port::Port;
 use cells::tile::Tile;
 use cells::unit::Unit;
+use names::size::DIRECTIONS;
 use names::size::END_BUFFER;
 use names::size::ENDS;
 use names::size::LINKS;
+use names::size::NETWORKS;
 use names::size::REPLY_PORT;
 use names::size::SINK;
 use ports::Counters;
@@ -30,8 +32,8 @@ pub fn link_counts(k: Link) -> bool
 {
     (k.wired <= 1)
         & ((k.enabled <= 1)
-            & ((k.direction < 16)
-                & ((k.network < 4)
+            & ((k.direction < DIRECTIONS)
+                & ((k.network < NETWORKS)
                     & ((k.greeted <= 1)
                         & ((k.credit <= Counters::CAPACITY) & (k.user.kind <= 1))))))
 }
@@ -40,7 +42,7 @@ fn port_network(k: Port, p: usize) -> bool
     ensures { λ r. ⌜ r ≡ portNetwork p k ⌝ }
 {
     let free = (k.circuit.kind == 0) & (k.counters.held == 0);
-    (!((LINKS <= p) & (p < REPLY_PORT)) | free) | (k.network < 4)
+    (!((LINKS <= p) & (p < REPLY_PORT)) | free) | (k.network < NETWORKS)
 }
 
 pub fn port_counts(k: Port, p: usize) -> bool
@@ -63,7 +65,7 @@ fn aim_counts(k: End) -> bool
 {
     (k.aim == 0)
         | ((k.number < 65536)
-            & ((k.network < 4)
+            & ((k.network < NETWORKS)
                 & ((k.aim == 2) | ((k.aim == 1) & ((k.channel < CHANNELS) | (k.channel == SINK))))))
 }
 

@@ -40,3 +40,13 @@ grant-within credit held h =
 pub enough : (credit held : ℕ) → 8 ≤ credit → grantOf credit held ≡ 0
 unfolding grantOf
 enough credit held h = rw (le-ltb credit 8 h)
+
+-- no grant is above the largest
+pub most : (credit held : ℕ) → grantOf credit held ≤ 64
+most credit held = at-most (granted credit held)
+  where
+    at-most : {g : ℕ} → Granted g → g ≤ 64
+    at-most none = omega arith
+    at-most eight = omega arith
+    at-most sixteen = omega arith
+    at-most all = omega arith

@@ -31,3 +31,15 @@ endBuffer = 8
 -- "Channel 255 is the sink: it takes and forgets"
 abbrev pub sink : ℕ
 sink = 255
+
+-- "network number 0..3"
+abbrev pub networks : ℕ
+networks = 4
+
+-- "direction 0..15"
+abbrev pub directions : ℕ
+directions = 16
+
+-- "the highest differing bit, 15..0": each has an entry in the direction table
+abbrev pub bits : ℕ
+bits = 16

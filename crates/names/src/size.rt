@@ -24,3 +24,12 @@ pub const END_BUFFER: usize = 8;
 
 // The channel that takes and forgets.
 pub const SINK: u32 = 255;
+
+// Networks of links and circuits.
+pub const NETWORKS: u32 = 4;
+
+// Directions of links and of a switch's table.
+pub const DIRECTIONS: u32 = 16;
+
+// Bits of a node's number, each with an entry in the direction table.
+pub const BITS: u32 = 16;

@@ -1,0 +1,2 @@
+-- Laws of credits on a link.
+pub mod Links

@@ -1,0 +1,24 @@
+-- A link's credit with a grant is a number of 32 bits. Assumes nothing.
+use Prim.Native.Nat.{ℕ, _+_, _<_, _≤_, _^_}
+use mathlib.Core.Path.{_≡_}
+use native.Mathlib.Omega.{arith}
+use mathlib.Core.Logic.{⊎-elim}
+use lib.Dec.{eqb}
+use Rattle.laws.specs.Pick.{pick}
+use Rattle.laws.proofs.Order.{by-test, order}
+use Rattle.credits.specs.Grant.{grantOf}
+use Rattle.credits.proofs.Grants.{enough, most}
+use Rattle.cells.specs.View.{Net}
+use Rattle.cells.specs.declared.link.Link.{Link}
+use Rattle.grants.specs.Grants.{grantTo, farHeld}
+
+-- there is no grant from credit 8 on, and none is above 64
+given-fits : (c h : ℕ) → c < 2 ^ 32 → c + grantOf c h < 2 ^ 32
+given-fits c h b = ⊎-elim (λ i. omega (arith, most c h)) (λ i. rw (enough c h i) (omega arith)) (order c 8)
+
+pub credit-fits : (s : Net) (k : Link) (g : ℕ) → g ≡ grantTo s k → k .credit < 2 ^ 32 → k .credit + g < 2 ^ 32
+unfolding grantTo
+credit-fits s k g e h =
+    rw e (by-test (eqb (k .greeted) 1)
+    (λ t. rw t (given-fits (k .credit) (farHeld s k) h))
+    (λ t. rw t (omega arith)))

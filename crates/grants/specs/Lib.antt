@@ -1,0 +1,2 @@
+-- The definitions that contracts cite for credits on a link of the state.
+pub mod Grants

@@ -1,0 +1,2 @@
+-- Laws of Wire and Set.
+pub mod Passed

@@ -1,0 +1,65 @@
+-- What a Wire or Set that is not refused has: its nodes and links are there. Assumes nothing.
+use Prim.{tt}
+use Prim.Native.Nat.{ℕ, _<_}
+use mathlib.Core.Path.{_≡_, ap}
+use mathlib.Core.Bool.{Bool, true, false, not, _&&_}
+use lib.Dec.{eqb, ltb}
+use borrow.Author.Tests.{ltb-true, eq-eqb, not-false}
+use Rattle.laws.specs.All.{Means}
+use Rattle.laws.proofs.All.{also, as-is, below}
+use Rattle.names.specs.Size.{links}
+use Rattle.names.specs.No.{passes}
+use Rattle.answers.specs.Rows.{refusal}
+use Rattle.answers.specs.Out.{Out, out}
+use Rattle.answers.specs.declared.Answer.the-variants.{No, Done}
+use Rattle.answers.proofs.Refusals.{passed, refuses, goes-on}
+use Rattle.cells.specs.View.{Net}
+use Rattle.settings.specs.Set.{setRows, linkThere, LinkThere, setAnswer, setMade, set}
+use Rattle.settings.specs.Wire.{wireRows, linkAt, wired, wire}
+use Rattle.settings.specs.declared.Setting.{Setting}
+use Rattle.settings.specs.declared.Setting.the-variants.{Number, Width, Direction, LinkDirection, Network, Enable, Hello}
+
+link-there : (x : Setting) → linkThere x ≡ true → LinkThere x
+link-there (Number v) e = tt
+link-there (Width v) e = tt
+link-there (Direction b v) e = tt
+link-there (LinkDirection l v) e = ltb-true l links e
+link-there (Network l v) e = ltb-true l links e
+link-there (Enable l v) e = ltb-true l links e
+link-there (Hello l) e = ltb-true l links e
+
+pub set-there : (s : Net) (n : ℕ) (x : Setting) → refusal (setRows s n x) ≡ passes → (n < s .nodes) × LinkThere x
+set-there s n x e =
+    let h = passed (setRows s n x) .sure (eq-eqb (refusal (setRows s n x)) passes e) .0 in
+    let z = also (below n (s .nodes)) (as-is (linkThere x)) .sure (not-false _ h) in
+    (z .0, link-there x (z .1))
+
+-- both link ends are there
+pub record Ends (s : Net) (n l m k : ℕ) : Type 0 where
+  pub one : (n < s .nodes) × (l < links)
+  pub other : (m < s .nodes) × (k < links)
+
+pub wire-there : (s : Net) (n l m k : ℕ) → refusal (wireRows s n l m k) ≡ passes → Ends s n l m k
+wire-there s n l m k e =
+    let h = passed (wireRows s n l m k) .sure (eq-eqb (refusal (wireRows s n l m k)) passes e) .0 in
+    let z = also (also (below n (s .nodes)) (below l links)) (also (below m (s .nodes)) (below k links)) .sure (not-false _ h) in
+    record { one = z .0; other = z .1 }
+
+-- Refused, or gone on with, by the number that the rows give
+module _ (s : Net) (n : ℕ) (x : Setting) (k : ℕ) (e : k ≡ refusal (setRows s n x)) where
+  pub set-refuses : (k ≡ passes → ⊥) → out (No k) s ≡ set s n x
+  unfolding set
+  set-refuses h = refuses (setRows s n x) s (out (setAnswer s n x) (setMade s n x)) k e h
+
+  pub set-goes-on : (o : Out Net) → k ≡ passes → o ≡ out (setAnswer s n x) (setMade s n x) → o ≡ set s n x
+  unfolding set
+  set-goes-on o h q = goes-on (setRows s n x) s (out (setAnswer s n x) (setMade s n x)) k e h q
+
+module _ (s : Net) (n l m j : ℕ) (k : ℕ) (e : k ≡ refusal (wireRows s n l m j)) where
+  pub wire-refuses : (k ≡ passes → ⊥) → out (No k) s ≡ wire s n l m j
+  unfolding wire
+  wire-refuses h = refuses (wireRows s n l m j) s (out Done (wired s n l m j)) k e h
+
+  pub wire-goes-on : (z : Net) → k ≡ passes → z ≡ wired s n l m j → out Done z ≡ wire s n l m j
+  unfolding wire
+  wire-goes-on z h q = goes-on (wireRows s n l m j) s (out Done (wired s n l m j)) k e h (ap (out Done) q)

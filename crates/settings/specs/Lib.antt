@@ -1,0 +1,3 @@
+-- The definitions that contracts cite for Wire and Set.
+pub mod Wire
+pub mod Set

@@ -1,0 +1,35 @@
+-- "Wire: join two different link ends, both unwired and disabled." (document 01, "Calls")
+use Prim.Native.Nat.{ℕ}
+use mathlib.Core.Bool.{Bool, not, _&&_, _||_}
+use mathlib.Core.List.{List, [], _∷_}
+use lib.Dec.{eqb, ltb}
+use Rattle.names.specs.Size.{links}
+use Rattle.names.specs.No.{NoSuch, Value, Busy}
+use Rattle.answers.specs.Rows.{Row, row}
+use Rattle.answers.specs.Out.{Out, out, attempt}
+use Rattle.answers.specs.declared.Answer.the-variants.{Done}
+use Rattle.cells.specs.View.{Net, withLink}
+use Rattle.cells.specs.Changes.{wiredTo}
+
+-- link l of node n is present
+abbrev pub linkAt : Net → ℕ → ℕ → Bool
+linkAt s n l = ltb n (s .nodes) && ltb l links
+
+-- "a wired or enabled end"
+abbrev pub endTaken : Net → ℕ → ℕ → Bool
+endTaken s n l = eqb (s .links n l .wired) 1 || eqb (s .links n l .enabled) 1
+
+-- "NoSuch: slot, link not present; Value: a link joined to itself; Busy: Wire on a wired or enabled end"
+abbrev pub wireRows : Net → ℕ → ℕ → ℕ → ℕ → List Row
+wireRows s n l m k =
+    row (not (linkAt s n l && linkAt s m k)) NoSuch
+    ∷ row (eqb n m && eqb l k) Value
+    ∷ row (endTaken s n l || endTaken s m k) Busy
+    ∷ []
+
+-- each end leads to the other
+abbrev pub wired : Net → ℕ → ℕ → ℕ → ℕ → Net
+wired s n l m k = withLink (withLink s n l (wiredTo (s .links n l) m k)) m k (wiredTo (s .links m k) n l)
+
+unfoldable pub wire : Net → ℕ → ℕ → ℕ → ℕ → Out Net
+wire s n l m k = attempt (wireRows s n l m k) s (out Done (wired s n l m k))

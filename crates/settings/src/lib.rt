@@ -1,0 +1,44 @@
+// Wire and every Set on a state that is known to be sound (document 01, "Calls"). The public calls,
+// which test the state first, are crate bench's; a switch message makes its Sets here.
+pub mod made;
+pub mod refused;
+pub mod wire;
+
+use crate::made::make;
+use crate::refused::set_no;
+use answers::Answer;
+use names::Slot;
+ghost use mathlib.Core.Path.{_≡_};
+ghost use Rattle.answers.specs.Out.{out};
+ghost use Rattle.cells.specs.View.{view};
+ghost use Rattle.settings.specs.Set.{AllCabled, set};
+
+// What is to be set. Values are as wide as they are asked for: those out of range are refused.
+pub enum Setting {
+    // a node's number
+    Number(u32),
+    // a node's width, 1 or 3
+    Width(u32),
+    // the direction entry of a bit
+    Direction(u32, u32),
+    // a link's direction
+    LinkDirection(usize, u32),
+    // a link's network
+    Network(usize, u32),
+    // a link enabled (1) or disabled (0)
+    Enable(usize, u32),
+    // HELLO on a link
+    Hello(usize),
+}
+
+// Set, whole: refused by its number with nothing changed, or made.
+pub fn set(st: &mut [u32], slot: Slot, x: Setting) -> Answer
+    requires { ⌜ AllCabled (view (now st)) ⌝ }
+    ensures { λ r. ⌜ out r (view (now (st .exit))) ≡ set (view (now (st .entry))) (slot .0) x ⌝ }
+{
+    let no = set_no(st, slot, x);
+    if no != 0 {
+        return Answer::No(no);
+    }
+    make(st, slot, x)
+}
