@@ -6,7 +6,7 @@ use mathlib.Core.List.{List, []}
 use native.Mathlib.Omega.{arith}
 use lib.Dec.{lit≤, ltb}
 use lib.ListN.{length, getD, drop, replicate, length-replicate, getD-replicate, length-drop}
-use lib.Seq.{ext-getD, drop-all}
+use lib.Seq.{ext-getD, drop-length}
 use borrow.Author.Tests.{le-ltb}
 use Rattle.laws.specs.Row.{row}
 use Rattle.laws.proofs.Order.{by-test}
@@ -21,33 +21,49 @@ use Rattle.cells.proofs.Tables.{in-state, is-inside}
 abbrev zeros : ℕ → List ℕ
 zeros n = replicate n 0
 
+zeros-long : (n : ℕ) → length (zeros n) ≡ n
+zeros-long n = length-replicate n 0
+
 -- a stretch of zeros
 zero-row : (n s a : ℕ) → a + s ≤ n → row s a (zeros n) ≡ zeros s
 zero-row n s a h =
-    let long : a + s ≤ length (zeros n) = rw (length-replicate n 0) h in
-    ext-getD 0 (row s a (zeros n)) (zeros s) (row-long s a (zeros n) long ∙ sym (length-replicate s 0))
-    (λ i l. ?)
+    let long : a + s ≤ length (zeros n) = rw (zeros-long n) h in
+    ext-getD 0 (row s a (zeros n)) (zeros s) (row-long s a (zeros n) long ∙ sym (zeros-long s))
+    (λ i l.
+    let k : i < s = rw (row-long s a (zeros n) long) at l in
+    row-at s a i (zeros n) 0 k ∙ getD-replicate n (a + i) 0 0 (omega arith) ∙ sym (getD-replicate s i 0 0 k))
 
 module _ (n : ℕ) where
   zero-nodes : nodesIn (zeros (n * stride)) ≡ n
-  zero-nodes = ap (λ (l : ℕ). l / stride) (length-replicate (n * stride) 0) ∙ omega arith
+  zero-nodes = ap (λ (l : ℕ). l / stride) (zeros-long (n * stride)) ∙ omega arith
 
   -- every record of a kind that reads zeros as it reads nothing
   zero-table : {A : Type 0} (k : Kind) → Within k → (f : List ℕ → A) → f (zeros (k .size)) ≡ f [] → (m i : ℕ) → table k f (zeros (n * stride)) m i ≡ f []
   zero-table k w f z m i =
       by-test (inside k (zeros (n * stride)) m i)
-      (λ e. ?)
+      (λ e.
+      let h = is-inside k (zeros (n * stride)) m i e in
+      let b = in-state k w (zeros (n * stride)) m i (h .0) (h .1) in
+      rw (e, zero-row (n * stride) (k .size) (begins k m i) (rw (zeros-long (n * stride)) at b)) z)
       (λ e. rw e)
+
+  zero-rest : drop (nodesIn (zeros (n * stride)) * stride) (zeros (n * stride)) ≡ []
+  zero-rest =
+      ap (λ (l : ℕ). drop l (zeros (n * stride))) (ap (λ (m : ℕ). m * stride) zero-nodes ∙ sym (zeros-long (n * stride)))
+      ∙ drop-length (zeros (n * stride))
+
+  zero-own : (m i : ℕ) → table node toNode (zeros (n * stride)) m i ≡ freshTo 0 n .own m i
+  zero-own m i = rw (le-ltb m 0 (omega arith)) (zero-table node (lit≤ tt) toNode refl m i)
 
   pub zero-view : view (zeros (n * stride)) ≡ freshTo 0 n
   unfolding view
   zero-view = λ j. record {
-      nodes = zero-nodes j;
-      own = λ m i. (zero-table node (lit≤ tt) toNode refl m i ∙ sym (rw (le-ltb m 0 (omega arith)))) j;
-      links = λ m i. zero-table link (lit≤ tt) toLink refl m i j;
-      ports = λ m i. zero-table port (lit≤ tt) toPort refl m i j;
-      tiles = λ m i. zero-table tile (lit≤ tt) toTile refl m i j;
-      ends = λ m i. zero-table end (lit≤ tt) toEnd refl m i j;
-      units = λ m i. zero-table unit (lit≤ tt) toUnit refl m i j;
-      rest = ? j;
-    }
+    nodes = zero-nodes j;
+    own = λ m i. zero-own m i j;
+    links = λ m i. zero-table link (lit≤ tt) toLink refl m i j;
+    ports = λ m i. zero-table port (lit≤ tt) toPort refl m i j;
+    tiles = λ m i. zero-table tile (lit≤ tt) toTile refl m i j;
+    ends = λ m i. zero-table end (lit≤ tt) toEnd refl m i j;
+    units = λ m i. zero-table unit (lit≤ tt) toUnit refl m i j;
+    rest = zero-rest j;
+  }

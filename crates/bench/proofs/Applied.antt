@@ -1,0 +1,75 @@
+-- Theorems over every call: one result, numbers exactly under their conditions, nothing changed by a refusal. Assumes nothing.
+use Prim.Native.Nat.{ℕ}
+use mathlib.Core.Path.{_≡_, refl, sym, ap, _∙_}
+use mathlib.Core.Bool.{true, false, _&&_}
+use mathlib.Core.List.{List}
+use lib.Dec.{eqb}
+use Rattle.laws.specs.All.{Means}
+use Rattle.names.specs.No as Names
+use Rattle.answers.specs.Answer.{numberOf}
+use Rattle.answers.specs.Rows.{refusal, Exactly, Passes, rising, distinct}
+use Rattle.answers.specs.Out.{Out, out}
+use Rattle.answers.specs.declared.Answer.{Answer}
+use Rattle.answers.proofs.Refusals.{given, passed, answered, kept}
+use Rattle.cells.specs.World.{World, world}
+use Rattle.cells.specs.View.{Net}
+use Rattle.cells.proofs.Whole.{whole-state}
+use Rattle.settings.specs.declared.Setting.{Setting}
+use Rattle.settings.specs.declared.Setting.the-variants.{Number, Width, Direction, LinkDirection, Network, Enable, Hello}
+use Rattle.bench.specs.Calls.{Call, Fresh, Wire, Set, rows, made, apply}
+
+-- "show that two results meeting it are equal": answer, every word of the state, every word of token memory
+pub one-result : (w : World) (c : Call) (r q : Answer) (st zt mem nem : List ℕ)
+    → out r (world st mem) ≡ apply w c
+    → out q (world zt nem) ≡ apply w c
+    → (r ≡ q) × (st ≡ zt) × (mem ≡ nem)
+one-result w c r q st zt mem nem a b =
+    let e : out r (world st mem) ≡ out q (world zt nem) = a ∙ sym b in
+    (ap (λ (o : Out World). o .answer) e, whole-state st zt (ap (λ (o : Out World). o .next .net) e), ap (λ (o : Out World). o .next .memory) e)
+
+-- what a call makes is no refusal
+passing : (w : World) (c : Call) → numberOf (made w c .answer) ≡ Names.passes
+passing w (Fresh n) = refl
+passing w (Wire a l b k) = refl
+passing w (Set a (Number v)) = refl
+passing w (Set a (Width v)) = refl
+passing w (Set a (Direction b v)) = refl
+passing w (Set a (LinkDirection l v)) = refl
+passing w (Set a (Network l v)) = refl
+passing w (Set a (Enable l v)) = refl
+passing w (Set a (Hello l)) = refl
+
+-- no call has two rows of one number
+once : (w : World) (c : Call) → distinct (rows w c) ≡ true
+once w (Fresh n) = refl
+once w (Wire a l b k) = refl
+once w (Set a x) = refl
+
+-- "The lowest number wins": the rows of a call stand in the order of their numbers; Fresh looks at the count before the lengths
+abbrev pub InOrder : World → Call → Type 0
+InOrder w (Fresh n) = rising 0 (rows w (Fresh n)) ≡ false
+InOrder w (Wire a l b k) = rising 0 (rows w (Wire a l b k)) ≡ true
+InOrder w (Set a x) = rising 0 (rows w (Set a x)) ≡ true
+
+pub in-order : (w : World) (c : Call) → InOrder w c
+in-order w (Fresh n) = refl
+in-order w (Wire a l b k) = refl
+in-order w (Set a x) = refl
+
+module _ (w : World) (c : Call) where
+  pub numbered : numberOf (apply w c .answer) ≡ refusal (rows w c)
+  unfolding apply
+  numbered = answered (rows w c) w (made w c) (passing w c)
+
+  -- "Given exactly when": number k is answered exactly where its row's test holds and no row before it refuses
+  pub exactly : (k : Names.No) → Means (eqb (numberOf (apply w c .answer)) (Names.number k)) (Exactly (rows w c) k)
+  exactly k = rw numbered (given (rows w c) k (once w c))
+
+  -- no number, exactly where no row refuses
+  pub accepted : Means (eqb (numberOf (apply w c .answer)) Names.passes) (Passes (rows w c))
+  accepted = rw numbered (passed (rows w c))
+
+  -- "A refused call .. leaves the state as it was": every word of both memories
+  pub refused-changes-nothing : (numberOf (apply w c .answer) ≡ Names.passes → ⊥) → apply w c .next ≡ w
+  unfolding apply
+  refused-changes-nothing h = kept (rows w c) w (made w c) (passing w c) h

@@ -1,0 +1,5 @@
+-- Theorems over every call.
+pub mod Lifted
+pub mod Applied
+pub mod Numbers
+pub mod Cabled

@@ -1,0 +1,3 @@
+-- The published statements: what each call answers and leaves, and runs of calls.
+pub mod Calls
+pub mod Runs

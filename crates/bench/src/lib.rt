@@ -1,0 +1,39 @@
+// The bench's public calls (document 01, "Calls"): for any arguments, any memory lent, any words in it.
+// Each contract gives the one answer and every word of both memories after the call, refused or not:
+// `apply`, in specs/Calls.antt.
+use answers::Answer;
+use names::Slot;
+use names::no::UNSOUND;
+use settings::Setting;
+use sound::is_sound;
+ghost use mathlib.Core.Path.{_≡_};
+ghost use Rattle.answers.specs.Out.{out};
+ghost use Rattle.cells.specs.World.{world};
+ghost use Rattle.bench.specs.Calls.{apply, Fresh, Wire, Set};
+
+// A network of so many nodes, whatever the memories held.
+pub fn fresh(st: &mut [u32], mem: &mut [u16], nodes: usize) -> Answer
+    ensures { λ r. ⌜ out r (world (now (st .exit)) (now (mem .exit))) ≡ apply (world (now (st .entry)) (now (mem .entry))) (Fresh nodes) ⌝ }
+{
+    fresh::fresh(st, mem, nodes)
+}
+
+// A cable between link l of slot a and link k of slot b.
+pub fn wire(st: &mut [u32], mem: &[u16], a: Slot, l: usize, b: Slot, k: usize) -> Answer
+    ensures { λ r. ⌜ out r (world (now (st .exit)) (now (mem .entry))) ≡ apply (world (now (st .entry)) (now (mem .entry))) (Wire a l b k) ⌝ }
+{
+    if !is_sound(st, mem) {
+        return Answer::No(UNSOUND);
+    }
+    settings::wire::wire(st, a, l, b, k)
+}
+
+// A setting of a node or of one of its links.
+pub fn set(st: &mut [u32], mem: &[u16], slot: Slot, x: Setting) -> Answer
+    ensures { λ r. ⌜ out r (world (now (st .exit)) (now (mem .entry))) ≡ apply (world (now (st .entry)) (now (mem .entry))) (Set slot x) ⌝ }
+{
+    if !is_sound(st, mem) {
+        return Answer::No(UNSOUND);
+    }
+    settings::set(st, slot, x)
+}

@@ -1,0 +1,4 @@
+-- Laws of Fresh.
+pub mod Clearing
+pub mod Settled
+pub mod Passed

@@ -1,0 +1,51 @@
+-- What a Fresh that is not refused has, and what it then comes to. Assumes nothing.
+use Prim.Native.Nat.{ℕ, _*_, _≤_}
+use mathlib.Core.Path.{_≡_, refl, sym, ap, _∙_}
+use mathlib.Core.Bool.{true, false}
+use mathlib.Core.List.{List, [], _∷_}
+use lib.Dec.{eqb, leb}
+use lib.ListN.{length, replicate}
+use borrow.Author.Tests.{eq-eqb, not-false}
+use Rattle.laws.proofs.All.{also, as-is, at-most, equal}
+use Rattle.laws.proofs.Order.{clash}
+use Rattle.names.specs.Size.{nodes, ports}
+use Rattle.names.specs.No.{passes}
+use Rattle.ports.specs.Queue.{capacity}
+use Rattle.answers.specs.Rows.{refusal}
+use Rattle.answers.specs.Out.{Out, out}
+use Rattle.answers.specs.declared.Answer.the-variants.{No, Done}
+use Rattle.answers.proofs.Refusals.{passed, refuses, goes-on}
+use Rattle.cells.specs.View.{Net}
+use Rattle.cells.specs.World.{World, shaped, isEmpty}
+use Rattle.cells.specs.Fresh.{freshNet, freshWorld}
+use Rattle.fresh.specs.Fresh.{freshRows, fits, fresh}
+
+is-empty : (l : List ℕ) → isEmpty l ≡ true → l ≡ []
+is-empty [] e = refl
+is-empty (x ∷ l) e = clash (sym e)
+
+module _ (w : World) (n k : ℕ) (e : k ≡ refusal (freshRows w n)) where
+  -- both lengths are those of n nodes
+  pub record Fitting : Type 0 where
+    pub rest : w .net .rest ≡ []
+    pub counted : w .net .nodes ≡ n
+    pub memory : length (w .memory) ≡ n * (ports * capacity)
+
+  pub fitting : k ≡ passes → Fitting
+  unfolding shaped
+  fitting h =
+      let p = passed (freshRows w n) .sure (eq-eqb (refusal (freshRows w n)) passes (sym e ∙ h)) .1 .0 in
+      let z = also (also (as-is (isEmpty (w .net .rest))) (also (at-most 1 (w .net .nodes)) (also (at-most (w .net .nodes) nodes) (equal (length (w .memory)) (w .net .nodes * (ports * capacity)))))) (equal (w .net .nodes) n) .sure (not-false _ p) in
+      record { rest = is-empty (w .net .rest) (z .0 .0); counted = z .1; memory = rw (← z .1) (z .0 .1 .1 .1) }
+
+  pub fresh-refuses : (k ≡ passes → ⊥) → out (No k) w ≡ fresh w n
+  unfolding fresh
+  fresh-refuses h = refuses (freshRows w n) w (out Done (freshWorld n)) k e h
+
+  -- both memories written
+  pub fresh-goes-on : (s : Net) (m : List ℕ) → k ≡ passes → s ≡ freshNet (w .net .nodes) → m ≡ replicate (length (w .memory)) 0
+      → out Done (record { net = s; memory = m }) ≡ fresh w n
+  unfolding fresh
+  fresh-goes-on s m h a b =
+      let f = fitting h in
+      goes-on (freshRows w n) w (out Done (freshWorld n)) k e h (rw (a, b, f .counted, f .memory))

@@ -1,0 +1,78 @@
+-- One more node of a network of zeros has its settings. Assumes nothing.
+use Prim.Native.Nat.{ℕ, _+_, _*_, _/_, _%_, _-_, _<_, _≤_}
+use mathlib.Core.Path.{_≡_, refl, sym, ap, _∙_}
+use mathlib.Core.Bool.{true, false, _&&_}
+use mathlib.Core.List.{List, []}
+use native.Mathlib.Omega.{arith}
+use lib.Dec.{eqb, ltb, lit≤}
+use lib.ListN.{length, drop, replicate, length-drop}
+use borrow.Author.Tests.{lt-ltb, le-ltb, ltb-true, ltb-false}
+use Rattle.laws.specs.Pick.{pick}
+use Rattle.laws.specs.Table.{upd, Off}
+use Rattle.laws.proofs.All.{and-false}
+use Rattle.laws.proofs.Order.{by-test}
+use Rattle.laws.proofs.Table.{upd-hit, upd-miss, place}
+use Rattle.cells.specs.Layout.{stride, nodesIn}
+use Rattle.cells.specs.Records.{toNode}
+use Rattle.cells.specs.View.{view, withNode, Net}
+use Rattle.cells.specs.Fresh.{freshNode, freshTo, freshNet}
+use Rattle.cells.specs.declared.node.Node.{Node}
+use Rattle.cells.proofs.Zeros.{zero-view}
+
+-- the settings of node m of which the first k nodes have theirs
+abbrev settings : ℕ → ℕ → ℕ → Node
+settings k m i = pick (ltb m k && ltb i 1) freshNode (toNode [])
+
+as-before : (k m i : ℕ) → Off k 0 m i → settings k m i ≡ settings (k + 1) m i
+as-before k m i o =
+    by-test (ltb i 1)
+    (λ e.
+    let z : i ≡ 0 = omega (arith, ltb-true i 1 e) in
+    by-test (ltb m k)
+    (λ f. rw (f, lt-ltb m (k + 1) (omega (arith, ltb-true m k f))))
+    (λ f. rw (f, le-ltb m (k + 1) (past (λ q. o q z) (ltb-false m k f)))))
+    (λ e. rw (e, and-false (ltb m k), and-false (ltb m (k + 1))))
+  where
+    past : {k m : ℕ} → (m ≡ k → ⊥) → k ≤ m → k + 1 ≤ m
+    past ne nl = omega arith
+
+one-more : (k m i : ℕ) → upd (settings k) k 0 freshNode m i ≡ settings (k + 1) m i
+one-more k m i =
+    place k 0 m i
+    (λ d e. upd-hit (settings k) k 0 freshNode m i d e ∙ rw (lt-ltb m (k + 1) (omega arith), lt-ltb i 1 (omega arith)))
+    (λ o. upd-miss (settings k) k 0 freshNode m i o ∙ as-before k m i o)
+
+pub settle-next : (k n : ℕ) → withNode (freshTo k n) k freshNode ≡ freshTo (k + 1) n
+settle-next k n =
+    λ j. record {
+      nodes = n;
+      own = λ m i. one-more k m i j;
+      links = freshTo k n .links;
+      ports = freshTo k n .ports;
+      tiles = freshTo k n .tiles;
+      ends = freshTo k n .ends;
+      units = freshTo k n .units;
+      rest = freshTo k n .rest;
+    }
+
+pub settle-all : (s : Net) (k e n : ℕ) → e ≡ n → k ≤ e → e ≤ k → s ≡ freshTo k e → s ≡ freshNet n
+settle-all s k e n q h g z =
+    let d : k ≡ e = omega arith in z ∙ ap (λ (m : ℕ). freshTo m e) d ∙ ap freshNet q
+
+-- a state of which nothing is left over after its last node, cleared
+cleared-view : (ws : List ℕ) → view ws .rest ≡ [] → view (replicate (length ws) 0) ≡ freshTo 0 (view ws .nodes)
+unfolding view
+cleared-view ws h =
+    let r : length ws - nodesIn ws * stride ≡ 0 = sym (length-drop (nodesIn ws * stride) ws) ∙ ap length h in
+    let e : length ws ≡ nodesIn ws * stride = omega arith in
+    ap (λ (l : ℕ). view (replicate l 0)) e ∙ zero-view (nodesIn ws)
+
+module _ (ws zs : List ℕ) (h : view ws .rest ≡ []) (e : zs ≡ replicate (length ws) 0) where
+  zeroed : view zs ≡ freshTo 0 (view ws .nodes)
+  zeroed = ap view e ∙ cleared-view ws h
+
+  pub nodes-kept : view zs .nodes ≡ view ws .nodes
+  nodes-kept = ap (λ (s : Net). s .nodes) zeroed
+
+  pub ready : view zs ≡ freshTo 0 (view zs .nodes)
+  ready = zeroed ∙ ap (freshTo 0) (sym nodes-kept)

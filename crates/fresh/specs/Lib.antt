@@ -1,0 +1,2 @@
+-- The definition that the contract of Fresh cites.
+pub mod Fresh
