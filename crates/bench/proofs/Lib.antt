@@ -3,3 +3,4 @@ pub mod Lifted
 pub mod Applied
 pub mod Numbers
 pub mod Cabled
+pub mod Started

@@ -1,4 +1,4 @@
--- A link's credit with a grant is a number of 32 bits. Assumes nothing.
+-- A grant to a link is one of four, and its credit with it is a number of 32 bits. Assumes nothing.
 use Prim.Native.Nat.{ℕ, _+_, _<_, _≤_, _^_}
 use mathlib.Core.Path.{_≡_}
 use native.Mathlib.Omega.{arith}
@@ -6,11 +6,12 @@ use mathlib.Core.Logic.{⊎-elim}
 use lib.Dec.{eqb}
 use Rattle.laws.specs.Pick.{pick}
 use Rattle.laws.proofs.Order.{by-test, order}
-use Rattle.credits.specs.Grant.{grantOf}
+use Rattle.credits.specs.Grant.{grantOf, Granted, none}
 use Rattle.credits.proofs.Grants.{enough, most}
+use Rattle.credits.proofs.Grants as Rules
 use Rattle.cells.specs.View.{Net}
 use Rattle.cells.specs.declared.link.Link.{Link}
-use Rattle.grants.specs.Grants.{grantTo, farHeld}
+use Rattle.grants.specs.Grants.{grantTo, farHeld, greets, helloGrant}
 
 -- there is no grant from credit 8 on, and none is above 64
 given-fits : (c h : ℕ) → c < 2 ^ 32 → c + grantOf c h < 2 ^ 32
@@ -22,3 +23,15 @@ credit-fits s k g e h =
     rw e (by-test (eqb (k .greeted) 1)
     (λ t. rw t (given-fits (k .credit) (farHeld s k) h))
     (λ t. rw t (omega arith)))
+
+one-of-four : (s : Net) (k : Link) → Granted (grantTo s k)
+unfolding grantTo
+one-of-four s k =
+    by-test (eqb (k .greeted) 1)
+    (λ e. rw e (Rules.granted (k .credit) (farHeld s k)))
+    (λ e. rw e none)
+
+-- "The answer to HELLO gives the grant": 0, 8, 16 or 64
+pub hello-granted : (s : Net) (n l : ℕ) → Granted (helloGrant s n l)
+unfolding helloGrant
+hello-granted s n l = one-of-four (greets s n l) (greets s n l .links n l)

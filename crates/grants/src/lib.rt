@@ -90,8 +90,9 @@ fn silence_far(st: &mut [u32], f: Far)
     match f {
         Far::Nowhere => {}
         Far::At(m, j) => {
-            let far = silence(link::at(st, m, j));
-            link::put(st, m, j, far);
+            let before = link::at(st, m, j);
+            let after = silence(before);
+            link::put(st, m, j, after);
         }
     }
 }

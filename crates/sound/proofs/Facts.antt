@@ -1,7 +1,7 @@
 -- What a sound state hands to a call, clause by clause, so that no proof above opens one. Assumes nothing.
 use Prim.Native.Nat.{ℕ, _+_, _*_, _/_, _<_, _≤_}
 use mathlib.Core.Bool.{true, false}
-use mathlib.Core.Logic.{_⊎_}
+use mathlib.Core.Logic.{_⊎_, ⊎-elim}
 use mathlib.Core.Path.{_≡_, ap}
 use native.Mathlib.Omega.{arith}
 use lib.Dec.{lit≤}
@@ -62,6 +62,13 @@ module _ (w : World) (s : sound w ≡ true) where
 
     pub greeting-facts : (l : ℕ) → l < links → (w .net .links n l .greeted ≡ 1 → ⊥) ⊎ ((w .net .links n l .enabled ≡ 1) × Hears (w .net) (w .net .links n l))
     greeting-facts l h = greetings (w .net) n l .sure (sound-at w s 7 n l (lit≤ tt) hn h)
+
+    -- "A disabled link's credit is 0 and ungreeted."
+    pub disabled-facts : (l : ℕ) → l < links → (w .net .links n l .enabled ≡ 1 → ⊥)
+        → (w .net .links n l .credit ≡ 0) × (w .net .links n l .greeted ≡ 1 → ⊥)
+    disabled-facts l h off =
+        let quiet : w .net .links n l .greeted ≡ 1 → ⊥ = λ g. ⊎-elim (λ z. z g) (λ z. off (z .0)) (greeting-facts l h) in
+        (⊎-elim (λ z. z) (λ g. absurd (quiet g)) (credit-facts l h), quiet)
 
     pub room-facts : (l : ℕ) → l < links → (m : Slot) (k : ℕ) → farOf (w .net .links n l) ≡ At m k
         → w .net .links n l .credit + w .net .ports (m .0) k .counters .held ≤ capacity
