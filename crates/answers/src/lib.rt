@@ -6,10 +6,12 @@ ghost use Rattle.answers.specs.Answer.{numberOf};
 pub enum Answer {
     // refused, by the paper's number: nothing is changed
     No(u8),
-    // Fresh, Wire and Set, but for HELLO
+    // Fresh, Wire, Set (but for HELLO), Aim and Output
     Done,
     // "The answer to HELLO gives the grant."
     Granted(u32),
+    // Input: the value of the token
+    Token(u8),
 }
 
 // The paper's number of a refusal, 0 for none.
@@ -20,5 +22,6 @@ pub fn number(a: Answer) -> u8
         Answer::No(n) => n,
         Answer::Done => 0,
         Answer::Granted(_) => 0,
+        Answer::Token(_) => 0,
     }
 }

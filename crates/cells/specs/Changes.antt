@@ -1,9 +1,13 @@
 -- A record with one part changed.
 use Prim.Native.Nat.{ℕ}
+use mathlib.Core.List.{List}
 use Rattle.circuits.specs.declared.Circuit.{Circuit}
+use Rattle.ports.specs.declared.Counters.{Counters}
 use Rattle.routing.specs.declared.direction.Directions.{Directions}
 use Rattle.cells.specs.declared.node.Node.{Node}
 use Rattle.cells.specs.declared.link.Link.{Link}
+use Rattle.cells.specs.declared.port.Port.{Port}
+use Rattle.cells.specs.declared.end.End.{End}
 
 abbrev pub numberedAs : Node → ℕ → Node
 numberedAs k v = record { number = v; width = k .width; directions = k .directions }
@@ -37,3 +41,33 @@ greetedAs k v =
 abbrev pub creditAs : Link → ℕ → Link
 creditAs k v =
     record { wired = k .wired; «far_slot» = k .«far_slot»; «far_link» = k .«far_link»; enabled = k .enabled; direction = k .direction; network = k .network; greeted = k .greeted; credit = v; user = k .user }
+
+abbrev pub countersAs : Port → Counters → Port
+countersAs k v =
+    record { counters = v; circuit = k .circuit; tile = k .tile; network = k .network; sender = k .sender }
+
+abbrev pub portNetworkAs : Port → ℕ → Port
+portNetworkAs k v =
+    record { counters = k .counters; circuit = k .circuit; tile = k .tile; network = v; sender = k .sender }
+
+abbrev pub senderAs : Port → Circuit → Port
+senderAs k v =
+    record { counters = k .counters; circuit = k .circuit; tile = k .tile; network = k .network; sender = v }
+
+-- a destination: what it is, number, channel and network
+abbrev pub aimAs : End → ℕ → ℕ → ℕ → ℕ → End
+aimAs k a m c v =
+    record { aim = a; number = m; channel = c; network = v; sending = k .sending; claim = k .claim; held = k .held; tokens = k .tokens }
+
+abbrev pub sendingAs : End → Circuit → End
+sendingAs k v =
+    record { aim = k .aim; number = k .number; channel = k .channel; network = k .network; sending = v; claim = k .claim; held = k .held; tokens = k .tokens }
+
+abbrev pub claimAs : End → Circuit → End
+claimAs k v =
+    record { aim = k .aim; number = k .number; channel = k .channel; network = k .network; sending = k .sending; claim = v; held = k .held; tokens = k .tokens }
+
+-- what a channel-end holds: how many, and the words
+abbrev pub heldAs : End → ℕ → List ℕ → End
+heldAs k h ts =
+    record { aim = k .aim; number = k .number; channel = k .channel; network = k .network; sending = k .sending; claim = k .claim; held = h; tokens = ts }

@@ -1,5 +1,6 @@
 -- "its number is the 16-bit identifier written into its switch"
 use Prim.Native.Nat.{ℕ, _+_, _*_, _/_, _%_}
+use mathlib.Core.Bool.{Bool, true, false}
 use lib.Dec.{ltb}
 use Rattle.laws.specs.Pick.{pick}
 use Rattle.names.specs.declared.NodeNumber.{NodeNumber}
@@ -9,6 +10,13 @@ use Rattle.names.specs.declared.Ranged.the-variants.{Number, OutOfRange}
 -- a wide value as a number, if it is one
 abbrev pub ranged : ℕ → Ranged
 ranged v = pick (ltb v 65536) (Number (record { 0 = v })) OutOfRange
+
+abbrev pub isRanged : Ranged → Bool
+isRanged (Number n) = true
+isRanged OutOfRange = false
+
+abbrev pub isNumber : ℕ → Bool
+isNumber v = isRanged (ranged v)
 
 -- "number high byte, number low byte"
 abbrev pub highByte : NodeNumber → ℕ

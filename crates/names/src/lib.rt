@@ -4,7 +4,7 @@ pub mod no;
 pub mod size;
 
 ghost use mathlib.Core.Path.{_≡_};
-ghost use Rattle.names.specs.Number.{ranged, ofBytes, highByte, lowByte};
+ghost use Rattle.names.specs.Number.{ranged, isNumber, ofBytes, highByte, lowByte};
 
 // A node's place in the bench's table. As the argument of a call it may be any number: a slot that
 // is not there is NoSuch.
@@ -46,5 +46,15 @@ impl NodeNumber {
         ensures { λ r. ⌜ r ≡ lowByte self ⌝ }
     {
         (self.0 % 256) as u8
+    }
+}
+
+// A wide value is a number.
+pub fn is_number(value: u32) -> bool
+    ensures { λ r. ⌜ r ≡ isNumber value ⌝ }
+{
+    match NodeNumber::of(value) {
+        Ranged::Number(_) => true,
+        Ranged::OutOfRange => false,
     }
 }

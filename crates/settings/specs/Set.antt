@@ -7,9 +7,7 @@ use lib.Dec.{eqb, ltb, leb}
 use Rattle.laws.specs.Pick.{pick}
 use Rattle.names.specs.Size.{links, networks, directions, bits}
 use Rattle.names.specs.No.{NoSuch, Value, Busy}
-use Rattle.names.specs.Number.{ranged}
-use Rattle.names.specs.declared.Ranged.{Ranged}
-use Rattle.names.specs.declared.Ranged.the-variants as Ranges
+use Rattle.names.specs.Number.{isNumber}
 use Rattle.routing.specs.Direction.{withEntry}
 use Rattle.answers.specs.Rows.{Row, row}
 use Rattle.answers.specs.Out.{Out, out, attempt}
@@ -35,14 +33,6 @@ linkThere (LinkDirection l v) = ltb l links
 linkThere (Network l v) = ltb l links
 linkThere (Enable l v) = ltb l links
 linkThere (Hello l) = ltb l links
-
--- "number is the 16-bit identifier"
-abbrev pub isRanged : Ranged → Bool
-isRanged (Ranges.Number n) = true
-isRanged Ranges.OutOfRange = false
-
-abbrev pub isNumber : ℕ → Bool
-isNumber v = isRanged (ranged v)
 
 -- "Value: a setting or direction bit out of range"
 abbrev pub inRange : Setting → Bool

@@ -5,9 +5,8 @@ use cells::link::Far;
 use cells::link::far_of;
 use cells::node;
 use cells::port;
-use names::NodeNumber;
-use names::Ranged;
 use names::Slot;
+use names::is_number;
 use names::no::BUSY;
 use names::no::NO_SUCH;
 use names::no::VALUE;
@@ -18,7 +17,7 @@ use names::size::NETWORKS;
 ghost use mathlib.Core.Path.{_≡_};
 ghost use Rattle.answers.specs.Rows.{refusal};
 ghost use Rattle.cells.specs.View.{view};
-ghost use Rattle.settings.specs.Set.{linkThere, isNumber, inRange, endInUse, farInUse, inUse, changesNetwork, disablesBusy, helloBusy, setBusy, setRows};
+ghost use Rattle.settings.specs.Set.{linkThere, inRange, endInUse, farInUse, inUse, changesNetwork, disablesBusy, helloBusy, setBusy, setRows};
 
 // The link that is set is there, if a link is.
 fn link_there(x: Setting) -> bool
@@ -32,15 +31,6 @@ fn link_there(x: Setting) -> bool
         Setting::Network(l, _) => l < LINKS,
         Setting::Enable(l, _) => l < LINKS,
         Setting::Hello(l) => l < LINKS,
-    }
-}
-
-fn is_number(value: u32) -> bool
-    ensures { λ r. ⌜ r ≡ isNumber value ⌝ }
-{
-    match NodeNumber::of(value) {
-        Ranged::Number(_) => true,
-        Ranged::OutOfRange => false,
     }
 }
 

@@ -1,7 +1,7 @@
--- `settings::refused::is_number` meets its contract. Assumes nothing.
+-- `names::is_number` meets its contract. Assumes nothing.
 use borrow.Author.Needs.{needs}
-use Rattle.settings.proofs.refused.is_number.Statement.{statement}
-use Rattle.settings.proofs.refused.is_number.Tie as tie
+use Rattle.names.proofs.is_number.Statement.{statement}
+use Rattle.names.proofs.is_number.Tie as tie
 
 returns : tie.Need-returns
 returns c = rw (← c .before .before .of .ensures, c .enum-told .given .1)

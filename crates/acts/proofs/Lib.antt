@@ -1,0 +1,2 @@
+-- Laws of the acts.
+pub mod Pushes

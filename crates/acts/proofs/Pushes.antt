@@ -1,0 +1,48 @@
+-- Room before and after an act. Assumes nothing.
+use Prim.Native.Nat.{ℕ, _+_, _%_, _<_, _≤_}
+use mathlib.Core.Path.{_≡_, refl, sym, ap, _∙_}
+use mathlib.Core.Bool.{Bool, true, false}
+use mathlib.Core.Logic.{⊎-elim}
+use native.Mathlib.Omega.{arith}
+use lib.ListN.{length, set, length-set}
+use Rattle.laws.proofs.Order.{clash}
+use Rattle.laws.proofs.Table.{upd-same}
+use Rattle.names.specs.Size.{endBuffer}
+use Rattle.tokens.specs.Word.{isPause}
+use Rattle.ports.specs.Queue.{capacity, Fair, putCounters}
+use Rattle.ports.specs.Memory.{place}
+use Rattle.ports.specs.declared.Counters.{Counters}
+use Rattle.cells.specs.View.{Net}
+use Rattle.cells.specs.World.{World}
+use Rattle.cells.specs.Changes.{countersAs}
+use Rattle.cells.specs.declared.port.Port.{Port}
+use Rattle.cells.specs.declared.end.End.{End}
+use Rattle.acts.specs.Acts.{Room, pushed, Keeps}
+
+-- room for k is room for less
+pub less : {w : World} {n p : ℕ} (k j : ℕ) → j ≤ k → Room w n p k → Room w n p j
+less k j h r = record { node = r .node; port = r .port; fair = r .fair; room = omega (arith, r .room); reaches = r .reaches }
+
+module _ (w : World) (n p t : ℕ) where
+  pub pushed-counters : pushed w n p t .net .ports n p .counters ≡ putCounters (w .net .ports n p .counters)
+  unfolding pushed
+  pushed-counters = ap (λ (k : Port). k .counters) (upd-same (w .net .ports) n p _)
+
+  pub room-left : (k : ℕ) → Room w n p (k + 1) → Room (pushed w n p t) n p k
+  unfolding pushed
+  room-left k r =
+      record {
+        node = r .node;
+        port = r .port;
+        fair = rw (pushed-counters) (record { head-in = r .fair .head-in; held-in = omega (arith, r .room) });
+        room = rw (pushed-counters) (omega (arith, r .room));
+        reaches = rw (length-set (w .memory) (place n p + (w .net .ports n p .counters .head + w .net .ports n p .counters .held) % capacity) t) (r .reaches);
+      }
+
+-- .. where the world after the push is known by an equation
+pub room-after : (w z : World) (n p t k : ℕ) → z ≡ pushed w n p t → Room w n p (k + 1) → Room z n p k
+room-after w z n p t k e r = rw e (room-left w n p t k r)
+
+-- a channel-end that is to keep a token that is no PAUSE has room for it
+pub holds : (k : End) (t : ℕ) (b : Bool) → Keeps k t → b ≡ isPause t → b ≡ false → k .held < endBuffer
+holds k t b m e f = ⊎-elim (λ p. clash (sym p ∙ sym e ∙ f)) (λ h. h) m

@@ -1,0 +1,2 @@
+-- The definitions of the acts that calls are composed of.
+pub mod Acts

@@ -1,0 +1,124 @@
+// What the calls are composed of: each act changes one record, and at most one word of token memory.
+use cells::end;
+use cells::end::End;
+use cells::node;
+use cells::port;
+use circuits::Circuit;
+use names::NodeNumber;
+use names::Slot;
+use ports::put_at;
+use tokens::header::Header;
+use tokens::header::Width;
+use tokens::word::closes;
+use tokens::word::is_pause;
+ghost use mathlib.Core.Path.{_≡_};
+ghost use Prim.Native.Nat.{_<_};
+ghost use Rattle.names.specs.Size.{ports, ends};
+ghost use Rattle.tokens.specs.Header.{words};
+ghost use Rattle.cells.specs.View.{view, withEnd, withPort};
+ghost use Rattle.cells.specs.World.{world};
+ghost use Rattle.cells.specs.Changes.{sendingAs, senderAs, portNetworkAs};
+ghost use Rattle.acts.specs.Acts.{widthAt, numberAt, Room, pushed, pushedAll, still, Keeps, kept};
+
+// The width of a node's headers, at this moment.
+pub fn width_at(st: &[u32], slot: Slot) -> Width
+    ensures { λ r. ⌜ r ≡ widthAt (view (now (st .entry))) (slot .0) ⌝ }
+{
+    let k = node::at(st, slot);
+    if k.width == 1 {
+        return Width::One;
+    }
+    Width::Three
+}
+
+// A node's number.
+pub fn number_at(st: &[u32], slot: Slot) -> NodeNumber
+    requires { ⌜ view (now st) .own (slot .0) 0 .number < 65536 ⌝ }
+    ensures { λ r. ⌜ r ≡ numberAt (view (now (st .entry))) (slot .0) ⌝ }
+{
+    let k = node::at(st, slot);
+    NodeNumber(k.number as u16)
+}
+
+// Puts a token into a port, behind those held.
+pub fn push(st: &mut [u32], mem: &mut [u16], slot: Slot, p: usize, word: u16)
+    requires { ⌜ Room (world (now st) (now mem)) (slot .0) p 1 ⌝ }
+    ensures { λ r. ⌜ world (now (st .exit)) (now (mem .exit)) ≡ pushed (world (now (st .entry)) (now (mem .entry))) (slot .0) p word ⌝ }
+{
+    let mut k = port::at(st, slot, p);
+    k.counters = put_at(k.counters, mem, slot, p, word);
+    port::put(st, slot, p, k);
+}
+
+// Puts a header's words into a port, in order.
+pub fn push_header(st: &mut [u32], mem: &mut [u16], slot: Slot, p: usize, h: Header)
+    requires { ⌜ Room (world (now st) (now mem)) (slot .0) p 3 ⌝ }
+    ensures { λ r. ⌜ world (now (st .exit)) (now (mem .exit)) ≡ pushedAll (world (now (st .entry)) (now (mem .entry))) (slot .0) p (words h) ⌝ }
+{
+    match h {
+        Header::Narrow => {}
+        Header::One(a) => push(st, mem, slot, p, a),
+        Header::Three(a, b, c) => {
+            push(st, mem, slot, p, a);
+            push(st, mem, slot, p, b);
+            push(st, mem, slot, p, c);
+        }
+    }
+}
+
+// A circuit that is open until its END or PAUSE: nobody where this word closes it.
+pub fn still(word: u16, x: Circuit) -> Circuit
+    ensures { λ r. ⌜ r ≡ still word x ⌝ }
+{
+    if closes(word) {
+        return Circuit { kind: 0, index: 0 };
+    }
+    x
+}
+
+// A channel-end that is handed a token: it keeps every one but PAUSE. Its buffer has room for those.
+pub fn keep(k: End, word: u16) -> End
+    requires { ⌜ Keeps k word ⌝ }
+    ensures { λ r. ⌜ r ≡ kept k word ⌝ }
+{
+    if is_pause(word) {
+        return k;
+    }
+    let mut j = k;
+    let mut t = k.tokens;
+    let i = k.held as usize;
+    t[i] = word as u32;
+    j.tokens = t;
+    j.held = k.held + 1;
+    j
+}
+
+// Where a channel-end's open circuit goes.
+pub fn set_sending(st: &mut [u32], slot: Slot, c: usize, x: Circuit)
+    requires { ⌜ (slot .0 < view (now st) .nodes) × (c < ends) ⌝ }
+    ensures { λ r. ⌜ view (now (st .exit)) ≡ withEnd (view (now (st .entry))) (slot .0) c (sendingAs (view (now (st .entry)) .ends (slot .0) c) x) ⌝ }
+{
+    let mut k = end::at(st, slot, c);
+    k.sending = x;
+    end::put(st, slot, c, k);
+}
+
+// The channel-end whose open circuit goes by a port.
+pub fn set_sender(st: &mut [u32], slot: Slot, p: usize, x: Circuit)
+    requires { ⌜ (slot .0 < view (now st) .nodes) × (p < ports) ⌝ }
+    ensures { λ r. ⌜ view (now (st .exit)) ≡ withPort (view (now (st .entry))) (slot .0) p (senderAs (view (now (st .entry)) .ports (slot .0) p) x) ⌝ }
+{
+    let mut k = port::at(st, slot, p);
+    k.sender = x;
+    port::put(st, slot, p, k);
+}
+
+// The network of the circuit that has taken a port.
+pub fn set_network(st: &mut [u32], slot: Slot, p: usize, v: u32)
+    requires { ⌜ (slot .0 < view (now st) .nodes) × (p < ports) ⌝ }
+    ensures { λ r. ⌜ view (now (st .exit)) ≡ withPort (view (now (st .entry))) (slot .0) p (portNetworkAs (view (now (st .entry)) .ports (slot .0) p) v) ⌝ }
+{
+    let mut k = port::at(st, slot, p);
+    k.network = v;
+    port::put(st, slot, p, k);
+}

@@ -1,0 +1,88 @@
+-- What the steps of an Output come to, from the contracts of the functions that make them. Assumes nothing.
+use Prim.{tt}
+use Prim.Native.Nat.{ℕ, _+_, _<_, _≤_}
+use mathlib.Core.Path.{_≡_, refl, sym, ap, _∙_}
+use mathlib.Core.List.{List, [], _∷_}
+use lib.Dec.{lit≤}
+use Rattle.names.specs.Size.{ports, ends}
+use Rattle.tokens.specs.Header.{headerOf, words}
+use Rattle.tokens.specs.declared.header.Header.{Header}
+use Rattle.tokens.specs.declared.header.Header.the-variants as H
+use Rattle.tokens.specs.declared.header.Target.{Target}
+use Rattle.circuits.specs.Circuit.{ofPeer}
+use Rattle.circuits.specs.declared.Circuit.{Circuit}
+use Rattle.circuits.specs.declared.Peer.the-variants as Peers
+use Rattle.cells.specs.View.{Net, withEnd}
+use Rattle.cells.specs.Changes.{claimAs, sendingAs}
+use Rattle.cells.specs.declared.end.End.{End}
+use Rattle.cells.specs.World.{World}
+use Rattle.acts.specs.Acts.{Room, pushed, pushedAll, widthAt, kept, still}
+use Rattle.acts.proofs.Pushes.{less, room-left}
+use Rattle.ends.specs.Output.{goesBy, networked, opensBy, goesBehind, claims, goesStraight}
+
+-- a push leaves the number of nodes
+pushed-nodes : (w : World) (n p t : ℕ) → pushed w n p t .net .nodes ≡ w .net .nodes
+unfolding pushed
+pushed-nodes w n p t = refl
+
+all-nodes : (w : World) (n p : ℕ) (ts : List ℕ) → pushedAll w n p ts .net .nodes ≡ w .net .nodes
+all-nodes w n p [] = refl
+all-nodes w n p (t ∷ ts) = all-nodes (pushed w n p t) n p ts ∙ pushed-nodes w n p t
+
+-- a header leaves room for the token behind it
+pub room-header : (w z : World) (n p : ℕ) (h : Header) → Room w n p 4 → z ≡ pushedAll w n p (words h) → Room z n p 1
+room-header w z n p H.Narrow r e = rw e (less 4 1 (lit≤ tt) r)
+room-header w z n p (H.One a) r e = rw e (less 3 1 (lit≤ tt) (room-left w n p a 3 r))
+room-header w z n p (H.Three a b c) r e =
+    rw e (room-left (pushed (pushed w n p a) n p b) n p c 1 (room-left (pushed w n p a) n p b 2 (room-left w n p a 3 r)))
+
+-- what a circuit that goes by a port asks of the state after a push
+pub ready-behind : (w : World) (s : Net) (m : List ℕ) (n p t : ℕ) → record { net = s; memory = m } ≡ pushed w n p t → n < w .net .nodes → n < s .nodes
+ready-behind w s m n p t e h = rw (ap (λ (z : World). z .net .nodes) e ∙ pushed-nodes w n p t) h
+
+pub ready-opened : (w : World) (s : Net) (m : List ℕ) (n p t : ℕ) (ts : List ℕ) → record { net = s; memory = m } ≡ pushed (pushedAll w n p ts) n p t
+    → n < w .net .nodes
+    → n < s .nodes
+ready-opened w s m n p t ts e h =
+    rw (ap (λ (z : World). z .net .nodes) e ∙ pushed-nodes (pushedAll w n p ts) n p t ∙ all-nodes w n p ts) h
+
+pub behind-gives : (w : World) (s z : Net) (m : List ℕ) (n c p t : ℕ) → record { net = s; memory = m } ≡ pushed w n p t
+    → z ≡ goesBy s n c p t
+    → record { net = z; memory = m } ≡ goesBehind w n c p t
+behind-gives w s z m n c p t e h =
+    λ j. record {
+      net = (h ∙ ap (λ (y : World). goesBy (y .net) n c p t) e) j;
+      memory = ap (λ (y : World). y .memory) e j;
+    }
+
+pub opens-gives : (w : World) (s y z : Net) (m : List ℕ) (n c p t v : ℕ) (g : Target) (h : Header)
+    → h ≡ headerOf g (widthAt (w .net) n)
+    → v ≡ w .net .ends n c .network
+    → record { net = s; memory = m } ≡ pushed (pushedAll w n p (words h)) n p t
+    → y ≡ networked s n p v
+    → z ≡ goesBy y n c p t
+    → record { net = z; memory = m } ≡ opensBy w n c g p t
+opens-gives w s y z m n c p t v g h a b e d f =
+    let q : record { net = s; memory = m } ≡ pushed (pushedAll w n p (words (headerOf g (widthAt (w .net) n)))) n p t =
+    e ∙ ap (λ (k : Header). pushed (pushedAll w n p (words k)) n p t) a in
+    λ j. record {
+      net = (f ∙ ap (λ (x : Net). goesBy x n c p t) (d ∙ ap (networked s n p) b) ∙ ap (λ (x : World). goesBy (networked (x .net) n p (w .net .ends n c .network)) n c p t) q) j;
+      memory = ap (λ (x : World). x .memory) q j;
+    }
+
+pub straight-gives : (s y z : Net) (n c d t : ℕ) (k far : End) (a b : Circuit)
+    → k ≡ s .ends n d
+    → far ≡ kept k t
+    → a ≡ still t (ofPeer (Peers.End c))
+    → y ≡ withEnd s n d (claimAs far a)
+    → b ≡ still t (ofPeer (Peers.End d))
+    → z ≡ withEnd y n c (sendingAs (y .ends n c) b)
+    → z ≡ goesStraight s n c d t
+straight-gives s y z n c d t k far a b hk hf ha hy hb hz =
+    let q : y ≡ claims s n c d t =
+    hy
+    ∙ ap (λ (x : End). withEnd s n d (claimAs x a)) (hf ∙ ap (λ (x : End). kept x t) hk)
+    ∙ ap (λ (x : Circuit). withEnd s n d (claimAs (kept (s .ends n d) t) x)) ha in
+    hz
+    ∙ ap (λ (x : Circuit). withEnd y n c (sendingAs (y .ends n c) x)) hb
+    ∙ ap (λ (x : Net). withEnd x n c (sendingAs (x .ends n c) (still t (ofPeer (Peers.End d))))) q

@@ -1,0 +1,3 @@
+-- Laws of Aim, Output and Input.
+pub mod There
+pub mod Carried

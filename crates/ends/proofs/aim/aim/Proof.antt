@@ -1,0 +1,38 @@
+-- `ends::aim::aim` meets its contract. Assumes nothing.
+use mathlib.Core.Path.{sym, _∙_}
+use borrow.Author.Needs.{needs}
+use Rattle.answers.specs.Out.{out}
+use Rattle.answers.specs.declared.Answer.the-variants.{Done}
+use Rattle.answers.proofs.Refusals.{refuses, goes-on}
+use Rattle.cells.specs.View.{view}
+use Rattle.ends.specs.Aim.{aimRows, aimMade, aim}
+use Rattle.ends.proofs.There.{aim-there}
+use Rattle.ends.proofs.aim.aim.Statement.{statement}
+use Rattle.ends.proofs.aim.aim.Tie as tie
+
+returns : tie.Need-returns
+unfolding aim
+returns c = let a = c .before .before .before .before .args in refuses (aimRows (view (a .st .now)) (a .slot .0) (a .c) (a .g) (a .network)) _ _ _ (c .before .aim-no .ensures) (c .if1 .taken)
+
+put-requires : tie.Need-put-requires
+put-requires c κs = let a = c .before .before .before .before .before .before .before .before .args in aim-there (view (a .st .now)) (a .slot .0) (a .c) (a .g) (a .network) (sym (c .before .before .before .before .before .aim-no .ensures) ∙ c .before .before .before .before .if1 .left)
+
+returns-2 : tie.Need-returns-2
+unfolding aim
+returns-2 c = 
+    let a = c .before .before .before .before .before .before .before .before .before .before .before .args in
+    goes-on (aimRows (view (a .st .now)) (a .slot .0) (a .c) (a .g) (a .network)) _ (out Done (aimMade (view (a .st .now)) (a .slot .0) (a .c) (a .g) (a .network))) _ (c .before .before .before .before .before .before .before .before .aim-no .ensures) (c .before .before .before .before .before .before .before .if1 .left)
+    (rw (c .before .before .put .ensures, c .before .before .before .before .aimed-at .ensures, c .before .before .before .before .before .at .ensures))
+
+pub aim-spec : {M : Type 1} → statement M
+aim-spec =
+    tie.close
+    (tie.spec
+    (λ c κs. search needs)
+    (λ c. search needs)
+    returns
+    (λ c κs. search needs)
+    (λ c κs. search needs)
+    put-requires
+    (λ c. search needs)
+    returns-2)

@@ -1,0 +1,86 @@
+-- What an Output is to do (document 01, "Calls" and 9, 10 of "Numbers for no"): read off the state, with nothing changed.
+use Prim.Native.Nat.{ℕ, _-_, _<_}
+use mathlib.Core.Path.{_≡_}
+use mathlib.Core.Bool.{Bool, not, _&&_}
+use lib.Dec.{eqb, leb}
+use Rattle.laws.specs.Pick.{pick}
+use Rattle.laws.specs.All.{failing}
+use Rattle.names.specs.Size.{links, replyPort, endBuffer, sink}
+use Rattle.circuits.specs.Circuit.{peerOf}
+use Rattle.circuits.specs.declared.Peer.{Peer}
+use Rattle.circuits.specs.declared.Peer.the-variants as Peers
+use Rattle.tokens.specs.Header.{headerOf, isNarrow}
+use Rattle.tokens.specs.Word.{isPause}
+use Rattle.tokens.specs.declared.header.Target.{Target}
+use Rattle.tokens.specs.declared.header.Target.the-variants.{Channel, Unit}
+use Rattle.routing.specs.Way.{wayTo}
+use Rattle.routing.specs.declared.way.Way.{Way}
+use Rattle.routing.specs.declared.way.Way.the-variants.{ThisNode, OtherNode}
+use Rattle.ports.specs.Queue.{capacity}
+use Rattle.cells.specs.View.{Net}
+use Rattle.cells.specs.declared.end.End.{End}
+use Rattle.clauses.specs.Pairs.{taken}
+use Rattle.acts.specs.Acts.{widthAt, numberAt}
+use Rattle.ends.specs.declared.output.Destination.{Destination}
+use Rattle.ends.specs.declared.output.Destination.the-variants.{Unaimed, Aimed}
+use Rattle.ends.specs.declared.plan.Plan.{Plan}
+use Rattle.ends.specs.declared.plan.Plan.the-variants.{Narrow, Full, Opens, Behind, Straight, Forgotten}
+
+-- a channel-end's destination
+abbrev pub targetOf : End → Target
+targetOf k = pick (eqb (k .aim) 1) (Channel (record { 0 = k .number }) (k .channel)) (Unit (record { 0 = k .number }))
+
+abbrev pub destinationOf : End → Destination
+destinationOf k = pick (eqb (k .aim) 0) Unaimed (Aimed (targetOf k))
+
+-- a number of 16 bits and a channel of 8: a sound state has no other
+abbrev pub AimFits : End → Type 0
+AimFits k = (k .number < 65536) × (k .aim ≡ 1 → k .channel < 256)
+
+-- .. while it is aimed
+abbrev pub Fits : End → Type 0
+Fits k = (k .aim ≡ 0 → ⊥) → AimFits k
+
+-- "Otherwise the lowest free port 8..11 is taken"; the reply port where none is free
+abbrev pub lowestFree : Net → ℕ → ℕ
+lowestFree s n = failing (replyPort - links) links (taken s n)
+
+abbrev pub portPlan : Net → ℕ → Plan
+portPlan s n = pick (eqb (lowestFree s n) replyPort) Full (Opens (lowestFree s n))
+
+-- "8 are held and the token is not PAUSE"
+abbrev pub straightPlan : Net → ℕ → ℕ → ℕ → Plan
+straightPlan s n d t = pick (leb endBuffer (s .ends n d .held) && not (isPause t)) Full (Straight d)
+
+-- "locally: another circuit claims the channel, or .. (the sink is never full)"
+abbrev pub channelPlan : Net → ℕ → ℕ → ℕ → Plan
+channelPlan s n c t = pick (eqb c sink) Forgotten (pick (not (eqb (s .ends n c .claim .kind) 0)) Full (straightPlan s n c t))
+
+-- "If the destination matches this node at that width and is a channel, tokens go straight to that channel-end"
+abbrev pub byWay : Net → ℕ → Way → ℕ → ℕ → Plan
+byWay s n ThisNode c t = channelPlan s n c t
+byWay s n (OtherNode b) c t = portPlan s n
+
+abbrev pub targetPlan : Net → ℕ → Target → ℕ → Plan
+targetPlan s n (Channel m c) t = byWay s n (wayTo (widthAt s n) m (numberAt s n)) c t
+targetPlan s n (Unit m) t = portPlan s n
+
+-- "opening at one-byte width towards channel 255 or a control unit"
+abbrev pub openPlan : Net → ℕ → Target → ℕ → Plan
+openPlan s n g t = pick (isNarrow (headerOf g (widthAt s n))) Narrow (targetPlan s n g t)
+
+-- "the taken port holds 64"
+abbrev pub behindPlan : Net → ℕ → ℕ → Plan
+behindPlan s n p = pick (leb capacity (s .ports n p .counters .held)) Full (Behind p)
+
+abbrev pub onPlan : Net → ℕ → ℕ → ℕ → Plan
+onPlan s n d t = pick (eqb d sink) Forgotten (straightPlan s n d t)
+
+-- "The first opens a circuit"; the others go on as it was opened, whatever settings change
+abbrev pub byPeer : Net → ℕ → Peer → Target → ℕ → Plan
+byPeer s n Peers.Nobody g t = openPlan s n g t
+byPeer s n (Peers.Port p) g t = behindPlan s n p
+byPeer s n (Peers.End d) g t = onPlan s n d t
+
+unfoldable pub planOf : Net → ℕ → ℕ → Target → ℕ → Plan
+planOf s n c g t = byPeer s n (peerOf (s .ends n c .sending)) g t

@@ -1,0 +1,90 @@
+// Aim: a channel-end's destination and network.
+use crate::end_at;
+use answers::Answer;
+use cells::end;
+use cells::end::End;
+use names::Slot;
+use names::is_number;
+use names::no::NO_SUCH;
+use names::no::OPEN;
+use names::no::VALUE;
+use names::size::ENDS;
+use names::size::NETWORKS;
+use names::size::SINK;
+ghost use mathlib.Core.Path.{_≡_};
+ghost use Rattle.answers.specs.Rows.{refusal};
+ghost use Rattle.answers.specs.Out.{out};
+ghost use Rattle.cells.specs.View.{view};
+ghost use Rattle.ends.specs.Aim.{goalRanged, aimedAt, aimRows, aim};
+
+// Channels 0..31, beside words of 32 bits.
+const CHANNELS: u32 = ENDS as u32;
+
+// A destination as it is asked for: a channel of a number, or a number's control unit. Values out of
+// range are refused.
+pub enum Goal {
+    Channel(u32, u32),
+    Unit(u32),
+}
+
+// "channel 0..31 or 255", and a number of 16 bits.
+fn goal_ranged(g: Goal) -> bool
+    ensures { λ r. ⌜ r ≡ goalRanged g ⌝ }
+{
+    match g {
+        Goal::Channel(m, c) => is_number(m) & ((c < CHANNELS) | (c == SINK)),
+        Goal::Unit(m) => is_number(m),
+    }
+}
+
+// The number by which Aim is refused, 0 for none.
+fn aim_no(st: &[u32], slot: Slot, c: usize, g: Goal, network: u32) -> u8
+    ensures { λ r. ⌜ r ≡ refusal (aimRows (view (now (st .entry))) (slot .0) c g network) ⌝ }
+{
+    if !end_at(st, slot, c) {
+        return NO_SUCH;
+    }
+    let ranged = goal_ranged(g) & (network < NETWORKS);
+    if !ranged {
+        return VALUE;
+    }
+    let k = end::at(st, slot, c);
+    if k.sending.kind != 0 {
+        return OPEN;
+    }
+    0
+}
+
+// A channel-end with a destination.
+fn aimed_at(k: End, g: Goal, network: u32) -> End
+    ensures { λ r. ⌜ r ≡ aimedAt k g network ⌝ }
+{
+    let mut j = k;
+    j.network = network;
+    match g {
+        Goal::Channel(m, c) => {
+            j.aim = 1;
+            j.number = m;
+            j.channel = c;
+        }
+        Goal::Unit(m) => {
+            j.aim = 2;
+            j.number = m;
+            j.channel = 0;
+        }
+    }
+    j
+}
+
+// Aim, whole: refused by its number with nothing changed, or made.
+pub fn aim(st: &mut [u32], slot: Slot, c: usize, g: Goal, network: u32) -> Answer
+    ensures { λ r. ⌜ out r (view (now (st .exit))) ≡ aim (view (now (st .entry))) (slot .0) c g network ⌝ }
+{
+    let no = aim_no(st, slot, c, g, network);
+    if no != 0 {
+        return Answer::No(no);
+    }
+    let k = aimed_at(end::at(st, slot, c), g, network);
+    end::put(st, slot, c, k);
+    Answer::Done
+}
