@@ -1,3 +1,5 @@
 -- Laws of Aim, Output and Input.
 pub mod There
 pub mod Carried
+pub mod Possibles
+pub mod Sent

@@ -1,28 +1,29 @@
+-- `ends::output::send` meets its contract. Assumes nothing.
+use mathlib.Core.Path.{_∙_}
 use borrow.Author.Needs.{needs}
+use Rattle.cells.specs.World.{world}
+use Rattle.sound.proofs.Facts.{node-facts}
+use Rattle.ends.proofs.Possibles.{plan-possible}
+use Rattle.ends.proofs.Sent.{token-refused, token-passes}
 use Rattle.ends.proofs.output.send.Statement.{statement}
 use Rattle.ends.proofs.output.send.Tie as tie
-use Rattle.ends.proofs.output.send.Reads as reads
-use Rattle.ends.proofs.output.send.Lts as lts
-use Rattle.ends.proofs.output.carry.Reads as carry-reads
-use Rattle.ends.proofs.output.token_no.Reads as token-no-reads
-use Rattle.ends.proofs.output.word_of.Reads as word-of-reads
-use Rattle.ends.proofs.plan.plan_of.Reads as plan-of-reads
 
--- src/output.rt:183:9
 returns : tie.Need-returns
-returns c = ?
+returns c = let a = c .before .before .before .before in token-refused (world (a .args .st .now) (a .args .mem .now)) (a .args .slot .0) (a .args .c) (a .args .g) (a .args .x) _ (c .before .token-no .ensures) (c .if1 .taken)
 
--- src/output.rt:186:9
 plan-of-requires : tie.Need-plan-of-requires
-plan-of-requires c κs = ?
+plan-of-requires c κs = let a = c .before .before .before .before .before .before in node-facts (world (a .args .st .now) (a .args .mem .now)) (a .pre .all) (a .args .slot .0) (a .pre .node) .0
 
--- src/output.rt:187:5
 carry-requires : tie.Need-carry-requires
-carry-requires c κs = ?
+carry-requires c κs = 
+    let a = c .before .before .before .before .before .before .before .before .before in
+    (a .pre .node, a .pre .end, rw (c .before .before .plan-of .ensures) (plan-possible (world (a .args .st .now) (a .args .mem .now)) (a .args .slot .0) (a .args .c) (c .before .before .before .before .word-of .result) (a .args .g) (a .pre)))
 
--- src/output.rt:177:1
 returns-2 : tie.Need-returns-2
-returns-2 c = ?
+returns-2 c = 
+    let a = c .before .before .before .before .before .before .before .before .before .before .before .before .before .before in
+    c .before .before .before .before .carry .ensures
+    ∙ rw (c .before .before .before .before .before .before .before .plan-of .ensures, c .before .before .before .before .before .before .before .before .before .word-of .ensures) (token-passes (world (a .args .st .now) (a .args .mem .now)) (a .args .slot .0) (a .args .c) (a .args .g) (a .args .x) _ (c .before .before .before .before .before .before .before .before .before .before .before .token-no .ensures) (c .before .before .before .before .before .before .before .before .before .before .if1 .left))
 
 pub send-spec : {M : Type 1} → statement M
 send-spec =

@@ -1,20 +1,13 @@
+-- `ends::plan::open_plan` meets its contract. Assumes nothing.
 use borrow.Author.Needs.{needs}
 use Rattle.ends.proofs.plan.open_plan.Statement.{statement}
 use Rattle.ends.proofs.plan.open_plan.Tie as tie
-use Rattle.ends.proofs.plan.open_plan.Reads as reads
-use Rattle.ends.proofs.plan.open_plan.Lts as lts
-use Rattle.acts.proofs.width_at.Reads as width-at-reads
-use Rattle.ends.proofs.plan.is_narrow.Reads as is-narrow-reads
-use Rattle.ends.proofs.plan.target_plan.Reads as target-plan-reads
-use Rattle.tokens.proofs.header.make_header.Reads as make-header-reads
 
--- src/plan.rt:124:9
 returns : tie.Need-returns
-returns c = ?
+returns c = rw (← c .before .before .before .width-at .ensures, ← c .before .before .make-header .ensures, ← c .before .is-narrow .ensures, c .if1 .taken)
 
--- src/plan.rt:119:1
 returns-2 : tie.Need-returns-2
-returns-2 c = ?
+returns-2 c = let e = rw (c .before .before .before .make-header .ensures, c .before .before .before .before .width-at .ensures) at (c .before .before .is-narrow .ensures) in rw (← e, c .before .if1 .left) (c .target-plan .ensures)
 
 pub open-plan-spec : {M : Type 1} → statement M
 open-plan-spec =

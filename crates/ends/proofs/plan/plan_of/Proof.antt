@@ -1,25 +1,20 @@
+-- `ends::plan::plan_of` meets its contract. Assumes nothing.
 use borrow.Author.Needs.{needs}
+use Rattle.ends.specs.Plan.{planOf}
 use Rattle.ends.proofs.plan.plan_of.Statement.{statement}
 use Rattle.ends.proofs.plan.plan_of.Tie as tie
-use Rattle.ends.proofs.plan.plan_of.Reads as reads
-use Rattle.ends.proofs.plan.plan_of.Lts as lts
-use Rattle.cells.proofs.end.at.Reads as at-reads
-use Rattle.circuits.proofs.peer_of.Reads as peer-of-reads
-use Rattle.ends.proofs.plan.behind_plan.Reads as behind-plan-reads
-use Rattle.ends.proofs.plan.on_plan.Reads as on-plan-reads
-use Rattle.ends.proofs.plan.open_plan.Reads as open-plan-reads
 
--- src/plan.rt:151:1
 returns : tie.Need-returns
-returns c = ?
+unfolding planOf
+returns c = rw (← c .before .before .before .before .at .ensures, ← c .before .before .before .peer-of .ensures, c .before .enum-told .given .1) (c .open-plan .ensures)
 
--- src/plan.rt:151:1
 returns-2 : tie.Need-returns-2
-returns-2 c = ?
+unfolding planOf
+returns-2 c = rw (← c .before .before .before .before .before .at .ensures, ← c .before .before .before .before .peer-of .ensures, c .before .before .p .given .1) (c .behind-plan .ensures)
 
--- src/plan.rt:151:1
 returns-3 : tie.Need-returns-3
-returns-3 c = ?
+unfolding planOf
+returns-3 c = rw (← c .before .before .before .before .before .at .ensures, ← c .before .before .before .before .peer-of .ensures, c .before .before .d .given .1) (c .on-plan .ensures)
 
 pub plan-of-spec : {M : Type 1} → statement M
 plan-of-spec =
