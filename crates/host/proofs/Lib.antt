@@ -1,0 +1,2 @@
+-- Laws of the crossing.
+pub mod Shows

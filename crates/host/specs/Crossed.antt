@@ -1,0 +1,29 @@
+-- What stands for an enum, and for a record, on the other side.
+use Prim.Native.Nat.{ℕ, _+_, _*_}
+use mathlib.Core.Bool.{Bool, true, false}
+use mathlib.Core.List.{List}
+use lib.Dec.{eqb}
+use lib.ListN.{length}
+use Rattle.laws.specs.Pick.{pick}
+use Rattle.looks.specs.declared.Seen.{Seen}
+use Rattle.looks.specs.declared.Seen.the-variants.{Token, Nothing}
+
+-- an enum is one number of 64 bits: which case it is in the upper half, the number that the case carries in the lower
+abbrev pub packed : ℕ → ℕ → ℕ
+packed case value = case * 4294967296 + value
+
+abbrev pub seenNumber : Seen → ℕ
+seenNumber Nothing = packed 0 0
+seenNumber (Token word) = packed 1 word
+
+-- what a look at a record leaves: its answer, and the caller's buffer
+pub record Shown : Type 0 where
+  pub answer : Bool
+  pub buffer : List ℕ
+
+abbrev pub shown : Bool → List ℕ → Shown
+shown answer buffer = record { answer = answer; buffer = buffer }
+
+-- a record's words are shown in a buffer that has exactly their number, and any other buffer is left as it is
+unfoldable pub showing : List ℕ → List ℕ → Shown
+showing words buffer = pick (eqb (length buffer) (length words)) (shown true words) (shown false buffer)
