@@ -1,5 +1,5 @@
 // Looks at one direction entry and at one token.
-use looks::Seen;
+use crate::number::seen_number;
 use looks::direction_of;
 use looks::end_token;
 use looks::port_token;
@@ -8,23 +8,7 @@ ghost use mathlib.Core.Path.{_≡_};
 ghost use Rattle.cells.specs.View.{view};
 ghost use Rattle.cells.specs.World.{world};
 ghost use Rattle.looks.specs.Looks.{direction, portToken, endToken};
-ghost use Rattle.host.specs.Crossed.{packed, seenNumber};
-
-// What an enum crosses as: which case it is, and the number that the case carries.
-fn packed(case: u32, value: u32) -> u64
-    ensures { λ r. ⌜ r ≡ packed case value ⌝ }
-{
-    case as u64 * 0x1_0000_0000 + value as u64
-}
-
-fn seen_number(s: Seen) -> u64
-    ensures { λ r. ⌜ r ≡ seenNumber s ⌝ }
-{
-    match s {
-        Seen::Nothing => packed(0, 0),
-        Seen::Token(word) => packed(1, word),
-    }
-}
+ghost use Rattle.host.specs.Crossed.{seenNumber};
 
 #[no_mangle]
 pub extern "C" fn tarvelgyo_direction(st: &[u32], slot: usize, bit: u32) -> u32

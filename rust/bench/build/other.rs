@@ -18,7 +18,10 @@ pub fn build(root: &Path, kit: &Path, target: &str, archive: &Path) {
     let module = out.join("module.bc");
     let tools = tools(kit);
     let _ = fs::remove_file(&module);
-    static_library(root, &keeping_kit(kit, &module, &out.join("kit")));
+    let copy = out.join("kit");
+    keeping_kit(kit, &module, &copy);
+    static_library(root, &copy);
+    let _ = fs::remove_dir_all(&copy);
     assert!(module.is_file(), "the toolchain compiled no module");
     let object = out.join("module.o");
     compile(&tools, target, &module, &object);
@@ -54,7 +57,7 @@ fn compile(tools: &Path, target: &str, module: &Path, object: &Path) {
 }
 
 /// The toolchain once more as links, its compiler replaced by a script that keeps the module.
-fn keeping_kit(kit: &Path, module: &Path, copy: &Path) -> PathBuf {
+fn keeping_kit(kit: &Path, module: &Path, copy: &Path) {
     let _ = fs::remove_dir_all(copy);
     let mut place = PathBuf::new();
     for step in ["on", env::consts::ARCH, "toolchain", "bin", "clang"] {
@@ -70,7 +73,6 @@ fn keeping_kit(kit: &Path, module: &Path, copy: &Path) -> PathBuf {
     );
     fs::write(&script, text).expect("the script that keeps the module");
     fs::set_permissions(&script, fs::Permissions::from_mode(0o755)).expect("an executable script");
-    copy.to_owned()
 }
 
 /// Fills a new folder with links to all that another has, but for one name.

@@ -4,13 +4,16 @@
 //! What is called is the static library that the Rattle toolchain has proved and compiled from `crates/host`;
 //! this crate adds names, enums and ownership, and no rule of the bench. Its parts:
 //!
+//! * [`Bench`]: a network that owns its two memories, with a method for each call;
 //! * [`Looks`]: the state of a network, read through the proved looks alone, with its [digest](Looks::digest);
 //! * [`raw`]: each proved function over the caller's own slices, of any length and contents;
 //! * [`Refusal`]: the paper's numbers for no, with their names.
 
+mod answer;
 mod clause;
 mod digest;
 mod looks;
+mod network;
 mod proved;
 pub mod raw;
 mod records;
@@ -18,8 +21,10 @@ mod refusal;
 pub mod sizes;
 mod token;
 
+pub use answer::Answer;
 pub use clause::Clause;
 pub use looks::Looks;
+pub use network::{Bench, LinkEnd, Setting};
 pub use records::{
     ChannelEnd, Circuit, ControlUnit, Destination, Hop, Link, Node, Peer, Port, TileLink,
 };

@@ -1,6 +1,83 @@
 //! The names that the proved library exports (`crates/host`). Across C a slice is two words: pointer, then length.
 
 extern "C" {
+    pub fn tarvelgyo_fresh(
+        state: *mut u32,
+        words: usize,
+        memory: *mut u16,
+        tokens: usize,
+        nodes: usize,
+    ) -> u64;
+    pub fn tarvelgyo_wire(
+        state: *mut u32,
+        words: usize,
+        memory: *const u16,
+        tokens: usize,
+        slot: usize,
+        link: usize,
+        far_slot: usize,
+        far_link: usize,
+    ) -> u64;
+    pub fn tarvelgyo_set_number(
+        state: *mut u32,
+        words: usize,
+        memory: *const u16,
+        tokens: usize,
+        slot: usize,
+        value: u32,
+    ) -> u64;
+    pub fn tarvelgyo_set_width(
+        state: *mut u32,
+        words: usize,
+        memory: *const u16,
+        tokens: usize,
+        slot: usize,
+        value: u32,
+    ) -> u64;
+    pub fn tarvelgyo_set_direction(
+        state: *mut u32,
+        words: usize,
+        memory: *const u16,
+        tokens: usize,
+        slot: usize,
+        bit: u32,
+        value: u32,
+    ) -> u64;
+    pub fn tarvelgyo_set_link_direction(
+        state: *mut u32,
+        words: usize,
+        memory: *const u16,
+        tokens: usize,
+        slot: usize,
+        link: usize,
+        value: u32,
+    ) -> u64;
+    pub fn tarvelgyo_set_network(
+        state: *mut u32,
+        words: usize,
+        memory: *const u16,
+        tokens: usize,
+        slot: usize,
+        link: usize,
+        value: u32,
+    ) -> u64;
+    pub fn tarvelgyo_set_enable(
+        state: *mut u32,
+        words: usize,
+        memory: *const u16,
+        tokens: usize,
+        slot: usize,
+        link: usize,
+        value: u32,
+    ) -> u64;
+    pub fn tarvelgyo_hello(
+        state: *mut u32,
+        words: usize,
+        memory: *const u16,
+        tokens: usize,
+        slot: usize,
+        link: usize,
+    ) -> u64;
     pub fn tarvelgyo_state_words() -> usize;
     pub fn tarvelgyo_memory_words() -> usize;
     pub fn tarvelgyo_node_count(state: *const u32, words: usize) -> usize;

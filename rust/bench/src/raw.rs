@@ -9,19 +9,198 @@
 //! and `memory`, [`memory_words`] words of 16 bits for each.
 //!
 //! ```
-//! use bench::raw;
+//! use bench::{raw, Answer, Refusal};
 //!
-//! // Words that are no network at all have their answers too.
-//! let (state, memory) = ([7; 1000], [7; 3]);
-//! assert!(!raw::is_sound(&state, &memory));
+//! // Words that are no network at all have their answers too, and are left as they are.
+//! let (mut state, mut memory) = ([7; 1000], [7; 3]);
 //! assert_eq!(raw::unsound_clause(&state, &memory), 1);
 //! assert_eq!(raw::node_count(&state), 1);
+//! assert_eq!(raw::hello(&mut state, &memory, 0, 0), Answer::No(Refusal::Unsound));
+//! assert_eq!(raw::fresh(&mut state, &mut memory, 1), Answer::No(Refusal::Unsound));
+//! assert_eq!((state, memory), ([7; 1000], [7; 3]));
+//!
+//! // Two memories of the right lengths become a network of one node, in place.
+//! let (mut state, mut memory) = (vec![7; raw::state_words()], vec![7; raw::memory_words()]);
+//! assert_eq!(raw::fresh(&mut state, &mut memory, 1), Answer::Done);
+//! assert!(raw::is_sound(&state, &memory));
 //! ```
 
+use crate::answer::{parts, Answer};
 use crate::proved;
 
 // SAFETY, of every call below: the slices are borrowed while the call lasts, each goes over with its own length, and
 // the function, which has no `requires`, is proved to read and write nothing beyond.
+
+/// Fresh: a network of so many nodes, whatever the memories held.
+pub fn fresh(state: &mut [u32], memory: &mut [u16], nodes: usize) -> Answer {
+    // SAFETY: as said above.
+    answered(unsafe {
+        proved::tarvelgyo_fresh(
+            state.as_mut_ptr(),
+            state.len(),
+            memory.as_mut_ptr(),
+            memory.len(),
+            nodes,
+        )
+    })
+}
+
+/// Wire: a cable between a link of one slot and a link of another.
+pub fn wire(
+    state: &mut [u32],
+    memory: &[u16],
+    slot: usize,
+    link: usize,
+    far_slot: usize,
+    far_link: usize,
+) -> Answer {
+    // SAFETY: as said above.
+    answered(unsafe {
+        proved::tarvelgyo_wire(
+            state.as_mut_ptr(),
+            state.len(),
+            memory.as_ptr(),
+            memory.len(),
+            slot,
+            link,
+            far_slot,
+            far_link,
+        )
+    })
+}
+
+/// Set: a node's number.
+pub fn set_number(state: &mut [u32], memory: &[u16], slot: usize, value: u32) -> Answer {
+    // SAFETY: as said above.
+    answered(unsafe {
+        proved::tarvelgyo_set_number(
+            state.as_mut_ptr(),
+            state.len(),
+            memory.as_ptr(),
+            memory.len(),
+            slot,
+            value,
+        )
+    })
+}
+
+/// Set: a node's width, 1 or 3.
+pub fn set_width(state: &mut [u32], memory: &[u16], slot: usize, value: u32) -> Answer {
+    // SAFETY: as said above.
+    answered(unsafe {
+        proved::tarvelgyo_set_width(
+            state.as_mut_ptr(),
+            state.len(),
+            memory.as_ptr(),
+            memory.len(),
+            slot,
+            value,
+        )
+    })
+}
+
+/// Set: a node's direction entry for a bit.
+pub fn set_direction(
+    state: &mut [u32],
+    memory: &[u16],
+    slot: usize,
+    bit: u32,
+    value: u32,
+) -> Answer {
+    // SAFETY: as said above.
+    answered(unsafe {
+        proved::tarvelgyo_set_direction(
+            state.as_mut_ptr(),
+            state.len(),
+            memory.as_ptr(),
+            memory.len(),
+            slot,
+            bit,
+            value,
+        )
+    })
+}
+
+/// Set: a link's direction.
+pub fn set_link_direction(
+    state: &mut [u32],
+    memory: &[u16],
+    slot: usize,
+    link: usize,
+    value: u32,
+) -> Answer {
+    // SAFETY: as said above.
+    answered(unsafe {
+        proved::tarvelgyo_set_link_direction(
+            state.as_mut_ptr(),
+            state.len(),
+            memory.as_ptr(),
+            memory.len(),
+            slot,
+            link,
+            value,
+        )
+    })
+}
+
+/// Set: a link's network.
+pub fn set_network(
+    state: &mut [u32],
+    memory: &[u16],
+    slot: usize,
+    link: usize,
+    value: u32,
+) -> Answer {
+    // SAFETY: as said above.
+    answered(unsafe {
+        proved::tarvelgyo_set_network(
+            state.as_mut_ptr(),
+            state.len(),
+            memory.as_ptr(),
+            memory.len(),
+            slot,
+            link,
+            value,
+        )
+    })
+}
+
+/// Set: a link enabled (1) or disabled (0).
+pub fn set_enable(
+    state: &mut [u32],
+    memory: &[u16],
+    slot: usize,
+    link: usize,
+    value: u32,
+) -> Answer {
+    // SAFETY: as said above.
+    answered(unsafe {
+        proved::tarvelgyo_set_enable(
+            state.as_mut_ptr(),
+            state.len(),
+            memory.as_ptr(),
+            memory.len(),
+            slot,
+            link,
+            value,
+        )
+    })
+}
+
+/// Set: HELLO on a link.
+pub fn hello(state: &mut [u32], memory: &[u16], slot: usize, link: usize) -> Answer {
+    // SAFETY: as said above.
+    answered(unsafe {
+        proved::tarvelgyo_hello(
+            state.as_mut_ptr(),
+            state.len(),
+            memory.as_ptr(),
+            memory.len(),
+            slot,
+            link,
+        )
+    })
+}
 
 /// How many words of state to lend for each node.
 pub fn state_words() -> usize {
@@ -203,15 +382,16 @@ pub fn end_token(state: &[u32], slot: usize, channel_end: usize, place: usize) -
     })
 }
 
-/// An enum crosses as one number: which case it is in the upper half, what the case carries in the lower.
-fn parts(crossed: u64) -> (u32, u32) {
-    ((crossed >> 32) as u32, crossed as u32)
-}
-
 /// What a look at a token found: case 1 carries the token's word, case 0 is nothing.
 fn seen(crossed: u64) -> Option<u32> {
     match parts(crossed) {
         (1, word) => Some(word),
         _ => None,
     }
+}
+
+/// What a call answered. Every number that the proved functions give stands for an answer.
+fn answered(crossed: u64) -> Answer {
+    let answer = Answer::from_crossed(crossed);
+    answer.unwrap_or_else(|| unreachable!("no answer crosses as {crossed:#x}"))
 }

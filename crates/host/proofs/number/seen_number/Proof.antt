@@ -1,7 +1,7 @@
--- `host::single::seen_number` meets its contract: case by case. Assumes nothing.
+-- `host::number::seen_number` meets its contract: case by case. Assumes nothing.
 use borrow.Author.Needs.{needs}
-use Rattle.host.proofs.single.seen_number.Statement.{statement}
-use Rattle.host.proofs.single.seen_number.Tie as tie
+use Rattle.host.proofs.number.seen_number.Statement.{statement}
+use Rattle.host.proofs.number.seen_number.Tie as tie
 
 returns-2 : tie.Need-returns-2
 returns-2 c = rw (c .packed2 .ensures, c .before .before .s .given .1)
