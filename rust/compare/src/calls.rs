@@ -113,9 +113,20 @@ pub fn compare(
     }
 }
 
-/// A call that both sides have, with arguments in and out of range.
-pub fn any(random: &mut Random, nodes: usize) -> Call {
-    let slot = below_or_beyond(random, nodes);
+/// A call that both sides have, with arguments in and out of range; often of a link whose cable or circuits
+/// make a difference.
+pub fn any(random: &mut Random, network: Option<&Network>) -> Call {
+    let nodes = network.map_or(3, |network| network.nodes.len());
+    let busy = network.map(busy_links).unwrap_or_default();
+    let (slot, link) = match random.pick(&busy) {
+        Some(end) if random.chance(50) => (end.slot, end.link),
+        _ => (
+            below_or_beyond(random, nodes),
+            below_or_beyond(random, LINKS),
+        ),
+    };
+    let of_node = any_of_node(random);
+    let of_link = any_of_link(random, link);
     match random.below(20) {
         0 => Call::Fresh {
             nodes: below_or_beyond(random, 17),
@@ -127,13 +138,28 @@ pub fn any(random: &mut Random, nodes: usize) -> Call {
         },
         4..=8 => Call::Set {
             slot,
-            setting: any_of_node(random),
+            setting: of_node,
         },
         _ => Call::Set {
             slot,
-            setting: any_of_link(random),
+            setting: of_link,
         },
     }
+}
+
+/// The links that are in use, or whose port or far port holds a token.
+fn busy_links(network: &Network) -> Vec<LinkEnd> {
+    let holds = |end: LinkEnd| {
+        let port = network.port(end.slot, end.link);
+        port.is_ok_and(|port| port.is_taken())
+    };
+    let slots = 0..network.nodes.len();
+    let all = slots.flat_map(|slot| (0..LINKS).map(move |link| LinkEnd { slot, link }));
+    all.filter(|end| {
+        let link = &network.nodes[end.slot].links[end.link];
+        link.used_by.is_some() || holds(*end) || link.far.is_some_and(holds)
+    })
+    .collect()
 }
 
 fn any_end(random: &mut Random, nodes: usize) -> LinkEnd {
@@ -158,8 +184,7 @@ fn any_of_node(random: &mut Random) -> Setting {
     }
 }
 
-fn any_of_link(random: &mut Random) -> Setting {
-    let link = below_or_beyond(random, LINKS);
+fn any_of_link(random: &mut Random, link: usize) -> Setting {
     match random.below(6) {
         0 => Setting::LinkDirection {
             link,

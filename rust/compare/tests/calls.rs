@@ -3,9 +3,12 @@
 
 use compare::calls::{any, compare, Lent};
 use compare::{layout, reading};
-use model::network::Network;
+use model::calls::Call;
+use model::network::{LinkEnd, Network};
 use model::random::Random;
 use model::runs::Runner;
+use model::set::Setting;
+use model::tokens::{header, Destination, Token};
 
 const RUNS: u64 = 60;
 const CALLS: usize = 400;
@@ -25,8 +28,7 @@ fn calls_aside(network: Option<&Network>, random: &mut Random, from: &str) -> us
     let mut lent = lend(network, random);
     let mut network = network.cloned();
     for _ in 0..ASIDE {
-        let nodes = network.as_ref().map_or(0, |network| network.nodes.len());
-        let call = any(random, nodes);
+        let call = any(random, network.as_ref());
         let made = compare(&mut network, &mut lent, &call);
         made.unwrap_or_else(|difference| panic!("{from}: {difference}"));
     }
@@ -66,12 +68,45 @@ fn settings_of_whole_runs() {
     println!("{compared} calls compared");
 }
 
+/// Two nodes joined by their links A, both enabled, and a network at the far end that holds so many tokens.
+fn joined(held: usize) -> Network {
+    let mut network = Network::fresh(2, 2 * layout::NODE_TOKENS);
+    for slot in 0..2 {
+        let link = &mut network.nodes[slot].links[0];
+        link.far = Some(LinkEnd {
+            slot: 1 - slot,
+            link: 0,
+        });
+        link.enabled = true;
+    }
+    let far = &mut network.nodes[1].ports[0].tokens;
+    far.extend(header(Destination::Control { number: 0 }, 3).unwrap_or_default());
+    far.resize(far.len().max(held), Token::data(7));
+    far.truncate(held);
+    network
+}
+
+#[test]
+fn a_hello_at_every_number_of_tokens_held() {
+    for held in 0..=64 {
+        let mut network = Some(joined(held));
+        let mut lent = lend(network.as_ref(), &mut Random::new(held as u64));
+        let setting = Setting::Hello { link: 0 };
+        let call = Call::Set { slot: 0, setting };
+        assert_eq!(
+            compare(&mut network, &mut lent, &call),
+            Ok(true),
+            "{held} held"
+        );
+    }
+}
+
 #[test]
 fn a_fresh_network_is_all_zeros_but_for_its_widths() {
     for nodes in 1..=16 {
         let (mut network, mut lent) = (None, Lent::default());
         let memory_words = nodes * layout::NODE_TOKENS;
-        let call = model::Call::Fresh {
+        let call = Call::Fresh {
             nodes,
             memory_words,
         };

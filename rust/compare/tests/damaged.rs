@@ -6,12 +6,15 @@ use std::ops::Range;
 
 use bench::sizes::{BITS, CHANNEL_ENDS, LINKS, MOST_NODES, PORTS};
 use bench::{raw, Looks};
+use compare::calls::{any, compare, make, Lent};
 use compare::damage::{disturb, things};
 use compare::layout::{self, NODE_TOKENS, NODE_WORDS};
+use compare::reading;
 use compare::verdict::{verdict, Verdict};
 use model::network::Network;
 use model::random::Random;
 use model::runs::Runner;
+use model::{Answer, No};
 
 const RUNS: u64 = 150;
 const CALLS: usize = 300;
@@ -77,6 +80,35 @@ fn look_everywhere(looks: Looks) {
     looks.is_quiet();
 }
 
+/// Makes calls on damaged words, each on a copy. Unsound ones are refused as that and left as they are; what
+/// is sound is a state of the model, which must answer the same.
+fn call_on(verdict: Verdict, state: &[u32], memory: &[u16], from: &str) {
+    let mut random = Random::new(
+        state
+            .iter()
+            .fold(0_u64, |sum, word| sum.wrapping_mul(31) ^ u64::from(*word)),
+    );
+    let read = reading::read(state, memory).ok();
+    for _ in 0..3 {
+        let mut network = read.clone();
+        let call = any(&mut random, network.as_ref());
+        let (state, memory) = (state.to_vec(), memory.to_vec());
+        let mut lent = Lent { state, memory };
+        let is_fresh = matches!(call, model::Call::Fresh { .. });
+        if verdict == Verdict::Sound || is_fresh {
+            compare(&mut network, &mut lent, &call).unwrap_or_else(|d| panic!("{from}: {d}"));
+        } else {
+            let before = lent.clone();
+            assert_eq!(
+                make(&mut lent, &call),
+                Some(Answer::No(No::Unsound)),
+                "{from}: {call:?}"
+            );
+            assert!(lent == before, "{from}: {call:?} has changed a word");
+        }
+    }
+}
+
 /// Asks both sides, makes every look, and sees that no word has changed.
 fn check(state: &[u32], memory: &[u16], from: &str) -> Verdict {
     let before = (state.to_vec(), memory.to_vec());
@@ -87,6 +119,7 @@ fn check(state: &[u32], memory: &[u16], from: &str) -> Verdict {
         before.0 == state && before.1 == memory,
         "{from}: a word has changed"
     );
+    call_on(verdict, state, memory, from);
     verdict
 }
 

@@ -73,7 +73,8 @@ fn hold(random: &mut Random, node: &mut Node) {
     let far = Destination::Channel { number, channel };
     let destination = if random.chance(80) { far } else { unit };
     let mut tokens = header(destination, width).unwrap_or_default();
-    for _ in 0..random.below(3) {
+    let body = if random.chance(20) { 60 } else { 3 };
+    for _ in 0..random.below(body) {
         tokens.push(Token::data(random.byte()));
     }
     if random.chance(60) {
