@@ -1,15 +1,21 @@
-//! Has the Rattle toolchain prove crate `host` and all it stands on, and links the static library that
-//! comes of it. Cargo runs this again only where something under `crates/` or the toolchain has changed,
-//! and the toolchain proves again only the crates that have.
+//! Has the Rattle toolchain prove crate `host` and all it stands on, and links the static library
+//! that comes of it. Cargo runs this again only where something under `crates/` or the toolchain
+//! has changed, the library is kept for other builds of the same source, and the toolchain proves
+//! again only the crates that have changed.
 //!
-//! `rt staticlib host` writes its archive for x86-64. For another processor the very module that was proved
-//! and compiled into that archive is compiled once more, by the toolchain's own compiler: see [`other`].
+//! `rt staticlib host` writes its archive for x86-64. For another processor the very module that
+//! was proved and compiled into that archive is compiled once more, by the toolchain's own
+//! compiler: see [`other`].
 
 use std::path::{Path, PathBuf};
 use std::process::{Command, Output};
 use std::time::Instant;
 use std::{env, fs};
 
+use kept::Kept;
+
+#[path = "build/kept.rs"]
+mod kept;
 #[path = "build/other.rs"]
 mod other;
 
@@ -18,27 +24,48 @@ const CRATE: &str = "host";
 
 fn main() {
     let root = repository();
-    let out = PathBuf::from(variable("OUT_DIR"));
     let kit = kit(&root);
     rerun_where_changed(&root, &kit);
-    let begun = Instant::now();
     let target = variable("TARGET");
     if !target.contains("linux") {
         panic!("the proved library is for Linux, and this build is for {target}");
     }
-    let archive = out.join(format!("lib{CRATE}.a"));
-    if variable("CARGO_CFG_TARGET_ARCH") == "x86_64" {
-        static_library(&root, &kit);
-        fs::copy(written(&root), &archive).expect("the archive that rt wrote");
+    let kept = Kept::new(&root, &kit, &target);
+    let begun = Instant::now();
+    if kept.is_current() {
+        say(&format!(
+            "crate {CRATE}, proved and compiled for {target} before, is linked"
+        ));
     } else {
-        other::build(&root, &kit, &target, &archive);
+        kept.clear();
+        write_archive(&root, &kit, &target, &kept.archive());
+        kept.seal();
+        let seconds = begun.elapsed().as_secs();
+        say(&format!(
+            "crate {CRATE} was proved by rt, compiled for {target} and linked ({seconds} s)"
+        ));
     }
-    println!(
-        "cargo:warning=crate {CRATE} was proved by rt, compiled for {target} and linked ({} s)",
-        begun.elapsed().as_secs()
-    );
+    let out = PathBuf::from(variable("OUT_DIR"));
+    let archive = out.join(format!("lib{CRATE}.a"));
+    fs::copy(kept.archive(), archive).expect("the archive, copied for cargo");
     println!("cargo:rustc-link-search=native={}", out.display());
     println!("cargo:rustc-link-lib=static={CRATE}");
+}
+
+/// Cargo shows nothing else of what a build script says.
+fn say(what: &str) {
+    println!("cargo:warning={what}");
+}
+
+/// Has the crate proved, and its archive for that target written.
+fn write_archive(root: &Path, kit: &Path, target: &str, archive: &Path) {
+    if variable("CARGO_CFG_TARGET_ARCH") == "x86_64" {
+        static_library(root, kit);
+        let written = root.join(format!("target/staticlib/lib{CRATE}.a"));
+        fs::copy(written, archive).expect("the archive that rt wrote");
+    } else {
+        other::build(root, kit, target, archive);
+    }
 }
 
 /// The folder with `crates.txt`.
@@ -66,11 +93,6 @@ fn static_library(root: &Path, kit: &Path) {
     let mut rt = Command::new("rt");
     rt.args(["staticlib", CRATE]);
     run(rt.env("RATTLE_HOME", kit).current_dir(root));
-}
-
-/// The archive that `rt staticlib` writes.
-fn written(root: &Path) -> PathBuf {
-    root.join(format!("target/staticlib/lib{CRATE}.a"))
 }
 
 fn rerun_where_changed(root: &Path, kit: &Path) {

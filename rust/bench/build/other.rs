@@ -1,9 +1,10 @@
 //! The proved library for a processor that `rt staticlib` writes no archive for.
 //!
-//! The toolchain lowers what it proved to one module of LLVM's and has its compiler, `clang`, turn that module
-//! into x86-64 code. The module itself is plain: integers, loads, stores and calls. Here the toolchain is
-//! run from a folder of links to all of its files but one, the compiler, whose place a script takes that
-//! keeps the module and then runs the compiler. The same compiler then makes code of it for this processor.
+//! The toolchain lowers what it proved to one module of LLVM's and has its compiler, `clang`, turn
+//! that module into x86-64 code. The module itself is plain: integers, loads, stores and calls.
+//! Here the toolchain is run from a folder of links to all of its files but one, the compiler,
+//! whose place a script takes that keeps the module and then runs the compiler. The same compiler
+//! then makes code of it for this processor.
 
 use std::os::unix::fs::{symlink, PermissionsExt};
 use std::path::{Path, PathBuf};
@@ -67,7 +68,12 @@ fn keeping_kit(kit: &Path, module: &Path, copy: &Path) {
     let script = copy.join(&place);
     let compiler = kit.join(&place);
     let text = format!(
-        "#!/bin/sh\nfor word; do case $word in *.bc) cp \"$word\" '{}' ;; esac; done\nexec '{}' \"$@\"\n",
+        "#!/bin/sh
+for word; do
+    case $word in *.bc) cp \"$word\" '{}' || exit 1 ;; esac
+done
+exec '{}' \"$@\"
+",
         module.display(),
         compiler.display()
     );

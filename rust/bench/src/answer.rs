@@ -2,7 +2,8 @@
 
 use crate::refusal::Refusal;
 
-/// An answer of any call. `crates/host/specs/Crossed.antt` says which number stands for it across C.
+/// An answer of any call. `crates/host/specs/Crossed.antt` says which number stands for it across
+/// C.
 #[derive(Clone, Copy, Debug, PartialEq, Eq, Hash)]
 pub enum Answer {
     /// Refused, and nothing is changed.
@@ -13,8 +14,8 @@ pub enum Answer {
 }
 
 impl Answer {
-    /// The answer that crossed as this number: which case it is in the upper half, what the case carries in
-    /// the lower. None where no answer crosses so.
+    /// The answer that crossed as this number: which case it is in the upper half, what the case
+    /// carries in the lower. None where no answer crosses so.
     ///
     /// ```
     /// use bench::{Answer, Refusal};

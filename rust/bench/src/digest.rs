@@ -1,4 +1,5 @@
-//! The digest of a state, through the looks: 64-bit FNV-1a over the bytes that the script and trace format lists.
+//! The digest of a state, through the looks: 64-bit FNV-1a over the bytes that the script and trace
+//! format lists.
 
 use crate::looks::Looks;
 use crate::records::{ChannelEnd, Circuit, Destination, Link, Port};
@@ -100,8 +101,8 @@ impl Digest {
         self.port_or_none(link.user);
     }
 
-    /// A port up to its tokens. "network: of the circuit that has taken port 8..11; 0 if that port is free,
-    /// and 0 for all other ports"
+    /// A port up to its tokens. "network: of the circuit that has taken port 8..11; 0 if that port
+    /// is free, and 0 for all other ports"
     fn port(&mut self, index: usize, port: Port) {
         self.circuit(port.circuit);
         let of_circuit = TILE_PORTS.contains(&index) && port.is_taken();

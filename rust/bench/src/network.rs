@@ -13,7 +13,8 @@ pub struct LinkEnd {
     pub link: usize,
 }
 
-/// What [`Bench::set`] sets. Values are as wide as they are asked for: those out of range are refused.
+/// What [`Bench::set`] sets. Values are as wide as they are asked for: those out of range are
+/// refused.
 #[derive(Clone, Copy, Debug, PartialEq, Eq, Hash)]
 pub enum Setting {
     /// The node's number, 0..65535.
@@ -32,8 +33,9 @@ pub enum Setting {
 
 /// A network of 1 to 16 nodes, by slot.
 ///
-/// A slot is a place in the bench's table, a `usize`; a node's number is what is written into its switch, a
-/// `u32`. Each call takes any arguments. A refused call says why by the paper's number and changes nothing.
+/// A slot is a place in the bench's table, a `usize`; a node's number is what is written into its
+/// switch, a `u32`. Each call takes any arguments. A refused call says why by the paper's number
+/// and changes nothing.
 ///
 /// ```
 /// use bench::{Bench, LinkEnd, Refusal, Setting};
@@ -65,7 +67,8 @@ fn done(answer: Answer) -> Result<(), Refusal> {
 }
 
 impl Bench {
-    /// Fresh: all nodes number 0, width three, directions 0, links unwired, disabled, network 0; channel-ends unaimed.
+    /// Fresh: all nodes number 0, width three, directions 0, links unwired, disabled, network 0;
+    /// channel-ends unaimed.
     ///
     /// ```
     /// use bench::{Bench, Refusal};

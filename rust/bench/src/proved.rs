@@ -1,4 +1,5 @@
-//! The names that the proved library exports (`crates/host`). Across C a slice is two words: pointer, then length.
+//! The names that the proved library exports (`crates/host`). Across C a slice is two words:
+//! pointer, then length.
 
 extern "C" {
     pub fn tarvelgyo_fresh(

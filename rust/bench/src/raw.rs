@@ -1,12 +1,12 @@
 //! The proved functions, over the caller's own slices.
 //!
-//! None of them asks anything of its arguments: slices of any length and contents, places that are not
-//! there and buffers that do not fit all have an answer, and the contracts in `crates/host` say which. So each
-//! is safe to call. All of this crate's `unsafe` is in this file; it hands a slice over as C does, as a
-//! pointer and a length.
+//! None of them asks anything of its arguments: slices of any length and contents, places that are
+//! not there and buffers that do not fit all have an answer, and the contracts in `crates/host` say
+//! which. So each is safe to call. All of this crate's `unsafe` is in this file; it hands a slice
+//! over as C does, as a pointer and a length.
 //!
-//! A network is two memories that the caller lends: `state`, [`state_words`] words of 32 bits for each node,
-//! and `memory`, [`memory_words`] words of 16 bits for each.
+//! A network is two memories that the caller lends: `state`, [`state_words`] words of 32 bits for
+//! each node, and `memory`, [`memory_words`] words of 16 bits for each.
 //!
 //! ```
 //! use bench::{raw, Answer, Refusal};
@@ -28,8 +28,9 @@
 use crate::answer::{parts, Answer};
 use crate::proved;
 
-// SAFETY, of every call below: the slices are borrowed while the call lasts, each goes over with its own length, and
-// the function, which has no `requires`, is proved to read and write nothing beyond.
+// SAFETY, of every call below: the slices are borrowed while the call lasts, each goes over with
+// its own length, and the function, which has no `requires`, is proved to read and write nothing
+// beyond.
 
 /// Fresh: a network of so many nodes, whatever the memories held.
 pub fn fresh(state: &mut [u32], memory: &mut [u16], nodes: usize) -> Answer {

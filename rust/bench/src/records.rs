@@ -1,7 +1,7 @@
 //! The records of a state, as their words stand, and what the words mean.
 //!
-//! A look answers for any memory, so a word may be anything; the methods say what it means if it means
-//! something. Where there is no such place, all words are 0.
+//! A look answers for any memory, so a word may be anything; the methods say what it means if it
+//! means something. Where there is no such place, all words are 0.
 
 use crate::refusal::Cause;
 

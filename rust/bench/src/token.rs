@@ -24,8 +24,8 @@ pub struct Token {
 }
 
 impl Token {
-    /// The token of a word: the value in bits 0..7, bit 8 control, bit 9 part of a header, bit 10, with bit 9,
-    /// of a three-byte header. No token has other marks.
+    /// The token of a word: the value in bits 0..7, bit 8 control, bit 9 part of a header, bit 10,
+    /// with bit 9, of a three-byte header. No token has other marks.
     ///
     /// ```
     /// use bench::{Kind, Token, Width};

@@ -36,7 +36,8 @@ pub fn make(lent: &mut Lent, call: &Call) -> Option<Answer> {
     Some(of_bench(answer))
 }
 
-/// Fresh is made on memories of its own, full of rubbish, which take the place of the others where it succeeds.
+/// Fresh is made on memories of its own, full of rubbish, which take the place of the others where
+/// it succeeds.
 fn fresh(lent: &mut Lent, nodes: usize, memory_words: usize) -> bench::Answer {
     // More than any network needs, so that a length cut down to it is still a wrong one.
     const MOST: usize = 20_000;
@@ -83,8 +84,9 @@ fn of_bench(answer: bench::Answer) -> Answer {
     }
 }
 
-/// Makes a call on both sides, whose states are the same before it. Says how the answers or the states behind
-/// it differ, or that a refused call has changed a word. False where the proved bench has no such call.
+/// Makes a call on both sides, whose states are the same before it. Says how the answers or the
+/// states behind it differ, or that a refused call has changed a word. False where the proved bench
+/// has no such call.
 pub fn compare(
     network: &mut Option<Network>,
     lent: &mut Lent,
@@ -113,8 +115,8 @@ pub fn compare(
     }
 }
 
-/// A call that both sides have, with arguments in and out of range; often of a link whose cable or circuits
-/// make a difference.
+/// A call that both sides have, with arguments in and out of range; often of a link whose cable or
+/// circuits make a difference.
 pub fn any(random: &mut Random, network: Option<&Network>) -> Call {
     let nodes = network.map_or(3, |network| network.nodes.len());
     let busy = network.map(busy_links).unwrap_or_default();

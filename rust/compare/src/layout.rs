@@ -1,7 +1,7 @@
 //! A state of the model, written as the words that the proved bench takes for it.
 //!
-//! The places are those of `crates/cells/specs/Layout.antt`, the words those of `Records.antt` there, written
-//! down here a second time so that a wrong place in either is found.
+//! The places are those of `crates/cells/specs/Layout.antt`, the words those of `Records.antt`
+//! there, written down here a second time so that a wrong place in either is found.
 
 use model::answers::Cause;
 use model::network::{
@@ -18,8 +18,8 @@ pub const NODE_TOKENS: usize = PORTS * PORT_CAPACITY;
 /// Words of a record, in their order.
 type Words = Vec<u32>;
 
-/// State and token memory. Where in its ring a port's oldest token lies is left to the implementation, and so
-/// is chosen at random here.
+/// State and token memory. Where in its ring a port's oldest token lies is left to the
+/// implementation, and so is chosen at random here.
 pub fn write(network: &Network, random: &mut Random) -> (Vec<u32>, Vec<u16>) {
     let mut state = Vec::with_capacity(network.nodes.len() * NODE_WORDS);
     let mut memory = vec![0; network.nodes.len() * NODE_TOKENS];
@@ -143,7 +143,8 @@ fn filled(length: usize, words: impl Iterator<Item = u32>) -> Words {
     words.chain(std::iter::repeat(0)).take(length).collect()
 }
 
-/// The value in bits 0..7, bit 8 control, bit 9 part of a header, bit 10, with bit 9, of a three-byte header.
+/// The value in bits 0..7, bit 8 control, bit 9 part of a header, bit 10, with bit 9, of a
+/// three-byte header.
 pub fn word(token: &Token) -> u32 {
     let control = u32::from(token.kind == Kind::Control);
     let header = match token.header {

@@ -1,10 +1,11 @@
 //! Words, looked at, as a state of the model.
 //!
-//! Not all words are one. Codes may mean nothing; and the proved state has a few words that the model's has not,
-//! because the model finds by searching what they say: a port's ring, its tile link, the channel-end that sends
-//! by it. Words are read as a state only where these say what the rest says; otherwise they are
-//! [`Unreadable`], and must be unsound to the proved bench. What nothing reads is left out: the network of a
-//! port that is not taken, what an idle control unit heard.
+//! Not all words are one. Codes may mean nothing; and the proved state has a few words that the
+//! model's has not, because the model finds by searching what they say: a port's ring, its tile
+//! link, the channel-end that sends by it. Words are read as a state only where these say what the
+//! rest says; otherwise they are [`Unreadable`], and must be unsound to the proved bench. What
+//! nothing reads is left out: the network of a port that is not taken, what an idle control unit
+//! heard.
 
 use bench::sizes::TILE_PORTS;
 use bench::{raw, Circuit, Looks, Peer};
@@ -28,7 +29,7 @@ fn unreadable<T>(why: String) -> Read<T> {
 
 /// The state that the words are.
 pub fn read(state: &[u32], memory: &[u16]) -> Read<Network> {
-    if state.len() % raw::state_words() != 0 {
+    if !state.len().is_multiple_of(raw::state_words()) {
         return unreadable(format!("{} words of state", state.len()));
     }
     let looks = Looks::over(state, memory);
@@ -122,8 +123,8 @@ fn hop(words: bench::Port) -> Read<Option<Hop>> {
     }))
 }
 
-/// The tokens shown. Where more are said to be held than there is room for, one more than that, so that the
-/// model too finds them too many.
+/// The tokens shown. Where more are said to be held than there is room for, one more than that, so
+/// that the model too finds them too many.
 fn tokens<Q>(shown: impl Iterator<Item = u32>, held: u32, capacity: usize) -> Read<Q>
 where
     Q: FromIterator<Token>,
@@ -220,8 +221,8 @@ fn control_unit(looks: Looks, slot: usize) -> Read<ControlUnit> {
     })
 }
 
-/// The list "Sound" does not look at what was heard, so that any word may stand there. One that is no token
-/// becomes one that no run of the model has.
+/// The list "Sound" does not look at what was heard, so that any word may stand there. One that is
+/// no token becomes one that no run of the model has.
 fn token_heard(word: u32) -> Token {
     token(word).unwrap_or(Token {
         kind: Kind::Control,
@@ -236,26 +237,35 @@ fn extra_words_agree(looks: Looks, slot: usize, port: usize, node: &Node) -> Rea
     if words.head as usize >= PORT_CAPACITY {
         return unreadable(format!("a ring that begins at {}", words.head));
     }
-    let ends = (0..).zip(&node.channel_ends);
-    let by_it = ends.filter(|(_, end)| end.sending == Some(Sending::ByPort(port)));
-    let senders: Vec<u32> = by_it.map(|(place, _)| place).collect();
-    let sender = words.sender;
-    let names_one = matches!(sender.peer(), Some(Peer::ChannelEnd(e)) if senders.contains(&e));
-    if !names_one && !(sender.kind == 0 && senders.is_empty()) {
-        return unreadable(format!("port {port} names {sender:?} as sender"));
+    if !sender_agrees(words.sender, &senders_by(node, port)) {
+        return unreadable(format!("port {port} names {:?} as sender", words.sender));
     }
-    let tiles: Vec<u32> = users_of(node, port);
-    let takes_one = tiles.is_empty() || tiles.contains(&words.tile);
-    match node.ports[port].hop {
-        Some(Hop::Channel(_)) if !takes_one => {
-            unreadable(format!("port {port} names tile link {}", words.tile))
-        }
-        _ => Ok(()),
+    let users = tile_links_of(node, port);
+    let to_channel = matches!(node.ports[port].hop, Some(Hop::Channel(_)));
+    if to_channel && !users.is_empty() && !users.contains(&words.tile) {
+        return unreadable(format!("port {port} names tile link {}", words.tile));
+    }
+    Ok(())
+}
+
+/// A port names one of the channel-ends that send by it, and nobody where none does.
+fn sender_agrees(named: Circuit, senders: &[u32]) -> bool {
+    match named.peer() {
+        Some(Peer::ChannelEnd(end)) => senders.contains(&end),
+        Some(Peer::Port(_)) => false,
+        None => named.kind == 0 && senders.is_empty(),
     }
 }
 
+/// The channel-ends that send by a port.
+fn senders_by(node: &Node, port: usize) -> Vec<u32> {
+    let ends = (0..).zip(&node.channel_ends);
+    let by_it = ends.filter(|(_, end)| end.sending == Some(Sending::ByPort(port)));
+    by_it.map(|(place, _)| place).collect()
+}
+
 /// The tile links that a port uses.
-fn users_of(node: &Node, port: usize) -> Vec<u32> {
+fn tile_links_of(node: &Node, port: usize) -> Vec<u32> {
     let links = (0..).zip(&node.tile_links);
     let by_port = links.filter(|(_, user)| **user == Some(port));
     by_port.map(|(tile_link, _)| tile_link).collect()

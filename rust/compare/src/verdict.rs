@@ -15,7 +15,8 @@ pub enum Verdict {
     Unreadable,
 }
 
-/// Asks both sides of any words. Where they differ, or the proved tests differ among themselves, says how.
+/// Asks both sides of any words. Where they differ, or the proved tests differ among themselves,
+/// says how.
 pub fn verdict(state: &[u32], memory: &[u16]) -> Result<Verdict, String> {
     let looks = Looks::over(state, memory);
     let proved = looks.is_sound();

@@ -1,5 +1,5 @@
-//! Calls made on both sides: every answer and the whole visible state are the same, and a refused call has
-//! changed no word.
+//! Calls made on both sides: every answer and the whole visible state are the same, and a refused
+//! call has changed no word.
 
 use compare::calls::{any, compare, Lent};
 use compare::{layout, reading};
@@ -68,7 +68,8 @@ fn settings_of_whole_runs() {
     println!("{compared} calls compared");
 }
 
-/// Two nodes joined by their links A, both enabled, and a network at the far end that holds so many tokens.
+/// Two nodes joined by their links A, both enabled, and a network at the far end that holds so many
+/// tokens.
 fn joined(held: usize) -> Network {
     let mut network = Network::fresh(2, 2 * layout::NODE_TOKENS);
     for slot in 0..2 {

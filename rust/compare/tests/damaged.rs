@@ -1,5 +1,5 @@
-//! Damaged memories: the proved tests and looks answer for any words, change none of them, and agree with the
-//! model's list wherever the words are a state of the model.
+//! Damaged memories: the proved tests and looks answer for any words, change none of them, and
+//! agree with the model's list wherever the words are a state of the model.
 
 use std::fmt;
 use std::ops::Range;
@@ -80,8 +80,8 @@ fn look_everywhere(looks: Looks) {
     looks.is_quiet();
 }
 
-/// Makes calls on damaged words, each on a copy. Unsound ones are refused as that and left as they are; what
-/// is sound is a state of the model, which must answer the same.
+/// Makes calls on damaged words, each on a copy. Unsound ones are refused as that and left as they
+/// are; what is sound is a state of the model, which must answer the same.
 fn call_on(verdict: Verdict, state: &[u32], memory: &[u16], from: &str) {
     let mut random = Random::new(
         state

@@ -1,5 +1,6 @@
-//! Damage by things and not by words: a state of the model with a circuit, a token, a cable or a credit that
-//! is not as it was. What comes of it is a state of the model, and more often nearly sound than changed words are.
+//! Damage by things and not by words: a state of the model with a circuit, a token, a cable or a
+//! credit that is not as it was. What comes of it is a state of the model, and more often nearly
+//! sound than changed words are.
 
 use model::answers::Cause;
 use model::network::{
@@ -63,8 +64,8 @@ fn link(random: &mut Random, slots: usize, node: &mut Node) {
     }
 }
 
-/// A stretch of tokens comes to stand at the end of a port or channel-end: a header, or a part of it, with or
-/// without a body and an end.
+/// A stretch of tokens comes to stand at the end of a port or channel-end: a header, or a part of
+/// it, with or without a body and an end.
 fn hold(random: &mut Random, node: &mut Node) {
     let width = random.pick(&[1, 3, 3]).unwrap_or(3);
     let channel = any_channel(random);
