@@ -1,5 +1,5 @@
-//! The library that an earlier build has had proved and written, in `target/` beside what `rt` keeps
-//! there, so that the builds of one source (debug, release, doc) have it proved once. `rt ci`
+//! The library that an earlier build has had proved and written, in `target/` beside what `rt`
+//! keeps there, so that the builds of one source (debug, release, doc) have it proved once. `rt ci`
 //! removes it with all else.
 
 use std::collections::hash_map::DefaultHasher;

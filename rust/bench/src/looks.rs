@@ -4,7 +4,6 @@ use crate::clause::Clause;
 use crate::digest;
 use crate::raw;
 use crate::records::{ChannelEnd, ControlUnit, Link, Node, Port, Record, TileLink};
-use crate::token::Token;
 
 /// A view of two lent memories, which may be of any length and hold anything.
 ///
@@ -97,7 +96,8 @@ impl<'a> Looks<'a> {
         raw::direction(self.state, slot, bit)
     }
 
-    /// The words of the tokens that a port holds, oldest first; [`Token::from_word`] reads them.
+    /// The words of the tokens that a port holds, oldest first;
+    /// [`Token::from_word`](crate::Token::from_word) reads them.
     pub fn port_tokens(self, slot: usize, port: usize) -> impl Iterator<Item = u32> + use<'a> {
         (0..).map_while(move |place| raw::port_token(self.state, self.memory, slot, port, place))
     }
@@ -109,13 +109,6 @@ impl<'a> Looks<'a> {
         channel_end: usize,
     ) -> impl Iterator<Item = u32> + use<'a> {
         (0..).map_while(move |place| raw::end_token(self.state, slot, channel_end, place))
-    }
-
-    /// The oldest token of a port, if it holds one that is a token at all.
-    pub fn front(self, slot: usize, port: usize) -> Option<Token> {
-        self.port_tokens(slot, port)
-            .next()
-            .and_then(Token::from_word)
     }
 
     /// The digest of the visible state, as the script and trace format has it.
