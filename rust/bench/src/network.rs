@@ -27,8 +27,8 @@ pub enum Setting {
     LinkDirection { link: usize, value: u32 },
     /// A link's network, 0..3.
     Network { link: usize, value: u32 },
-    /// A link enabled or disabled.
-    Enable { link: usize, on: bool },
+    /// A link enabled, 1, or disabled, 0.
+    Enable { link: usize, value: u32 },
 }
 
 /// A network of 1 to 16 nodes, by slot.
@@ -44,9 +44,9 @@ pub enum Setting {
 /// let mut bench = Bench::fresh(2)?;
 /// let (one, other) = (LinkEnd { slot: 0, link: 0 }, LinkEnd { slot: 1, link: 4 });
 /// bench.wire(one, other)?;
-/// bench.set(0, Setting::Enable { link: 0, on: true })?;
+/// bench.set(0, Setting::Enable { link: 0, value: 1 })?;
 /// assert_eq!(bench.hello(0, 0)?, 0);
-/// bench.set(1, Setting::Enable { link: 4, on: true })?;
+/// bench.set(1, Setting::Enable { link: 4, value: 1 })?;
 /// assert_eq!(bench.hello(0, 0)?, 64);
 /// assert_eq!(bench.looks().link(0, 0).credit, 64);
 /// # Ok(())
@@ -130,9 +130,7 @@ impl Bench {
                 raw::set_link_direction(state, memory, slot, link, value)
             }
             Setting::Network { link, value } => raw::set_network(state, memory, slot, link, value),
-            Setting::Enable { link, on } => {
-                raw::set_enable(state, memory, slot, link, u32::from(on))
-            }
+            Setting::Enable { link, value } => raw::set_enable(state, memory, slot, link, value),
         })
     }
 

@@ -50,6 +50,24 @@ impl Refusal {
         self as u32
     }
 
+    /// The paper's name.
+    pub fn name(self) -> &'static str {
+        match self {
+            Refusal::Unsound => "Unsound",
+            Refusal::NoSuch => "NoSuch",
+            Refusal::Value => "Value",
+            Refusal::Busy => "Busy",
+            Refusal::Unaimed => "Unaimed",
+            Refusal::Open => "Open",
+            Refusal::Hardware => "Hardware",
+            Refusal::Privileged => "Privileged",
+            Refusal::Narrow => "Narrow",
+            Refusal::Full => "Full",
+            Refusal::Empty => "Empty",
+            Refusal::Trap => "Trap",
+        }
+    }
+
     /// The refusal of that number.
     pub fn from_number(number: u32) -> Option<Refusal> {
         Refusal::ALL.into_iter().find(|no| no.number() == number)
@@ -59,7 +77,7 @@ impl Refusal {
 impl fmt::Display for Refusal {
     /// The number with the paper's name.
     fn fmt(&self, f: &mut fmt::Formatter<'_>) -> fmt::Result {
-        write!(f, "no {}, {self:?}", self.number())
+        write!(f, "no {}, {}", self.number(), self.name())
     }
 }
 
