@@ -76,7 +76,7 @@ fn read(w: &[u32]) -> End
     none()
 }
 
-fn write(w: &mut [u32], k: End)
+pub fn write(w: &mut [u32], k: End)
     requires { ⌜ length (now w) ≡ 17 ⌝ }
     ensures { λ r. ⌜ now (w .exit) ≡ fromEnd k ⌝ }
 {

@@ -91,7 +91,7 @@ fn read(w: &[u32]) -> Link
     none()
 }
 
-fn write(w: &mut [u32], k: Link)
+pub fn write(w: &mut [u32], k: Link)
     requires { ⌜ length (now w) ≡ 10 ⌝ }
     ensures { λ r. ⌜ now (w .exit) ≡ fromLink k ⌝ }
 {

@@ -59,7 +59,7 @@ fn read(w: &[u32]) -> Node
     none()
 }
 
-fn write(w: &mut [u32], k: Node)
+pub fn write(w: &mut [u32], k: Node)
     requires { ⌜ length (now w) ≡ 4 ⌝ }
     ensures { λ r. ⌜ now (w .exit) ≡ fromNode k ⌝ }
 {

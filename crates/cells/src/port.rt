@@ -70,7 +70,7 @@ fn read(w: &[u32]) -> Port
     none()
 }
 
-fn write(w: &mut [u32], k: Port)
+pub fn write(w: &mut [u32], k: Port)
     requires { ⌜ length (now w) ≡ 8 ⌝ }
     ensures { λ r. ⌜ now (w .exit) ≡ fromPort k ⌝ }
 {

@@ -49,7 +49,7 @@ fn read(w: &[u32]) -> Tile
     none()
 }
 
-fn write(w: &mut [u32], k: Tile)
+pub fn write(w: &mut [u32], k: Tile)
     requires { ⌜ length (now w) ≡ 2 ⌝ }
     ensures { λ r. ⌜ now (w .exit) ≡ fromTile k ⌝ }
 {

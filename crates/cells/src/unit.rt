@@ -67,7 +67,7 @@ fn read(w: &[u32]) -> Unit
     none()
 }
 
-fn write(w: &mut [u32], k: Unit)
+pub fn write(w: &mut [u32], k: Unit)
     requires { ⌜ length (now w) ≡ 14 ⌝ }
     ensures { λ r. ⌜ now (w .exit) ≡ fromUnit k ⌝ }
 {

@@ -1,0 +1,3 @@
+-- Laws of the crossing.
+pub mod Shows
+pub mod Crosses

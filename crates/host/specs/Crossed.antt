@@ -1,0 +1,56 @@
+-- What stands for an enum, and for a record, on the other side.
+use Prim.Native.Nat.{ℕ, _+_, _*_}
+use mathlib.Core.Bool.{Bool, true, false}
+use mathlib.Core.List.{List}
+use lib.Dec.{eqb}
+use lib.ListN.{length}
+use Rattle.laws.specs.Pick.{pick}
+use Rattle.names.specs.declared.Slot.{Slot}
+use Rattle.answers.specs.Out.{Out}
+use Rattle.answers.specs.declared.Answer.{Answer}
+use Rattle.answers.specs.declared.Answer.the-variants.{No, Done, Granted}
+use Rattle.cells.specs.World.{World}
+use Rattle.looks.specs.declared.Seen.{Seen}
+use Rattle.looks.specs.declared.Seen.the-variants.{Token, Nothing}
+
+-- an enum is one number of 64 bits: which case it is in the upper half, the number that the case carries in the lower
+abbrev pub packed : ℕ → ℕ → ℕ
+packed case value = case * 4294967296 + value
+
+-- what a call answers: a refusal carries the paper's number, a grant the credit
+abbrev pub answerNumber : Answer → ℕ
+answerNumber (No n) = packed 0 n
+answerNumber Done = packed 1 0
+answerNumber (Granted credit) = packed 2 credit
+
+-- a slot is a plain number on the other side
+abbrev pub slot : ℕ → Slot
+slot n = record { 0 = n }
+
+-- what comes of a call: its answer's number, and both memories
+pub record Crossing : Type 0 where
+  pub number : ℕ
+  pub next : World
+
+abbrev pub crossing : ℕ → World → Crossing
+crossing n w = record { number = n; next = w }
+
+abbrev pub crossed : Out World → Crossing
+crossed o = crossing (answerNumber (o .answer)) (o .next)
+
+-- what a look at a token finds
+abbrev pub seenNumber : Seen → ℕ
+seenNumber Nothing = packed 0 0
+seenNumber (Token word) = packed 1 word
+
+-- what a look at a record leaves: its answer, and the caller's buffer
+pub record Shown : Type 0 where
+  pub answer : Bool
+  pub buffer : List ℕ
+
+abbrev pub shown : Bool → List ℕ → Shown
+shown answer buffer = record { answer = answer; buffer = buffer }
+
+-- a record's words are shown in a buffer that has exactly their number, and any other buffer is left as it is
+unfoldable pub showing : List ℕ → List ℕ → Shown
+showing words buffer = pick (eqb (length buffer) (length words)) (shown true words) (shown false buffer)

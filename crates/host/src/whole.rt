@@ -1,0 +1,68 @@
+// Looks at the two lent memories as a whole.
+use cells::layout::STRIDE;
+use cells::layout::TOKEN_WORDS;
+use cells::node::count;
+use sound::is_quiet;
+use sound::is_sound;
+use sound::is_tight;
+use sound::unsound_clause;
+ghost use mathlib.Core.Path.{_≡_};
+ghost use Prim.Native.Nat.{_*_};
+ghost use Rattle.names.specs.Size.{ports};
+ghost use Rattle.ports.specs.Queue.{capacity};
+ghost use Rattle.cells.specs.Layout.{stride};
+ghost use Rattle.cells.specs.View.{view};
+ghost use Rattle.cells.specs.World.{world};
+ghost use Rattle.sound.specs.Sound.{unsoundClause, sound, tight, quiet};
+
+// How many words of state to lend for each node.
+#[no_mangle]
+pub extern "C" fn tarvelgyo_state_words() -> usize
+    ensures { λ r. ⌜ r ≡ stride ⌝ }
+{
+    STRIDE
+}
+
+// How many words of token memory to lend for each node.
+#[no_mangle]
+pub extern "C" fn tarvelgyo_memory_words() -> usize
+    ensures { λ r. ⌜ r ≡ ports * capacity ⌝ }
+{
+    TOKEN_WORDS
+}
+
+#[no_mangle]
+pub extern "C" fn tarvelgyo_node_count(st: &[u32]) -> usize
+    ensures { λ r. ⌜ r ≡ view (now (st .entry)) .nodes ⌝ }
+{
+    count(st)
+}
+
+#[no_mangle]
+pub extern "C" fn tarvelgyo_is_sound(st: &[u32], mem: &[u16]) -> bool
+    ensures { λ r. ⌜ r ≡ sound (world (now (st .entry)) (now (mem .entry))) ⌝ }
+{
+    is_sound(st, mem)
+}
+
+// 0 where the state is sound, else the number of the first clause that fails.
+#[no_mangle]
+pub extern "C" fn tarvelgyo_unsound_clause(st: &[u32], mem: &[u16]) -> u32
+    ensures { λ r. ⌜ r ≡ unsoundClause (world (now (st .entry)) (now (mem .entry))) ⌝ }
+{
+    unsound_clause(st, mem)
+}
+
+#[no_mangle]
+pub extern "C" fn tarvelgyo_is_tight(st: &[u32], mem: &[u16]) -> bool
+    ensures { λ r. ⌜ r ≡ tight (world (now (st .entry)) (now (mem .entry))) ⌝ }
+{
+    is_tight(st, mem)
+}
+
+#[no_mangle]
+pub extern "C" fn tarvelgyo_is_quiet(st: &[u32], mem: &[u16]) -> bool
+    ensures { λ r. ⌜ r ≡ quiet (world (now (st .entry)) (now (mem .entry))) ⌝ }
+{
+    is_quiet(st, mem)
+}

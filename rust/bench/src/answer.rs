@@ -1,0 +1,40 @@
+//! What a call answers.
+
+use crate::refusal::Refusal;
+
+/// An answer of any call. `crates/host/specs/Crossed.antt` says which number stands for it across
+/// C.
+#[derive(Clone, Copy, Debug, PartialEq, Eq, Hash)]
+pub enum Answer {
+    /// Refused, and nothing is changed.
+    No(Refusal),
+    Done,
+    /// "The answer to HELLO gives the grant."
+    Granted(u32),
+}
+
+impl Answer {
+    /// The answer that crossed as this number: which case it is in the upper half, what the case
+    /// carries in the lower. None where no answer crosses so.
+    ///
+    /// ```
+    /// use bench::{Answer, Refusal};
+    ///
+    /// assert_eq!(Answer::from_crossed(4), Some(Answer::No(Refusal::Busy)));
+    /// assert_eq!(Answer::from_crossed(2 << 32 | 64), Some(Answer::Granted(64)));
+    /// assert_eq!(Answer::from_crossed(0), None);
+    /// ```
+    pub fn from_crossed(crossed: u64) -> Option<Answer> {
+        match parts(crossed) {
+            (0, number) => Refusal::from_number(number).map(Answer::No),
+            (1, 0) => Some(Answer::Done),
+            (2, credit) => Some(Answer::Granted(credit)),
+            _ => None,
+        }
+    }
+}
+
+/// The case and what it carries, of an enum that crossed as one number.
+pub(crate) fn parts(crossed: u64) -> (u32, u32) {
+    ((crossed >> 32) as u32, crossed as u32)
+}

@@ -1,0 +1,33 @@
+//! The proved bench of document 01, called from Rust: a network of 1 to 16 XS1-L nodes, their
+//! links, circuits, credits and switch messages.
+//!
+//! What is called is the static library that the Rattle toolchain has proved and compiled from
+//! `crates/host`; this crate adds names, enums and ownership, and no rule of the bench. Its parts:
+//!
+//! * [`Bench`]: a network that owns its two memories, with a method for each call;
+//! * [`Looks`]: the state of a network, read through the proved looks alone, with its
+//!   [digest](Looks::digest);
+//! * [`raw`]: each proved function over the caller's own slices, of any length and contents;
+//! * [`Refusal`]: the paper's numbers for no, with their names.
+
+mod answer;
+mod clause;
+mod digest;
+mod looks;
+mod network;
+mod proved;
+pub mod raw;
+mod records;
+mod refusal;
+pub mod sizes;
+mod token;
+
+pub use answer::Answer;
+pub use clause::Clause;
+pub use looks::Looks;
+pub use network::{Bench, LinkEnd, Setting};
+pub use records::{
+    ChannelEnd, Circuit, ControlUnit, Destination, Hop, Link, Node, Peer, Port, TileLink,
+};
+pub use refusal::{Cause, Refusal};
+pub use token::{Kind, Token, Width};

@@ -1,0 +1,398 @@
+//! The proved functions, over the caller's own slices.
+//!
+//! None of them asks anything of its arguments: slices of any length and contents, places that are
+//! not there and buffers that do not fit all have an answer, and the contracts in `crates/host` say
+//! which. So each is safe to call. All of this crate's `unsafe` is in this file; it hands a slice
+//! over as C does, as a pointer and a length.
+//!
+//! A network is two memories that the caller lends: `state`, [`state_words`] words of 32 bits for
+//! each node, and `memory`, [`memory_words`] words of 16 bits for each.
+//!
+//! ```
+//! use bench::{raw, Answer, Refusal};
+//!
+//! // Words that are no network at all have their answers too, and are left as they are.
+//! let (mut state, mut memory) = ([7; 1000], [7; 3]);
+//! assert_eq!(raw::unsound_clause(&state, &memory), 1);
+//! assert_eq!(raw::node_count(&state), 1);
+//! assert_eq!(raw::hello(&mut state, &memory, 0, 0), Answer::No(Refusal::Unsound));
+//! assert_eq!(raw::fresh(&mut state, &mut memory, 1), Answer::No(Refusal::Unsound));
+//! assert_eq!((state, memory), ([7; 1000], [7; 3]));
+//!
+//! // Two memories of the right lengths become a network of one node, in place.
+//! let (mut state, mut memory) = (vec![7; raw::state_words()], vec![7; raw::memory_words()]);
+//! assert_eq!(raw::fresh(&mut state, &mut memory, 1), Answer::Done);
+//! assert!(raw::is_sound(&state, &memory));
+//! ```
+
+use crate::answer::{parts, Answer};
+use crate::proved;
+
+// SAFETY, of every call below: the slices are borrowed while the call lasts, each goes over with
+// its own length, and the function, which has no `requires`, is proved to read and write nothing
+// beyond.
+
+/// Fresh: a network of so many nodes, whatever the memories held.
+pub fn fresh(state: &mut [u32], memory: &mut [u16], nodes: usize) -> Answer {
+    // SAFETY: as said above.
+    answered(unsafe {
+        proved::tarvelgyo_fresh(
+            state.as_mut_ptr(),
+            state.len(),
+            memory.as_mut_ptr(),
+            memory.len(),
+            nodes,
+        )
+    })
+}
+
+/// Wire: a cable between a link of one slot and a link of another.
+pub fn wire(
+    state: &mut [u32],
+    memory: &[u16],
+    slot: usize,
+    link: usize,
+    far_slot: usize,
+    far_link: usize,
+) -> Answer {
+    // SAFETY: as said above.
+    answered(unsafe {
+        proved::tarvelgyo_wire(
+            state.as_mut_ptr(),
+            state.len(),
+            memory.as_ptr(),
+            memory.len(),
+            slot,
+            link,
+            far_slot,
+            far_link,
+        )
+    })
+}
+
+/// Set: a node's number.
+pub fn set_number(state: &mut [u32], memory: &[u16], slot: usize, value: u32) -> Answer {
+    // SAFETY: as said above.
+    answered(unsafe {
+        proved::tarvelgyo_set_number(
+            state.as_mut_ptr(),
+            state.len(),
+            memory.as_ptr(),
+            memory.len(),
+            slot,
+            value,
+        )
+    })
+}
+
+/// Set: a node's width, 1 or 3.
+pub fn set_width(state: &mut [u32], memory: &[u16], slot: usize, value: u32) -> Answer {
+    // SAFETY: as said above.
+    answered(unsafe {
+        proved::tarvelgyo_set_width(
+            state.as_mut_ptr(),
+            state.len(),
+            memory.as_ptr(),
+            memory.len(),
+            slot,
+            value,
+        )
+    })
+}
+
+/// Set: a node's direction entry for a bit.
+pub fn set_direction(
+    state: &mut [u32],
+    memory: &[u16],
+    slot: usize,
+    bit: u32,
+    value: u32,
+) -> Answer {
+    // SAFETY: as said above.
+    answered(unsafe {
+        proved::tarvelgyo_set_direction(
+            state.as_mut_ptr(),
+            state.len(),
+            memory.as_ptr(),
+            memory.len(),
+            slot,
+            bit,
+            value,
+        )
+    })
+}
+
+/// Set: a link's direction.
+pub fn set_link_direction(
+    state: &mut [u32],
+    memory: &[u16],
+    slot: usize,
+    link: usize,
+    value: u32,
+) -> Answer {
+    // SAFETY: as said above.
+    answered(unsafe {
+        proved::tarvelgyo_set_link_direction(
+            state.as_mut_ptr(),
+            state.len(),
+            memory.as_ptr(),
+            memory.len(),
+            slot,
+            link,
+            value,
+        )
+    })
+}
+
+/// Set: a link's network.
+pub fn set_network(
+    state: &mut [u32],
+    memory: &[u16],
+    slot: usize,
+    link: usize,
+    value: u32,
+) -> Answer {
+    // SAFETY: as said above.
+    answered(unsafe {
+        proved::tarvelgyo_set_network(
+            state.as_mut_ptr(),
+            state.len(),
+            memory.as_ptr(),
+            memory.len(),
+            slot,
+            link,
+            value,
+        )
+    })
+}
+
+/// Set: a link enabled (1) or disabled (0).
+pub fn set_enable(
+    state: &mut [u32],
+    memory: &[u16],
+    slot: usize,
+    link: usize,
+    value: u32,
+) -> Answer {
+    // SAFETY: as said above.
+    answered(unsafe {
+        proved::tarvelgyo_set_enable(
+            state.as_mut_ptr(),
+            state.len(),
+            memory.as_ptr(),
+            memory.len(),
+            slot,
+            link,
+            value,
+        )
+    })
+}
+
+/// Set: HELLO on a link.
+pub fn hello(state: &mut [u32], memory: &[u16], slot: usize, link: usize) -> Answer {
+    // SAFETY: as said above.
+    answered(unsafe {
+        proved::tarvelgyo_hello(
+            state.as_mut_ptr(),
+            state.len(),
+            memory.as_ptr(),
+            memory.len(),
+            slot,
+            link,
+        )
+    })
+}
+
+/// How many words of state to lend for each node.
+pub fn state_words() -> usize {
+    // SAFETY: as said above.
+    unsafe { proved::tarvelgyo_state_words() }
+}
+
+/// How many words of token memory to lend for each node: 13 ports of 64.
+pub fn memory_words() -> usize {
+    // SAFETY: as said above.
+    unsafe { proved::tarvelgyo_memory_words() }
+}
+
+/// How many whole nodes the state has room for: what its length says.
+pub fn node_count(state: &[u32]) -> usize {
+    // SAFETY: as said above.
+    unsafe { proved::tarvelgyo_node_count(state.as_ptr(), state.len()) }
+}
+
+/// Whether the list "Sound" of document 01 holds, and both lengths are right.
+pub fn is_sound(state: &[u32], memory: &[u16]) -> bool {
+    // SAFETY: as said above.
+    unsafe {
+        proved::tarvelgyo_is_sound(state.as_ptr(), state.len(), memory.as_ptr(), memory.len())
+    }
+}
+
+/// Whether the ties hold that calls keep beside the list "Sound".
+pub fn is_tight(state: &[u32], memory: &[u16]) -> bool {
+    // SAFETY: as said above.
+    unsafe {
+        proved::tarvelgyo_is_tight(state.as_ptr(), state.len(), memory.as_ptr(), memory.len())
+    }
+}
+
+/// Whether there is no token, no claim and no open circuit anywhere.
+pub fn is_quiet(state: &[u32], memory: &[u16]) -> bool {
+    // SAFETY: as said above.
+    unsafe {
+        proved::tarvelgyo_is_quiet(state.as_ptr(), state.len(), memory.as_ptr(), memory.len())
+    }
+}
+
+/// The number of the first clause of "Sound" that fails, 0 where none does; see [`crate::Clause`].
+pub fn unsound_clause(state: &[u32], memory: &[u16]) -> u32 {
+    // SAFETY: as said above.
+    unsafe {
+        proved::tarvelgyo_unsound_clause(state.as_ptr(), state.len(), memory.as_ptr(), memory.len())
+    }
+}
+
+/// The words of a node's own record, [`crate::Node`].
+/// False, and nothing written, where `out` has another length.
+pub fn node(state: &[u32], slot: usize, out: &mut [u32]) -> bool {
+    // SAFETY: as said above.
+    unsafe {
+        proved::tarvelgyo_node(
+            state.as_ptr(),
+            state.len(),
+            slot,
+            out.as_mut_ptr(),
+            out.len(),
+        )
+    }
+}
+
+/// The words of a link's record, [`crate::Link`].
+/// False, and nothing written, where `out` has another length.
+pub fn link(state: &[u32], slot: usize, link: usize, out: &mut [u32]) -> bool {
+    // SAFETY: as said above.
+    unsafe {
+        proved::tarvelgyo_link(
+            state.as_ptr(),
+            state.len(),
+            slot,
+            link,
+            out.as_mut_ptr(),
+            out.len(),
+        )
+    }
+}
+
+/// The words of a port's record, [`crate::Port`].
+/// False, and nothing written, where `out` has another length.
+pub fn port(state: &[u32], slot: usize, port: usize, out: &mut [u32]) -> bool {
+    // SAFETY: as said above.
+    unsafe {
+        proved::tarvelgyo_port(
+            state.as_ptr(),
+            state.len(),
+            slot,
+            port,
+            out.as_mut_ptr(),
+            out.len(),
+        )
+    }
+}
+
+/// The words of a tile link's record, [`crate::TileLink`].
+/// False, and nothing written, where `out` has another length.
+pub fn tile_link(state: &[u32], slot: usize, tile_link: usize, out: &mut [u32]) -> bool {
+    // SAFETY: as said above.
+    unsafe {
+        proved::tarvelgyo_tile_link(
+            state.as_ptr(),
+            state.len(),
+            slot,
+            tile_link,
+            out.as_mut_ptr(),
+            out.len(),
+        )
+    }
+}
+
+/// The words of a channel-end's record, [`crate::ChannelEnd`].
+/// False, and nothing written, where `out` has another length.
+pub fn channel_end(state: &[u32], slot: usize, channel_end: usize, out: &mut [u32]) -> bool {
+    // SAFETY: as said above.
+    unsafe {
+        proved::tarvelgyo_channel_end(
+            state.as_ptr(),
+            state.len(),
+            slot,
+            channel_end,
+            out.as_mut_ptr(),
+            out.len(),
+        )
+    }
+}
+
+/// The words of a control unit's record, [`crate::ControlUnit`].
+/// False, and nothing written, where `out` has another length.
+pub fn control_unit(state: &[u32], slot: usize, out: &mut [u32]) -> bool {
+    // SAFETY: as said above.
+    unsafe {
+        proved::tarvelgyo_control_unit(
+            state.as_ptr(),
+            state.len(),
+            slot,
+            out.as_mut_ptr(),
+            out.len(),
+        )
+    }
+}
+
+/// A node's direction entry for a bit 0..15.
+pub fn direction(state: &[u32], slot: usize, bit: u32) -> u32 {
+    // SAFETY: as said above.
+    unsafe { proved::tarvelgyo_direction(state.as_ptr(), state.len(), slot, bit) }
+}
+
+/// The token at a place of a port, the oldest at 0, as its word.
+pub fn port_token(
+    state: &[u32],
+    memory: &[u16],
+    slot: usize,
+    port: usize,
+    place: u32,
+) -> Option<u32> {
+    // SAFETY: as said above.
+    seen(unsafe {
+        proved::tarvelgyo_port_token(
+            state.as_ptr(),
+            state.len(),
+            memory.as_ptr(),
+            memory.len(),
+            slot,
+            port,
+            place,
+        )
+    })
+}
+
+/// The token at a place of a channel-end, the oldest at 0, as its word.
+pub fn end_token(state: &[u32], slot: usize, channel_end: usize, place: usize) -> Option<u32> {
+    // SAFETY: as said above.
+    seen(unsafe {
+        proved::tarvelgyo_end_token(state.as_ptr(), state.len(), slot, channel_end, place)
+    })
+}
+
+/// What a look at a token found: case 1 carries the token's word, case 0 is nothing.
+fn seen(crossed: u64) -> Option<u32> {
+    match parts(crossed) {
+        (1, word) => Some(word),
+        _ => None,
+    }
+}
+
+/// What a call answered. Every number that the proved functions give stands for an answer.
+fn answered(crossed: u64) -> Answer {
+    let answer = Answer::from_crossed(crossed);
+    answer.unwrap_or_else(|| unreachable!("no answer crosses as {crossed:#x}"))
+}

@@ -1,0 +1,156 @@
+//! A state of the model, written as the words that the proved bench takes for it.
+//!
+//! The places are those of `crates/cells/specs/Layout.antt`, the words those of `Records.antt`
+//! there, written down here a second time so that a wrong place in either is found.
+
+use model::answers::Cause;
+use model::network::{
+    ChannelEnd, Claim, ControlUnit, Hop, Link, Network, Node, Port, Sending, PORTS, PORT_CAPACITY,
+};
+use model::random::Random;
+use model::tokens::{Destination, Kind, Token};
+
+/// The words of a node.
+pub const NODE_WORDS: usize = 754;
+/// The words of token memory of a node.
+pub const NODE_TOKENS: usize = PORTS * PORT_CAPACITY;
+
+/// Words of a record, in their order.
+type Words = Vec<u32>;
+
+/// State and token memory. Where in its ring a port's oldest token lies is left to the
+/// implementation, and so is chosen at random here.
+pub fn write(network: &Network, random: &mut Random) -> (Vec<u32>, Vec<u16>) {
+    let mut state = Vec::with_capacity(network.nodes.len() * NODE_WORDS);
+    let mut memory = vec![0; network.nodes.len() * NODE_TOKENS];
+    for (node, stretch) in network.nodes.iter().zip(memory.chunks_mut(NODE_TOKENS)) {
+        let heads: [usize; PORTS] = std::array::from_fn(|_| random.below(PORT_CAPACITY));
+        state.extend(node_words(node, &heads));
+        for ((port, head), ring) in node.ports.iter().zip(heads).zip(stretch.chunks_mut(64)) {
+            write_tokens(port, head, ring);
+        }
+    }
+    (state, memory)
+}
+
+fn write_tokens(port: &Port, head: usize, ring: &mut [u16]) {
+    for (place, token) in port.tokens.iter().enumerate() {
+        let at = (head + place) % PORT_CAPACITY;
+        ring[at] = word(token) as u16;
+    }
+}
+
+/// own 4 | links 8 x 10 | ports 13 x 8 | tile links 4 x 2 | channel-ends 32 x 17 | control unit 14
+fn node_words(node: &Node, heads: &[usize; PORTS]) -> Words {
+    let mut words = own_words(node);
+    words.extend(node.links.iter().flat_map(link_words));
+    words.extend((0..PORTS).flat_map(|port| port_words(node, port, heads[port])));
+    words.extend(node.tile_links.iter().flat_map(|user| named(1, *user)));
+    words.extend(node.channel_ends.iter().flat_map(channel_end_words));
+    words.extend(control_unit_words(&node.control_unit));
+    assert_eq!(words.len(), NODE_WORDS);
+    words
+}
+
+fn own_words(node: &Node) -> Words {
+    let entries = node.directions.chunks(8);
+    let registers =
+        entries.map(|eight| eight.iter().rev().fold(0, |word, entry| word << 4 | entry));
+    [node.number, node.width]
+        .into_iter()
+        .chain(registers)
+        .collect()
+}
+
+/// A circuit's two words: kind and index, 0 0 for none.
+fn named(kind: u32, index: Option<usize>) -> [u32; 2] {
+    index.map_or([0, 0], |index| [kind, index as u32])
+}
+
+fn link_words(link: &Link) -> Words {
+    let far = link
+        .far
+        .map_or([0; 3], |far| [1, far.slot as u32, far.link as u32]);
+    let mut words = far.to_vec();
+    words.extend([
+        u32::from(link.enabled),
+        link.direction,
+        link.network,
+        u32::from(link.greeted),
+        link.credit as u32,
+    ]);
+    words.extend(named(1, link.used_by));
+    words
+}
+
+fn port_words(node: &Node, port: usize, head: usize) -> Words {
+    let state = &node.ports[port];
+    let tile = node.tile_links.iter().position(|user| *user == Some(port));
+    let by_it = Some(Sending::ByPort(port));
+    let sender = node
+        .channel_ends
+        .iter()
+        .position(|end| end.sending == by_it);
+    let mut words = vec![head as u32, state.tokens.len() as u32];
+    words.extend(match state.hop {
+        None => [0, 0],
+        Some(Hop::Outward(link)) => [1, link as u32],
+        Some(Hop::Channel(channel)) => [2, channel as u32],
+        Some(Hop::Control) => [3, 0],
+        Some(Hop::Dropped(Cause::Split)) => [4, 0],
+        Some(Hop::Dropped(Cause::NoRoute)) => [5, 0],
+    });
+    words.extend([tile.unwrap_or(0) as u32, state.network]);
+    words.extend(named(2, sender));
+    words
+}
+
+fn channel_end_words(end: &ChannelEnd) -> Words {
+    let mut words = match end.aim {
+        None => vec![0; 4],
+        Some(aim) => {
+            let (kind, channel) = match aim.destination {
+                Destination::Channel { channel, .. } => (1, channel as u32),
+                Destination::Control { .. } => (2, 0),
+            };
+            vec![kind, aim.destination.number(), channel, aim.network]
+        }
+    };
+    words.extend(match end.sending {
+        None => [0, 0],
+        Some(Sending::ByPort(port)) => [1, port as u32],
+        Some(Sending::Straight(channel)) => [2, channel as u32],
+    });
+    words.extend(match end.claim {
+        None => [0, 0],
+        Some(Claim::ByPort(port)) => [1, port as u32],
+        Some(Claim::ByChannelEnd(sender)) => [2, sender as u32],
+    });
+    words.push(end.tokens.len() as u32);
+    words.extend(filled(8, end.tokens.iter().map(word)));
+    words
+}
+
+fn control_unit_words(unit: &ControlUnit) -> Words {
+    let mut words = named(1, unit.serves).to_vec();
+    words.push(unit.heard.len() as u32);
+    words.extend(filled(11, unit.heard.iter().map(word)));
+    words
+}
+
+/// The words, and zeros behind them up to that many.
+fn filled(length: usize, words: impl Iterator<Item = u32>) -> Words {
+    words.chain(std::iter::repeat(0)).take(length).collect()
+}
+
+/// The value in bits 0..7, bit 8 control, bit 9 part of a header, bit 10, with bit 9, of a
+/// three-byte header.
+pub fn word(token: &Token) -> u32 {
+    let control = u32::from(token.kind == Kind::Control);
+    let header = match token.header {
+        None => 0,
+        Some(3) => 6,
+        Some(_) => 2,
+    };
+    u32::from(token.value) + 256 * (control + header)
+}

@@ -1,0 +1,41 @@
+//! Both sides asked whether the same words are sound.
+
+use bench::Looks;
+use model::sound;
+
+use crate::reading::read;
+
+/// What both say.
+#[derive(Clone, Copy, Debug, PartialEq, Eq)]
+pub enum Verdict {
+    Sound,
+    /// Read as a state of the model, and unsound.
+    Unsound,
+    /// No state of the model, and unsound to the proved bench.
+    Unreadable,
+}
+
+/// Asks both sides of any words. Where they differ, or the proved tests differ among themselves,
+/// says how.
+pub fn verdict(state: &[u32], memory: &[u16]) -> Result<Verdict, String> {
+    let looks = Looks::over(state, memory);
+    let proved = looks.is_sound();
+    let clause = looks.failing_clause();
+    if proved != clause.is_none() {
+        return Err(format!("is_sound is {proved}, and {clause:?} fails"));
+    }
+    let (expected, why) = match read(state, memory) {
+        Ok(network) => match sound::first_failing(&network) {
+            None => (Verdict::Sound, String::new()),
+            Some(failing) => (Verdict::Unsound, format!("{failing:?}")),
+        },
+        Err(unreadable) => (Verdict::Unreadable, unreadable.0),
+    };
+    if proved == (expected == Verdict::Sound) {
+        return Ok(expected);
+    }
+    let found = clause.map_or("sound".to_owned(), |clause| clause.to_string());
+    Err(format!(
+        "the library: {found}; the model: {expected:?} {why}"
+    ))
+}

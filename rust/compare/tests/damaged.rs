@@ -1,0 +1,256 @@
+//! Damaged memories: the proved tests and looks answer for any words, change none of them, and
+//! agree with the model's list wherever the words are a state of the model.
+
+use std::fmt;
+use std::ops::Range;
+
+use bench::sizes::{BITS, CHANNEL_ENDS, LINKS, MOST_NODES, PORTS};
+use bench::{raw, Looks};
+use compare::calls::{any, compare, make, Lent};
+use compare::damage::{disturb, things};
+use compare::layout::{self, NODE_TOKENS, NODE_WORDS};
+use compare::reading;
+use compare::verdict::{verdict, Verdict};
+use model::network::Network;
+use model::random::Random;
+use model::runs::Runner;
+use model::{Answer, No};
+
+const RUNS: u64 = 150;
+const CALLS: usize = 300;
+
+/// State and token memory.
+type Words = (Vec<u32>, Vec<u16>);
+
+/// How often each verdict was given, and each clause of the list found to fail.
+#[derive(Default)]
+struct Tally {
+    sound: usize,
+    unsound: usize,
+    unreadable: usize,
+    clauses: [usize; 13],
+}
+
+impl Tally {
+    fn count(&mut self, verdict: Verdict, state: &[u32], memory: &[u16]) {
+        match verdict {
+            Verdict::Sound => self.sound += 1,
+            Verdict::Unsound => self.unsound += 1,
+            Verdict::Unreadable => self.unreadable += 1,
+        }
+        self.clauses[raw::unsound_clause(state, memory) as usize] += 1;
+    }
+}
+
+impl fmt::Display for Tally {
+    fn fmt(&self, f: &mut fmt::Formatter<'_>) -> fmt::Result {
+        let (sound, unsound, unreadable) = (self.sound, self.unsound, self.unreadable);
+        write!(
+            f,
+            "{sound} sound, {unsound} unsound, {unreadable} unsound and no state of the model; "
+        )?;
+        write!(f, "by clause: {:?}", &self.clauses[1..])
+    }
+}
+
+/// Makes every look at every place of so many nodes, and at one place beyond in each direction.
+fn look_everywhere(looks: Looks) {
+    let beyond = [looks.nodes(), usize::MAX];
+    for slot in (0..looks.nodes()).chain(beyond) {
+        looks.node(slot);
+        looks.control_unit(slot);
+        for bit in 0..=BITS {
+            assert!(looks.direction(slot, bit) < 16);
+        }
+        for link in 0..=LINKS {
+            looks.link(slot, link);
+            looks.tile_link(slot, link);
+        }
+        for port in 0..=PORTS {
+            looks.port(slot, port);
+            assert!(looks.port_tokens(slot, port).count() <= 64);
+        }
+        for end in 0..=CHANNEL_ENDS {
+            looks.channel_end(slot, end);
+            assert!(looks.end_tokens(slot, end).count() <= 8);
+        }
+    }
+    looks.digest();
+    looks.is_tight();
+    looks.is_quiet();
+}
+
+/// Makes calls on damaged words, each on a copy. Unsound ones are refused as that and left as they
+/// are; what is sound is a state of the model, which must answer the same.
+fn call_on(verdict: Verdict, state: &[u32], memory: &[u16], from: &str) {
+    let mut random = Random::new(
+        state
+            .iter()
+            .fold(0_u64, |sum, word| sum.wrapping_mul(31) ^ u64::from(*word)),
+    );
+    let read = reading::read(state, memory).ok();
+    for _ in 0..3 {
+        let mut network = read.clone();
+        let call = any(&mut random, network.as_ref());
+        let (state, memory) = (state.to_vec(), memory.to_vec());
+        let mut lent = Lent { state, memory };
+        let is_fresh = matches!(call, model::Call::Fresh { .. });
+        if verdict == Verdict::Sound || is_fresh {
+            compare(&mut network, &mut lent, &call).unwrap_or_else(|d| panic!("{from}: {d}"));
+        } else {
+            let before = lent.clone();
+            assert_eq!(
+                make(&mut lent, &call),
+                Some(Answer::No(No::Unsound)),
+                "{from}: {call:?}"
+            );
+            assert!(lent == before, "{from}: {call:?} has changed a word");
+        }
+    }
+}
+
+/// Asks both sides, makes every look, and sees that no word has changed.
+fn check(state: &[u32], memory: &[u16], from: &str) -> Verdict {
+    let before = (state.to_vec(), memory.to_vec());
+    let verdict =
+        verdict(state, memory).unwrap_or_else(|difference| panic!("{from}: {difference}"));
+    look_everywhere(Looks::over(state, memory));
+    assert!(
+        before.0 == state && before.1 == memory,
+        "{from}: a word has changed"
+    );
+    call_on(verdict, state, memory, from);
+    verdict
+}
+
+/// The words that a fresh network has.
+fn fresh(nodes: usize) -> Words {
+    let network = Network::fresh(nodes, nodes * NODE_TOKENS);
+    layout::write(&network, &mut Random::new(0))
+}
+
+/// Damages the states of runs, and asks both sides of what comes of it.
+fn disturb_runs(seeds: Range<u64>, damage: impl Fn(&mut Random, &Network) -> Words) -> Tally {
+    let mut tally = Tally::default();
+    for seed in seeds {
+        let mut runner = Runner::new(seed);
+        let mut random = Random::new(seed ^ 0xDA3A);
+        for call in 0..CALLS {
+            runner.call();
+            if let Some(network) = runner.network() {
+                let (state, memory) = damage(&mut random, network);
+                let found = check(&state, &memory, &format!("seed {seed}, call {call}"));
+                tally.count(found, &state, &memory);
+            }
+        }
+    }
+    tally
+}
+
+#[test]
+fn states_of_runs_with_other_words() {
+    let tally = disturb_runs(0..RUNS, |random, network| {
+        let (mut state, mut memory) = layout::write(network, random);
+        disturb(random, &mut state, &mut memory);
+        (state, memory)
+    });
+    println!("{tally}");
+}
+
+#[test]
+fn states_of_runs_with_other_things() {
+    let tally = disturb_runs(RUNS..2 * RUNS, |random, network| {
+        let mut network = network.clone();
+        things::disturb(random, &mut network);
+        layout::write(&network, random)
+    });
+    println!("{tally}");
+    assert_eq!(tally.unreadable, 0);
+    let failed = &tally.clauses[2..];
+    assert!(
+        failed.iter().all(|times| *times > 0),
+        "no damage met some clause"
+    );
+}
+
+#[test]
+fn every_wrong_length() {
+    let mut tally = Tally::default();
+    for nodes in 0..=MOST_NODES + 2 {
+        let (state, memory) = fresh(nodes);
+        for words in lengths(nodes * NODE_WORDS, NODE_WORDS) {
+            for tokens in lengths(nodes * NODE_TOKENS, NODE_TOKENS) {
+                let (mut state, mut memory) = (state.clone(), memory.clone());
+                state.resize(words, 0);
+                memory.resize(tokens, 0);
+                let whole = words / NODE_WORDS;
+                let right = words == whole * NODE_WORDS && tokens == whole * NODE_TOKENS;
+                let sound = right && (1..=nodes.min(MOST_NODES)).contains(&whole);
+                let found = check(&state, &memory, &format!("{words} words, {tokens} tokens"));
+                assert_eq!(found == Verdict::Sound, sound);
+                tally.count(found, &state, &memory);
+            }
+        }
+    }
+    println!("{tally}");
+}
+
+/// A length, and others about it and about one node more or less.
+fn lengths(right: usize, node: usize) -> Vec<usize> {
+    let about = [0, 1, right / 2, right - right.min(node), right + node];
+    let mut lengths = vec![right, right + 1, right - right.min(1)];
+    lengths.extend(about);
+    lengths.sort_unstable();
+    lengths.dedup();
+    lengths
+}
+
+#[test]
+fn one_word_over_and_over() {
+    for nodes in 1..=MOST_NODES {
+        for word in [0, 1, 2, 3, 0xFF, 0xFFFF, u32::MAX] {
+            for token in [0, 1, 0x101, 0x1FF, 0x6FF, 0x7C3, u16::MAX] {
+                let state = vec![word; nodes * NODE_WORDS];
+                let memory = vec![token; nodes * NODE_TOKENS];
+                let found = check(
+                    &state,
+                    &memory,
+                    &format!("{nodes} nodes of {word} and {token}"),
+                );
+                assert_ne!(found, Verdict::Sound);
+            }
+        }
+    }
+}
+
+#[test]
+fn words_at_random() {
+    let mut tally = Tally::default();
+    let mut random = Random::new(5);
+    for round in 0..2000 {
+        let nodes = random.below(MOST_NODES + 2);
+        let limit = random.pick(&[2, 4, 13, 256, u32::MAX]).unwrap_or(2);
+        let state: Vec<u32> = (0..nodes * NODE_WORDS)
+            .map(|_| random.value_below(limit))
+            .collect();
+        let memory: Vec<u16> = (0..nodes * NODE_TOKENS)
+            .map(|_| random.bits() as u16)
+            .collect();
+        let found = check(&state, &memory, &format!("round {round}"));
+        tally.count(found, &state, &memory);
+    }
+    println!("{tally}");
+}
+
+#[test]
+fn a_fresh_network_disturbed() {
+    let mut tally = Tally::default();
+    let mut random = Random::new(6);
+    for round in 0..20_000 {
+        let (mut state, mut memory) = fresh(1 + random.below(3));
+        disturb(&mut random, &mut state, &mut memory);
+        let found = check(&state, &memory, &format!("round {round}"));
+        tally.count(found, &state, &memory);
+    }
+    println!("{tally}");
+}
