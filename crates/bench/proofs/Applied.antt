@@ -16,7 +16,7 @@ use Rattle.cells.specs.View.{Net}
 use Rattle.cells.proofs.Whole.{whole-state}
 use Rattle.settings.specs.declared.Setting.{Setting}
 use Rattle.settings.specs.declared.Setting.the-variants.{Number, Width, Direction, LinkDirection, Network, Enable, Hello}
-use Rattle.bench.specs.Calls.{Call, Fresh, Wire, Set, rows, made, apply}
+use Rattle.bench.specs.Calls.{Call, Fresh, Wire, Set, Aim, Output, Input, rows, made, apply}
 
 -- "show that two results meeting it are equal": answer, every word of the state, every word of token memory
 pub one-result : (w : World) (c : Call) (r q : Answer) (st zt mem nem : List ℕ)
@@ -38,23 +38,35 @@ passing w (Set a (LinkDirection l v)) = refl
 passing w (Set a (Network l v)) = refl
 passing w (Set a (Enable l v)) = refl
 passing w (Set a (Hello l)) = refl
+passing w (Aim a c g v) = refl
+passing w (Output a c x) = refl
+passing w (Input a c k) = refl
 
 -- no call has two rows of one number
 once : (w : World) (c : Call) → distinct (rows w c) ≡ true
 once w (Fresh n) = refl
 once w (Wire a l b k) = refl
 once w (Set a x) = refl
+once w (Aim a c g v) = refl
+once w (Output a c x) = refl
+once w (Input a c k) = refl
 
 -- "The lowest number wins": the rows of a call stand in the order of their numbers; Fresh looks at the count before the lengths
 abbrev pub InOrder : World → Call → Type 0
 InOrder w (Fresh n) = rising 0 (rows w (Fresh n)) ≡ false
 InOrder w (Wire a l b k) = rising 0 (rows w (Wire a l b k)) ≡ true
 InOrder w (Set a x) = rising 0 (rows w (Set a x)) ≡ true
+InOrder w (Aim a c g v) = rising 0 (rows w (Aim a c g v)) ≡ true
+InOrder w (Output a c x) = rising 0 (rows w (Output a c x)) ≡ true
+InOrder w (Input a c k) = rising 0 (rows w (Input a c k)) ≡ true
 
 pub in-order : (w : World) (c : Call) → InOrder w c
 in-order w (Fresh n) = refl
 in-order w (Wire a l b k) = refl
 in-order w (Set a x) = refl
+in-order w (Aim a c g v) = refl
+in-order w (Output a c x) = refl
+in-order w (Input a c k) = refl
 
 module _ (w : World) (c : Call) where
   pub numbered : numberOf (apply w c .answer) ≡ refusal (rows w c)

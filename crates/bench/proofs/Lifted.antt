@@ -1,57 +1,37 @@
--- A call made on the state alone, as the call on the world that the bench publishes. Assumes nothing.
-use Prim.Native.Nat.{ℕ}
-use mathlib.Core.Path.{_≡_, refl, ap, _∙_}
+-- What a public call does that tests the state first, and then makes the call on a state that is known to be sound. Assumes nothing.
+use mathlib.Core.Path.{_≡_, refl, sym, ap, _∙_}
 use mathlib.Core.Bool.{true, false}
 use mathlib.Core.List.{List, _∷_}
 use lib.Dec.{eqb}
 use Rattle.laws.proofs.Order.{by-test}
 use Rattle.names.specs.No.{number, passes, Unsound}
-use Rattle.names.specs.declared.Slot.{Slot}
 use Rattle.answers.specs.Rows.{Row, refusal}
 use Rattle.answers.specs.Out.{Out, out, attempt}
-use Rattle.answers.specs.declared.Answer.{Answer}
-use Rattle.answers.specs.declared.Answer.the-variants.{No, Done}
+use Rattle.answers.specs.declared.Answer.the-variants.{No}
 use Rattle.cells.specs.View.{Net}
 use Rattle.cells.specs.World.{World}
-use Rattle.settings.specs.Wire.{wire, wireRows, wired}
-use Rattle.settings.specs.Set.{set, setRows, setAnswer, setMade}
-use Rattle.settings.specs.declared.Setting.{Setting}
+use Rattle.acts.specs.Acts.{withNet}
 use Rattle.sound.specs.Sound.{sound}
-use Rattle.fresh.specs.Fresh.{fresh}
-use Rattle.bench.specs.Calls.{Call, Fresh, Wire, Set, unsound, withNet, apply}
+use Rattle.bench.specs.Calls.{Call, unsound, rows, made, apply}
 
-abbrev lifted : World → Out Net → Out World
+-- what comes of a call on the state alone, as it is on the world: token memory as it was
+abbrev pub lifted : World → Out Net → Out World
 lifted w o = out (o .answer) (withNet w (o .next))
 
--- refused as Unsound before anything else is looked at
-unsound-first : (w : World) (rs : List Row) (done : Out World) → sound w ≡ false → out (No (number Unsound)) w ≡ attempt (unsound w ∷ rs) w done
-unsound-first w rs done e = rw e
+-- a call whose first row is Unsound, and whose others are rs
+module _ (w : World) (c : Call) (rs : List Row) (q : rows w c ≡ (unsound w ∷ rs)) where
+  pub refused-unsound : sound w ≡ false → out (No (number Unsound)) w ≡ apply w c
+  unfolding apply
+  refused-unsound e = rw (q, e)
 
--- on a sound state, what the rows of the state alone say
-on-sound : (w : World) (rs : List Row) (done : Out Net) → sound w ≡ true
-    → lifted w (attempt rs (w .net) done) ≡ attempt (unsound w ∷ rs) w (lifted w done)
-on-sound w rs done e = rw e (by-test (eqb (refusal rs) passes) (λ f. rw f) (λ f. rw f))
+  -- .. is on a sound state what the others say
+  pub on-world : sound w ≡ true → (o : Out World) → o ≡ attempt rs w (made w c) → o ≡ apply w c
+  unfolding apply
+  on-world e o h = rw (q, e) h
 
-module _ (w : World) where
-  pub fresh-applied : (n : ℕ) → fresh w n ≡ apply w (Fresh n)
-  unfolding apply fresh
-  fresh-applied n = refl
-
-  module _ (a : Slot) (l : ℕ) (b : Slot) (k : ℕ) where
-    pub wire-unsound : sound w ≡ false → out (No (number Unsound)) w ≡ apply w (Wire a l b k)
-    unfolding apply
-    wire-unsound e = unsound-first w (wireRows (w .net) (a .0) l (b .0) k) (out Done (withNet w (wired (w .net) (a .0) l (b .0) k))) e
-
-    pub wire-applied : (r : Answer) (s : Net) → sound w ≡ true → out r s ≡ wire (w .net) (a .0) l (b .0) k → out r (withNet w s) ≡ apply w (Wire a l b k)
-    unfolding apply wire
-    wire-applied r s e h =
-        ap (lifted w) h ∙ on-sound w (wireRows (w .net) (a .0) l (b .0) k) (out Done (wired (w .net) (a .0) l (b .0) k)) e
-
-  module _ (a : Slot) (x : Setting) where
-    pub set-unsound : sound w ≡ false → out (No (number Unsound)) w ≡ apply w (Set a x)
-    unfolding apply
-    set-unsound e = unsound-first w (setRows (w .net) (a .0) x) (out (setAnswer (w .net) (a .0) x) (withNet w (setMade (w .net) (a .0) x))) e
-
-    pub set-applied : (r : Answer) (s : Net) → sound w ≡ true → out r s ≡ set (w .net) (a .0) x → out r (withNet w s) ≡ apply w (Set a x)
-    unfolding apply set
-    set-applied r s e h = ap (lifted w) h ∙ on-sound w (setRows (w .net) (a .0) x) (out (setAnswer (w .net) (a .0) x) (setMade (w .net) (a .0) x)) e
+  -- .. also where the state alone was lent
+  pub on-net : sound w ≡ true → (done : Out Net) → made w c ≡ lifted w done → (o : Out Net) → o ≡ attempt rs (w .net) done → lifted w o ≡ apply w c
+  on-net e done m o h =
+      on-world e (lifted w o)
+      (ap (lifted w) h
+      ∙ by-test (eqb (refusal rs) passes) (λ f. rw (m, f)) (λ f. rw f))

@@ -5,6 +5,7 @@ use mathlib.Core.Bool.{Bool, true, false, not, _&&_, _||_}
 use lib.Dec.{eqb, ltb}
 use Rattle.laws.specs.All.{Means}
 use Rattle.names.specs.No as Names
+use Rattle.names.specs.Size.{networks}
 use Rattle.names.specs.declared.Slot.{Slot}
 use Rattle.answers.specs.Answer.{numberOf}
 use Rattle.cells.specs.World.{World}
@@ -13,7 +14,15 @@ use Rattle.settings.specs.Wire.{linkAt, endTaken}
 use Rattle.settings.specs.Set.{linkThere, inRange, setBusy}
 use Rattle.settings.specs.declared.Setting.{Setting}
 use Rattle.sound.specs.Sound.{sound}
-use Rattle.bench.specs.Calls.{Call, Fresh, Wire, Set, apply}
+use Rattle.ends.specs.Ends.{endAt, isOpen}
+use Rattle.ends.specs.Aim.{goalRanged}
+use Rattle.ends.specs.Input.{isWanted, firstHeld}
+use Rattle.ends.specs.Plan.{targetOf, planOf}
+use Rattle.ends.specs.Output.{wordOf, tokenNo, isNarrow, isFull}
+use Rattle.ends.specs.declared.Token.{Token}
+use Rattle.ends.specs.declared.Wanted.{Wanted}
+use Rattle.ends.specs.declared.aim.Goal.{Goal}
+use Rattle.bench.specs.Calls.{Call, Fresh, Wire, Set, Aim, Output, Input, apply}
 use Rattle.bench.proofs.Applied.{exactly}
 
 -- the call is refused by that number exactly when P
@@ -56,3 +65,61 @@ module _ (w : World) where
     pub set-busy : Refused w (Set a x) Names.Busy
         ((not (sound w) ≡ false) × ((not (ltb (a .0) (w .net .nodes) && linkThere x) ≡ false) × ((not (inRange x) ≡ false) × (setBusy (w .net) (a .0) x ≡ true))))
     set-busy = exactly w (Set a x) Names.Busy
+
+  module _ (a : Slot) (c : ℕ) (g : Goal) (v : ℕ) where
+    pub aim-unsound : Refused w (Aim a c g v) Names.Unsound (not (sound w) ≡ true)
+    aim-unsound = exactly w (Aim a c g v) Names.Unsound
+
+    pub aim-no-such : Refused w (Aim a c g v) Names.NoSuch ((not (sound w) ≡ false) × (not (endAt (w .net) (a .0) c) ≡ true))
+    aim-no-such = exactly w (Aim a c g v) Names.NoSuch
+
+    pub aim-value : Refused w (Aim a c g v) Names.Value
+        ((not (sound w) ≡ false) × ((not (endAt (w .net) (a .0) c) ≡ false) × (not (goalRanged g && ltb v networks) ≡ true)))
+    aim-value = exactly w (Aim a c g v) Names.Value
+
+    pub aim-open : Refused w (Aim a c g v) Names.Open
+        ((not (sound w) ≡ false) × ((not (endAt (w .net) (a .0) c) ≡ false) × ((not (goalRanged g && ltb v networks) ≡ false) × (isOpen (w .net .ends (a .0) c) ≡ true))))
+    aim-open = exactly w (Aim a c g v) Names.Open
+
+  module _ (a : Slot) (c : ℕ) (k : Wanted) where
+    pub input-unsound : Refused w (Input a c k) Names.Unsound (not (sound w) ≡ true)
+    input-unsound = exactly w (Input a c k) Names.Unsound
+
+    pub input-no-such : Refused w (Input a c k) Names.NoSuch ((not (sound w) ≡ false) × (not (endAt (w .net) (a .0) c) ≡ true))
+    input-no-such = exactly w (Input a c k) Names.NoSuch
+
+    pub input-empty : Refused w (Input a c k) Names.Empty
+        ((not (sound w) ≡ false) × ((not (endAt (w .net) (a .0) c) ≡ false) × (eqb (w .net .ends (a .0) c .held) 0 ≡ true)))
+    input-empty = exactly w (Input a c k) Names.Empty
+
+    pub input-trap : Refused w (Input a c k) Names.Trap
+        ((not (sound w) ≡ false) × ((not (endAt (w .net) (a .0) c) ≡ false) × ((eqb (w .net .ends (a .0) c .held) 0 ≡ false) × (not (isWanted (firstHeld (w .net .ends (a .0) c)) k) ≡ true))))
+    input-trap = exactly w (Input a c k) Names.Trap
+
+  -- Output's rows, each with those before it absent
+  module _ (a : Slot) (c : ℕ) (x : Token) where
+    pub output-unsound : Refused w (Output a c x) Names.Unsound (not (sound w) ≡ true)
+    output-unsound = exactly w (Output a c x) Names.Unsound
+
+    pub output-no-such : Refused w (Output a c x) Names.NoSuch ((not (sound w) ≡ false) × (not (endAt (w .net) (a .0) c) ≡ true))
+    output-no-such = exactly w (Output a c x) Names.NoSuch
+
+    pub output-unaimed : Refused w (Output a c x) Names.Unaimed
+        ((not (sound w) ≡ false) × ((not (endAt (w .net) (a .0) c) ≡ false) × (eqb (w .net .ends (a .0) c .aim) 0 ≡ true)))
+    output-unaimed = exactly w (Output a c x) Names.Unaimed
+
+    pub output-hardware : Refused w (Output a c x) Names.Hardware
+        ((not (sound w) ≡ false) × ((not (endAt (w .net) (a .0) c) ≡ false) × ((eqb (w .net .ends (a .0) c .aim) 0 ≡ false) × (eqb (tokenNo x (targetOf (w .net .ends (a .0) c))) 7 ≡ true))))
+    output-hardware = exactly w (Output a c x) Names.Hardware
+
+    pub output-privileged : Refused w (Output a c x) Names.Privileged
+        ((not (sound w) ≡ false) × ((not (endAt (w .net) (a .0) c) ≡ false) × ((eqb (w .net .ends (a .0) c .aim) 0 ≡ false) × ((eqb (tokenNo x (targetOf (w .net .ends (a .0) c))) 7 ≡ false) × (eqb (tokenNo x (targetOf (w .net .ends (a .0) c))) 8 ≡ true)))))
+    output-privileged = exactly w (Output a c x) Names.Privileged
+
+    pub output-narrow : Refused w (Output a c x) Names.Narrow
+        ((not (sound w) ≡ false) × ((not (endAt (w .net) (a .0) c) ≡ false) × ((eqb (w .net .ends (a .0) c .aim) 0 ≡ false) × ((eqb (tokenNo x (targetOf (w .net .ends (a .0) c))) 7 ≡ false) × ((eqb (tokenNo x (targetOf (w .net .ends (a .0) c))) 8 ≡ false) × (isNarrow (planOf (w .net) (a .0) c (targetOf (w .net .ends (a .0) c)) (wordOf x)) ≡ true))))))
+    output-narrow = exactly w (Output a c x) Names.Narrow
+
+    pub output-full : Refused w (Output a c x) Names.Full
+        ((not (sound w) ≡ false) × ((not (endAt (w .net) (a .0) c) ≡ false) × ((eqb (w .net .ends (a .0) c .aim) 0 ≡ false) × ((eqb (tokenNo x (targetOf (w .net .ends (a .0) c))) 7 ≡ false) × ((eqb (tokenNo x (targetOf (w .net .ends (a .0) c))) 8 ≡ false) × ((isNarrow (planOf (w .net) (a .0) c (targetOf (w .net .ends (a .0) c)) (wordOf x)) ≡ false) × (isFull (planOf (w .net) (a .0) c (targetOf (w .net .ends (a .0) c)) (wordOf x)) ≡ true)))))))
+    output-full = exactly w (Output a c x) Names.Full

@@ -2,6 +2,9 @@
 // Each contract gives the one answer and every word of both memories after the call, refused or not:
 // `apply`, in specs/Calls.antt.
 use answers::Answer;
+use ends::Token;
+use ends::Wanted;
+use ends::aim::Goal;
 use names::Slot;
 use names::no::UNSOUND;
 use settings::Setting;
@@ -9,7 +12,7 @@ use sound::is_sound;
 ghost use mathlib.Core.Path.{_≡_};
 ghost use Rattle.answers.specs.Out.{out};
 ghost use Rattle.cells.specs.World.{world};
-ghost use Rattle.bench.specs.Calls.{apply, Fresh, Wire, Set};
+ghost use Rattle.bench.specs.Calls.{apply, Fresh, Wire, Set, Aim, Output, Input};
 
 // A network of so many nodes, whatever the memories held.
 pub fn fresh(st: &mut [u32], mem: &mut [u16], nodes: usize) -> Answer
@@ -36,4 +39,34 @@ pub fn set(st: &mut [u32], mem: &[u16], slot: Slot, x: Setting) -> Answer
         return Answer::No(UNSOUND);
     }
     settings::set(st, slot, x)
+}
+
+// A channel-end's destination and network.
+pub fn aim(st: &mut [u32], mem: &[u16], slot: Slot, c: usize, g: Goal, network: u32) -> Answer
+    ensures { λ r. ⌜ out r (world (now (st .exit)) (now (mem .entry))) ≡ apply (world (now (st .entry)) (now (mem .entry))) (Aim slot c g network) ⌝ }
+{
+    if !is_sound(st, mem) {
+        return Answer::No(UNSOUND);
+    }
+    ends::aim::aim(st, slot, c, g, network)
+}
+
+// A token put out by a channel-end; the first opens a circuit.
+pub fn output(st: &mut [u32], mem: &mut [u16], slot: Slot, c: usize, x: Token) -> Answer
+    ensures { λ r. ⌜ out r (world (now (st .exit)) (now (mem .exit))) ≡ apply (world (now (st .entry)) (now (mem .entry))) (Output slot c x) ⌝ }
+{
+    if !is_sound(st, mem) {
+        return Answer::No(UNSOUND);
+    }
+    ends::output::output(st, mem, slot, c, x)
+}
+
+// The oldest token that a channel-end holds, as data or as control.
+pub fn input(st: &mut [u32], mem: &[u16], slot: Slot, c: usize, wanted: Wanted) -> Answer
+    ensures { λ r. ⌜ out r (world (now (st .exit)) (now (mem .entry))) ≡ apply (world (now (st .entry)) (now (mem .entry))) (Input slot c wanted) ⌝ }
+{
+    if !is_sound(st, mem) {
+        return Answer::No(UNSOUND);
+    }
+    ends::input::input(st, slot, c, wanted)
 }

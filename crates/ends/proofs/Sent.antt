@@ -51,7 +51,7 @@ module _ (w : World) (n c : ℕ) (g : Target) (x : Token) where
   -- refused by the token
   refused-by : {k : ℕ} → Refusing k → (k ≡ Names.passes → ⊥) → (done : Out World)
       → out (No k) w
-          ≡ attempt (row (eqb k (Names.number Names.Hardware)) Names.Hardware ∷ row (eqb k (Names.number Names.Privileged)) Names.Privileged ∷ []) w done
+      ≡ attempt (row (eqb k (Names.number Names.Hardware)) Names.Hardware ∷ row (eqb k (Names.number Names.Privileged)) Names.Privileged ∷ []) w done
   refused-by none h done = absurd (h refl)
   refused-by seven h done = refl
   refused-by eight h done = refl
@@ -97,10 +97,10 @@ module _ (w : World) (n c : ℕ) (x : Token) where
       h
       ∙ ap (λ (y : Target). sent w n c y x) q
       ∙ four w n c (targetOf k) x (eqb (tokenNo x (targetOf k)) (Names.number Names.Hardware)) (eqb (tokenNo x (targetOf k)) (Names.number Names.Privileged))
-        (row (isNarrow (planOf (w .net) n c (targetOf k) (wordOf x))) Names.Narrow ∷ row (isFull (planOf (w .net) n c (targetOf k) (wordOf x))) Names.Full ∷ [])
-        (out Done (performed w n c (targetOf k) (wordOf x) (planOf (w .net) n c (targetOf k) (wordOf x))))
-        (carried w n c (targetOf k) (wordOf x) (planOf (w .net) n c (targetOf k) (wordOf x)))
-        (by-rows w n c (targetOf k) x (wordOf x) (planOf (w .net) n c (targetOf k) (wordOf x)))
+      (row (isNarrow (planOf (w .net) n c (targetOf k) (wordOf x))) Names.Narrow ∷ row (isFull (planOf (w .net) n c (targetOf k) (wordOf x))) Names.Full ∷ [])
+      (out Done (performed w n c (targetOf k) (wordOf x) (planOf (w .net) n c (targetOf k) (wordOf x))))
+      (carried w n c (targetOf k) (wordOf x) (planOf (w .net) n c (targetOf k) (wordOf x)))
+      (by-rows w n c (targetOf k) x (wordOf x) (planOf (w .net) n c (targetOf k) (wordOf x)))
       ∙ rw (e, a)
 
 -- what a destination says of the channel-end

@@ -158,7 +158,15 @@ fn forget(st: &mut [u32], slot: Slot, c: usize, word: u16)
 }
 
 // A plan carried out.
-fn carry(st: &mut [u32], mem: &mut [u16], slot: Slot, c: usize, g: Target, word: u16, plan: Plan) -> Answer
+fn carry(
+    st: &mut [u32],
+    mem: &mut [u16],
+    slot: Slot,
+    c: usize,
+    g: Target,
+    word: u16,
+    plan: Plan,
+) -> Answer
     requires { ⌜ (slot .0 < view (now st) .nodes) × (c < ends) × Possible (world (now st) (now mem)) (slot .0) word plan ⌝ }
     ensures { λ r. ⌜ out r (world (now (st .exit)) (now (mem .exit))) ≡ carried (world (now (st .entry)) (now (mem .entry))) (slot .0) c g word plan ⌝ }
 {

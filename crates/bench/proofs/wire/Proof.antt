@@ -1,21 +1,31 @@
 -- `bench::wire` meets its contract. Assumes nothing.
+use mathlib.Core.Path.{refl, sym, _∙_}
 use borrow.Author.Needs.{needs}
-use mathlib.Core.Path.{sym, _∙_}
 use borrow.Author.Tests.{not-true, not-false}
+use Rattle.answers.specs.Out.{out}
+use Rattle.answers.specs.declared.Answer.the-variants.{Done}
+use Rattle.cells.specs.View.{view}
 use Rattle.cells.specs.World.{world}
+use Rattle.settings.specs.Wire.{wireRows, wired, wire}
 use Rattle.sound.proofs.Facts.{lengths}
-use Rattle.bench.proofs.Lifted.{wire-unsound, wire-applied}
+use Rattle.bench.specs.Calls.{Wire}
+use Rattle.bench.proofs.Lifted.{refused-unsound, on-net}
 use Rattle.bench.proofs.wire.Statement.{statement}
 use Rattle.bench.proofs.wire.Tie as tie
 
 returns : tie.Need-returns
-returns c = wire-unsound _ _ _ _ _ (sym (c .before .is-sound .ensures) ∙ not-true _ (c .if1 .taken))
+returns c =
+    let a = c .before .before .before .before .before .args in
+    refused-unsound (world (a .st .now) (a .mem .now)) (Wire (a .a) (a .l) (a .b) (a .k)) (wireRows (view (a .st .now)) (a .a .0) (a .l) (a .b .0) (a .k)) refl (sym (c .before .is-sound .ensures) ∙ not-true _ (c .if1 .taken))
 
 wire-requires : tie.Need-wire-requires
-wire-requires c κs = lengths (world (c .before .before .before .before .before .before .args .st .now) (c .before .before .before .before .before .before .args .mem .now)) (sym (c .before .before .is-sound .ensures) ∙ not-false _ (c .before .if1 .left)) .few
+wire-requires c κs = let a = c .before .before .before .before .before .before .args in lengths (world (a .st .now) (a .mem .now)) (sym (c .before .before .is-sound .ensures) ∙ not-false _ (c .before .if1 .left)) .few
 
 returns-2 : tie.Need-returns-2
-returns-2 c = wire-applied _ _ _ _ _ _ _ (sym (c .before .before .before .before .before .is-sound .ensures) ∙ not-false _ (c .before .before .before .before .if1 .left)) (c .before .before .wire .ensures)
+unfolding wire
+returns-2 c =
+    let a = c .before .before .before .before .before .before .before .before .before .args in
+    on-net (world (a .st .now) (a .mem .now)) (Wire (a .a) (a .l) (a .b) (a .k)) (wireRows (view (a .st .now)) (a .a .0) (a .l) (a .b .0) (a .k)) refl (sym (c .before .before .before .before .before .is-sound .ensures) ∙ not-false _ (c .before .before .before .before .if1 .left)) (out Done (wired (view (a .st .now)) (a .a .0) (a .l) (a .b .0) (a .k))) refl _ (c .before .before .wire .ensures)
 
 pub wire-spec : {M : Type 1} → statement M
 wire-spec =

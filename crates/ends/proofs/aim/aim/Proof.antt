@@ -19,7 +19,7 @@ put-requires c κs = let a = c .before .before .before .before .before .before .
 
 returns-2 : tie.Need-returns-2
 unfolding aim
-returns-2 c = 
+returns-2 c =
     let a = c .before .before .before .before .before .before .before .before .before .before .before .args in
     goes-on (aimRows (view (a .st .now)) (a .slot .0) (a .c) (a .g) (a .network)) _ (out Done (aimMade (view (a .st .now)) (a .slot .0) (a .c) (a .g) (a .network))) _ (c .before .before .before .before .before .before .before .before .aim-no .ensures) (c .before .before .before .before .before .before .before .if1 .left)
     (rw (c .before .before .put .ensures, c .before .before .before .before .aimed-at .ensures, c .before .before .before .before .before .at .ensures))

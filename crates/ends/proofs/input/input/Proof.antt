@@ -22,7 +22,7 @@ put-requires c κs = let a = c .before .before .before .before .before .before .
 
 returns-2 : tie.Need-returns-2
 unfolding input
-returns-2 c = 
+returns-2 c =
     let a = c .before .before .before .before .before .before .before .before .before .before .before .before .args in
     goes-on (inputRows (view (a .st .now)) (a .slot .0) (a .c) (a .wanted)) _ (out (Token (inputValue (view (a .st .now)) (a .slot .0) (a .c))) (inputMade (view (a .st .now)) (a .slot .0) (a .c))) _ (c .before .before .before .before .before .before .before .before .before .input-no .ensures) (c .before .before .before .before .before .before .before .before .if1 .left)
     (rw (c .before .before .put .ensures, c .before .before .before .took-first .ensures, c .before .before .before .before .before .first-held .ensures, c .before .before .before .before .before .before .at .ensures))

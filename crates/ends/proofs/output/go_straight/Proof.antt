@@ -13,7 +13,7 @@ set-sending-requires : tie.Need-set-sending-requires
 set-sending-requires c κs = rw (c .before .before .before .before .before .put .ensures) (c .before .before .before .before .before .before .before .before .before .before .before .before .before .pre .0, c .before .before .before .before .before .before .before .before .before .before .before .before .before .pre .1)
 
 returns : tie.Need-returns
-returns c = 
+returns c =
     let a = c .before .before .before .before .before .before .before .before .before .before .before .before .before .before .before .before .args in
     straight-gives (view (a .st .now)) _ _ (a .slot .0) (a .c) (a .d) (a .word) _ _ _ _ (c .before .before .before .before .before .before .before .before .before .before .before .before .before .at .ensures) (c .before .before .before .before .before .before .before .before .before .before .before .before .keep .ensures) (c .before .before .before .before .before .before .before .before .before .before .still .ensures ∙ rw (c .before .before .before .before .before .before .before .before .before .before .before .of-peer .ensures)) (c .before .before .before .before .before .before .before .before .put .ensures) (c .before .before .before .still2 .ensures ∙ rw (c .before .before .before .before .of-peer2 .ensures)) (c .before .before .set-sending .ensures)
 

@@ -8,12 +8,12 @@ use Rattle.ends.proofs.output.open_by.Statement.{statement}
 use Rattle.ends.proofs.output.open_by.Tie as tie
 
 set-network-requires : tie.Need-set-network-requires
-set-network-requires c κs = 
+set-network-requires c κs =
     let a = c .before .before .before .before .before .before .before .before .before .before .before .before .before .before .before in
     (ready-opened (world (a .args .st .now) (a .args .mem .now)) _ _ (a .args .slot .0) (a .args .p) (a .args .word) (words (c .before .before .before .before .before .before .before .before .make-header .result)) (c .before .before .before .before .before .fill .ensures) (a .pre .1 .node), a .pre .1 .port)
 
 go-by-requires : tie.Need-go-by-requires
-go-by-requires c κs = 
+go-by-requires c κs =
     let a = c .before .before .before .before .before .before .before .before .before .before .before .before .before .before .before .before .before .before .before in
     rw (c .before .before .before .set-network .ensures)
     (ready-opened (world (a .args .st .now) (a .args .mem .now)) _ _ (a .args .slot .0) (a .args .p) (a .args .word) (words (c .before .before .before .before .before .before .before .before .before .before .before .before .make-header .result)) (c .before .before .before .before .before .before .before .before .before .fill .ensures) (a .pre .1 .node), a .pre .0, a .pre .1 .port)

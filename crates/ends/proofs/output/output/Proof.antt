@@ -23,7 +23,7 @@ send-requires : tie.Need-send-requires
 send-requires c κs = let a = c .before .before .before .before .before .before .before .before .before .before .before .before .before in sends-here (world (a .args .st .now) (a .args .mem .now)) (a .args .slot .0) (a .args .c) (a .pre) (sym (c .before .before .before .before .before .before .before .before .before .end-at .ensures) ∙ not-false _ (c .before .before .before .before .before .before .before .before .if1 .left)) _ (is-aimed (view (a .args .st .now) .ends (a .args .slot .0) (a .args .c)) _ (ap destinationOf (sym (c .before .before .before .before .before .before .at .ensures)) ∙ sym (c .before .before .before .before .before .destination-of .ensures) ∙ c .before .before .before .g .given .1))
 
 returns-3 : tie.Need-returns-3
-returns-3 c = 
+returns-3 c =
     let a = c .before .before .before .before .before .before .before .before .before .before .before .before .before .before .before .before .before .before in
     let q = is-aimed (view (a .args .st .now) .ends (a .args .slot .0) (a .args .c)) _ (ap destinationOf (sym (c .before .before .before .before .before .before .before .before .before .before .before .at .ensures)) ∙ sym (c .before .before .before .before .before .before .before .before .before .before .destination-of .ensures) ∙ c .before .before .before .before .before .before .before .before .g .given .1) in
     sends-on (world (a .args .st .now) (a .args .mem .now)) (a .args .slot .0) (a .args .c) (a .args .x) _ _ (sym (c .before .before .before .before .before .before .before .before .before .before .before .before .before .before .end-at .ensures) ∙ not-false _ (c .before .before .before .before .before .before .before .before .before .before .before .before .before .if1 .left)) (q .0) (q .1) (c .before .before .before .before .send .ensures)

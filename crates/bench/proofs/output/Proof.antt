@@ -1,0 +1,38 @@
+-- `bench::output` meets its contract. Assumes nothing.
+use mathlib.Core.Path.{refl, sym, _∙_}
+use borrow.Author.Needs.{needs}
+use borrow.Author.Tests.{not-true, not-false}
+use Rattle.cells.specs.View.{view}
+use Rattle.cells.specs.World.{world}
+use Rattle.ends.specs.Output.{outputRows, output}
+use Rattle.bench.specs.Calls.{Output}
+use Rattle.bench.proofs.Lifted.{refused-unsound, on-world}
+use Rattle.bench.proofs.output.Statement.{statement}
+use Rattle.bench.proofs.output.Tie as tie
+
+returns : tie.Need-returns
+returns c =
+    let a = c .before .before .before .before .before .before .args in
+    refused-unsound (world (a .st .now) (a .mem .now)) (Output (a .slot) (a .c) (a .x)) (outputRows (view (a .st .now)) (a .slot .0) (a .c) (a .x)) refl (sym (c .before .is-sound .ensures) ∙ not-true _ (c .if1 .taken))
+
+output-requires : tie.Need-output-requires
+output-requires c κs = sym (c .before .before .before .is-sound .ensures) ∙ not-false _ (c .before .before .if1 .left)
+
+returns-2 : tie.Need-returns-2
+unfolding output
+returns-2 c =
+    let a = c .before .before .before .before .before .before .before .before .before .before .before .before .before .args in
+    on-world (world (a .st .now) (a .mem .now)) (Output (a .slot) (a .c) (a .x)) (outputRows (view (a .st .now)) (a .slot .0) (a .c) (a .x)) refl (sym (c .before .before .before .before .before .before .before .before .is-sound .ensures) ∙ not-false _ (c .before .before .before .before .before .before .before .if1 .left)) _ (c .before .before .before .before .output .ensures)
+
+pub output-spec : {M : Type 1} → statement M
+output-spec =
+    tie.close
+    (tie.spec
+    (λ c κs. search needs)
+    (λ c. search needs)
+    (λ c. search needs)
+    returns
+    output-requires
+    (λ c. search needs)
+    (λ c. search needs)
+    returns-2)
