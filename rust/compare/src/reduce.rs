@@ -1,13 +1,27 @@
 //! A run in which the two sides differ, made as short as it can be.
 
+use std::collections::BTreeSet;
+
 use model::calls::Call;
+use model::network::{memory_words, MOST_NODES};
+use model::words::parse_call;
 
 use crate::calls::Apply;
 use crate::pair::{differing, script, Differing};
 
-/// Leaves calls out as long as the sides still differ somewhere: large parts first, then single
-/// calls, until no call can be left out and no call stands behind the one that differs.
+/// The run with no call that can be left out, no number that may as well be 0 and no node too many,
+/// and with nothing behind the call in which the sides differ.
 pub fn reduce(apply: Apply, found: Differing) -> Differing {
+    let mut shortest = leave_all_out(apply, found);
+    while let Some(plainer) = plainer(apply, &shortest.calls) {
+        shortest = leave_all_out(apply, plainer);
+    }
+    shortest
+}
+
+/// Leaves calls out as long as the sides still differ somewhere: large parts first, then single
+/// calls, until none can be left out.
+fn leave_all_out(apply: Apply, found: Differing) -> Differing {
     let mut shortest = found;
     let mut part = shortest.calls.len() / 2;
     while part > 0 {
@@ -28,6 +42,62 @@ fn leave_out(apply: Apply, calls: &[Call], part: usize) -> Option<Differing> {
         kept.copied().collect::<Vec<_>>()
     });
     shorter.find_map(|kept| differing(apply, &kept))
+}
+
+/// The run with fewer nodes, or with some number 0 in all calls or in one, if the sides still
+/// differ.
+fn plainer(apply: Apply, calls: &[Call]) -> Option<Differing> {
+    let everywhere = numbers(calls).into_iter().map(|number| {
+        let plainer = calls.iter().map(|call| with_nought(call, &number));
+        plainer.collect::<Vec<_>>()
+    });
+    let in_one = (0..calls.len()).flat_map(|place| {
+        let mut numbers = numbers(&calls[place..=place]).into_iter();
+        let mut plainer = fewer_nodes(&calls[place]);
+        plainer.extend(numbers.by_ref().map(|n| with_nought(&calls[place], &n)));
+        plainer.into_iter().map(move |call| {
+            let mut tried = calls.to_vec();
+            tried[place] = call;
+            tried
+        })
+    });
+    let mut tried = everywhere.chain(in_one).filter(|tried| tried != calls);
+    tried.find_map(|tried| differing(apply, &tried))
+}
+
+/// The numbers other than 0 that calls are written with, each once.
+fn numbers(calls: &[Call]) -> BTreeSet<String> {
+    let texts: Vec<String> = calls.iter().map(Call::to_string).collect();
+    let words = texts.iter().flat_map(|text| text.split(' '));
+    let numbers = words.filter(|word| word.parse::<u64>().is_ok_and(|number| number > 0));
+    numbers.map(str::to_owned).collect()
+}
+
+/// A call with 0 wherever it has that number; a Fresh is left as it is.
+fn with_nought(call: &Call, number: &str) -> Call {
+    let text = call.to_string();
+    let nought = |word| if word == number { "0" } else { word };
+    let words: Vec<&str> = text.split(' ').map(nought).collect();
+    match call {
+        Call::Fresh { .. } => *call,
+        _ => parse_call(&words.join(" ")).unwrap_or(*call),
+    }
+}
+
+/// A Fresh of fewer nodes, the fewest first.
+fn fewer_nodes(call: &Call) -> Vec<Call> {
+    match *call {
+        Call::Fresh { nodes, .. } => (1..nodes.min(MOST_NODES + 1)).filter_map(fresh).collect(),
+        _ => Vec::new(),
+    }
+}
+
+fn fresh(nodes: usize) -> Option<Call> {
+    let memory_words = memory_words(nodes)?;
+    Some(Call::Fresh {
+        nodes,
+        memory_words,
+    })
 }
 
 /// The reduced run in the script format: what differs, and the model's side stated.
