@@ -1,24 +1,27 @@
 -- The acts that calls are composed of, each on one record of the state and at most one word of token memory.
-use Prim.Native.Nat.{ℕ, _+_, _<_, _≤_}
+use Prim.Native.Nat.{ℕ, _+_, _%_, _<_, _≤_}
 use mathlib.Core.Path.{_≡_}
 use mathlib.Core.Bool.{Bool, true, false}
 use mathlib.Core.List.{List, [], _∷_}
 use mathlib.Core.Logic.{_⊎_}
 use lib.Dec.{eqb}
-use lib.ListN.{length, set}
+use lib.ListN.{length, getD, set}
 use Rattle.laws.specs.Pick.{pick}
 use Rattle.names.specs.Size.{ports, endBuffer}
 use Rattle.names.specs.declared.NodeNumber.{NodeNumber}
-use Rattle.circuits.specs.Circuit.{circuit}
+use Rattle.circuits.specs.Circuit.{circuit, ofPeer, ofHop, tileOf}
 use Rattle.circuits.specs.declared.Circuit.{Circuit}
+use Rattle.circuits.specs.declared.Peer.{Peer}
+use Rattle.circuits.specs.declared.Hop.{Hop}
 use Rattle.tokens.specs.Word.{closes, isPause}
 use Rattle.tokens.specs.declared.header.Width.{Width}
 use Rattle.tokens.specs.declared.header.Width.the-variants.{One, Three}
-use Rattle.ports.specs.Queue.{capacity, Fair, putCounters}
-use Rattle.ports.specs.Memory.{place, putMemory}
-use Rattle.cells.specs.View.{Net, withPort}
+use Rattle.ports.specs.Queue.{capacity, Fair, putCounters, takeCounters}
+use Rattle.ports.specs.Memory.{place, putMemory, takeMemory, firstOf}
+use Rattle.cells.specs.View.{Net, withPort, withLink, withTile, withEnd}
 use Rattle.cells.specs.World.{World}
-use Rattle.cells.specs.Changes.{countersAs, heldAs}
+use Rattle.cells.specs.Changes.{countersAs, circuitAs, portNetworkAs, userAs, tileUserAs, claimAs, heldAs}
+use Rattle.cells.specs.declared.port.Port.{Port}
 use Rattle.cells.specs.declared.end.End.{End}
 
 -- the state changed, and every word of token memory as it was
@@ -52,6 +55,51 @@ pushed w n p t =
 abbrev pub pushedAll : World → ℕ → ℕ → List ℕ → World
 pushedAll w n p [] = w
 pushedAll w n p (t ∷ ts) = pushedAll (pushed w n p t) n p ts
+
+-- the i-th token of a port, oldest first
+abbrev pub wordAt : World → ℕ → ℕ → ℕ → ℕ
+wordAt w n p i = getD (w .memory) (place n p + (w .net .ports n p .counters .head + i) % capacity) 0
+
+-- port p of node n is there and holds k tokens at least
+pub record Holds (w : World) (n p k : ℕ) : Type 0 where
+  pub node : n < w .net .nodes
+  pub port : p < ports
+  pub fair : Fair (w .net .ports n p .counters)
+  pub held : k ≤ w .net .ports n p .counters .held
+  pub reaches : place n p + capacity ≤ length (w .memory)
+
+-- the oldest token of a port is taken
+abbrev pub firstAt : World → ℕ → ℕ → ℕ
+firstAt w n p = firstOf (w .net .ports n p .counters) (w .memory) (place n p)
+
+unfoldable pub popped : World → ℕ → ℕ → World
+popped w n p =
+    record {
+      net = withPort (w .net) n p (countersAs (w .net .ports n p) (takeCounters (w .net .ports n p .counters)));
+      memory = takeMemory (w .net .ports n p .counters) (w .memory) (place n p);
+    }
+
+-- a port's circuit goes this way
+abbrev pub hopped : Net → ℕ → ℕ → Hop → Net
+hopped s n p h = withPort s n p (circuitAs (s .ports n p) (ofHop h) (tileOf h))
+
+-- a port has no circuit any more; while it is free its network is 0
+abbrev pub shutPort : Port → Port
+shutPort k =
+    portNetworkAs (circuitAs k (circuit 0 0) 0) (pick (eqb (k .counters .held) 0) 0 (k .network))
+
+abbrev pub shut : Net → ℕ → ℕ → Net
+shut s n p = withPort s n p (shutPort (s .ports n p))
+
+-- who uses a link outward, a tile link, a channel-end
+abbrev pub linkedTo : Net → ℕ → ℕ → Peer → Net
+linkedTo s n l x = withLink s n l (userAs (s .links n l) (ofPeer x))
+
+abbrev pub tiledTo : Net → ℕ → ℕ → Peer → Net
+tiledTo s n t x = withTile s n t (tileUserAs (s .tiles n t) (ofPeer x))
+
+abbrev pub claimedBy : Net → ℕ → ℕ → Peer → Net
+claimedBy s n c x = withEnd s n c (claimAs (s .ends n c) (ofPeer x))
 
 -- "until END or PAUSE": a circuit after a token, nobody where the token closes it
 abbrev pub still : ℕ → Circuit → Circuit

@@ -1,4 +1,6 @@
 // What the calls are composed of: each act changes one record, and at most one word of token memory.
+pub mod circuit;
+
 use cells::end;
 use cells::end::End;
 use cells::node;
@@ -7,18 +9,21 @@ use circuits::Circuit;
 use names::NodeNumber;
 use names::Slot;
 use ports::put_at;
+use ports::stretch;
+use ports::take_at;
+use ports::Counters;
 use tokens::header::Header;
 use tokens::header::Width;
 use tokens::word::closes;
 use tokens::word::is_pause;
 ghost use mathlib.Core.Path.{_≡_};
-ghost use Prim.Native.Nat.{_<_};
+ghost use Prim.Native.Nat.{_+_, _<_};
 ghost use Rattle.names.specs.Size.{ports, ends};
 ghost use Rattle.tokens.specs.Header.{words};
 ghost use Rattle.cells.specs.View.{view, withEnd, withPort};
 ghost use Rattle.cells.specs.World.{world};
 ghost use Rattle.cells.specs.Changes.{sendingAs, senderAs, portNetworkAs};
-ghost use Rattle.acts.specs.Acts.{widthAt, numberAt, Room, pushed, pushedAll, still, Keeps, kept};
+ghost use Rattle.acts.specs.Acts.{widthAt, numberAt, Room, pushed, pushedAll, Holds, wordAt, firstAt, popped, still, Keeps, kept};
 
 // The width of a node's headers, at this moment.
 pub fn width_at(st: &[u32], slot: Slot) -> Width
@@ -64,6 +69,30 @@ pub fn push_header(st: &mut [u32], mem: &mut [u16], slot: Slot, p: usize, h: Hea
             push(st, mem, slot, p, c);
         }
     }
+}
+
+// The i-th token of a port, oldest first.
+pub fn word_at(st: &[u32], mem: &[u16], slot: Slot, p: usize, i: u32) -> u16
+    requires { ⌜ Holds (world (now st) (now mem)) (slot .0) p (i + 1) ⌝ }
+    ensures { λ r. ⌜ r ≡ wordAt (world (now (st .entry)) (now (mem .entry))) (slot .0) p i ⌝ }
+{
+    let k = port::at(st, slot, p);
+    let words = stretch(mem, slot, p);
+    let at = ((k.counters.head + i) % Counters::CAPACITY) as usize;
+    words[at]
+}
+
+// Takes the oldest token of a port.
+pub fn pop(st: &mut [u32], mem: &mut [u16], slot: Slot, p: usize) -> u16
+    requires { ⌜ Holds (world (now st) (now mem)) (slot .0) p 1 ⌝ }
+    ensures { λ r. ⌜ (r ≡ firstAt (world (now (st .entry)) (now (mem .entry))) (slot .0) p) × (world (now (st .exit)) (now (mem .exit)) ≡ popped (world (now (st .entry)) (now (mem .entry))) (slot .0) p) ⌝ }
+{
+    let mut k = port::at(st, slot, p);
+    let taken = take_at(k.counters, mem, slot, p);
+    let after = taken.counters;
+    k.counters = after;
+    port::put(st, slot, p, k);
+    taken.token
 }
 
 // A circuit that is open until its END or PAUSE: nobody where this word closes it.

@@ -7,7 +7,9 @@ use Rattle.routing.specs.declared.direction.Directions.{Directions}
 use Rattle.cells.specs.declared.node.Node.{Node}
 use Rattle.cells.specs.declared.link.Link.{Link}
 use Rattle.cells.specs.declared.port.Port.{Port}
+use Rattle.cells.specs.declared.tile.Tile.{Tile}
 use Rattle.cells.specs.declared.end.End.{End}
+use Rattle.cells.specs.declared.unit.Unit.{Unit}
 
 abbrev pub numberedAs : Node → ℕ → Node
 numberedAs k v = record { number = v; width = k .width; directions = k .directions }
@@ -71,3 +73,22 @@ claimAs k v =
 abbrev pub heldAs : End → ℕ → List ℕ → End
 heldAs k h ts =
     record { aim = k .aim; number = k .number; channel = k .channel; network = k .network; sending = k .sending; claim = k .claim; held = h; tokens = ts }
+
+abbrev pub userAs : Link → Circuit → Link
+userAs k v =
+    record { wired = k .wired; «far_slot» = k .«far_slot»; «far_link» = k .«far_link»; enabled = k .enabled; direction = k .direction; network = k .network; greeted = k .greeted; credit = k .credit; user = v }
+
+-- a port's circuit and the tile link that it takes
+abbrev pub circuitAs : Port → Circuit → ℕ → Port
+circuitAs k v t =
+    record { counters = k .counters; circuit = v; tile = t; network = k .network; sender = k .sender }
+
+abbrev pub tileUserAs : Tile → Circuit → Tile
+tileUserAs k v = record { user = v }
+
+abbrev pub servesAs : Unit → Circuit → Unit
+servesAs k v = record { serves = v; heard = k .heard; tokens = k .tokens }
+
+-- what a control unit has heard: how many, and the words
+abbrev pub heardAs : Unit → ℕ → List ℕ → Unit
+heardAs k h ts = record { serves = k .serves; heard = h; tokens = ts }

@@ -1,0 +1,3 @@
+-- Laws of Step.
+pub mod Takes
+pub mod After

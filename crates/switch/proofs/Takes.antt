@@ -1,0 +1,136 @@
+-- What is left to take after a token is taken, with the grant that it brings. Assumes nothing.
+use Prim.{tt}
+use Prim.Native.Nat.{ℕ, _+_, _-_, _%_, _<_, _≤_}
+use mathlib.Core.Path.{_≡_, refl, sym, ap, _∙_}
+use mathlib.Core.Bool.{true, false}
+use mathlib.Core.List.{List}
+use native.Mathlib.Omega.{arith}
+use lib.Dec.{ltb, lit≤}
+use lib.ListN.{length, set, length-set}
+use Rattle.laws.proofs.Order.{by-test}
+use Rattle.laws.proofs.Table.{upd-same, upd-all}
+use Rattle.names.specs.Size.{links}
+use Rattle.tokens.specs.Word.{isThree}
+use Rattle.tokens.specs.declared.header.Width.{Width}
+use Rattle.tokens.specs.declared.header.Width.the-variants.{One, Three}
+use Rattle.ports.specs.Queue.{capacity, Fair, takeCounters}
+use Rattle.ports.specs.Memory.{place}
+use Rattle.cells.specs.View.{Net}
+use Rattle.cells.specs.World.{World, farOf}
+use Rattle.cells.specs.Changes.{creditAs}
+use Rattle.cells.specs.declared.port.Port.{Port}
+use Rattle.cells.specs.declared.link.Link.{Link}
+use Rattle.cells.specs.declared.link.Far.{Far}
+use Rattle.cells.specs.declared.link.Far.the-variants.{Nowhere, At}
+use Rattle.acts.specs.Acts.{Holds, popped, withNet, wordAt}
+use Rattle.grants.specs.Grants.{considered, granted, Leads, Cabled}
+use Rattle.switch.specs.Plan.{sizeOf, markedWidth}
+use Rattle.switch.specs.Step.{consideredAt, grantsUp, Up, took, Takes}
+
+pub size-some : (x : Width) → 1 ≤ sizeOf x
+size-some One = lit≤ tt
+size-some Three = lit≤ tt
+
+pub holds-less : {w : World} {n p : ℕ} (k j : ℕ) → j ≤ k → Holds w n p k → Holds w n p j
+holds-less k j h r = record { node = r .node; port = r .port; fair = r .fair; held = omega (arith, r .held); reaches = r .reaches }
+
+pub takes-less : {w : World} {n p : ℕ} (k j : ℕ) → j ≤ k → Takes w n p k → Takes w n p j
+takes-less k j h r = record { holds = holds-less k j h (r .holds); up = r .up }
+
+-- A grant changes a credit, and neither the number of nodes, nor a port, nor where a cable leads
+module _ (s : Net) where
+  at-nodes : (f : Far) → consideredAt s f .nodes ≡ s .nodes
+  unfolding considered
+  at-nodes Nowhere = refl
+  at-nodes (At m j) = refl
+
+  at-ports : (f : Far) → consideredAt s f .ports ≡ s .ports
+  unfolding considered
+  at-ports Nowhere = refl
+  at-ports (At m j) = refl
+
+  at-far : (f : Far) (n l : ℕ) → farOf (consideredAt s f .links n l) ≡ farOf (s .links n l)
+  unfolding considered
+  at-far Nowhere n l = refl
+  at-far (At m j) n l =
+      upd-all (λ a b k. farOf k ≡ farOf (s .links a b)) (s .links) (m .0) j (creditAs (s .links (m .0) j) (s .links (m .0) j .credit + granted s (m .0) j)) n l
+      (λ d e. rw (d, e))
+      (λ o. refl)
+
+  pub up-nodes : (n p : ℕ) → grantsUp s n p .nodes ≡ s .nodes
+  up-nodes n p = by-test (ltb p links) (λ e. rw e (at-nodes (farOf (s .links n p)))) (λ e. rw e)
+
+  pub up-ports : (n p : ℕ) → grantsUp s n p .ports ≡ s .ports
+  up-ports n p = by-test (ltb p links) (λ e. rw e (at-ports (farOf (s .links n p)))) (λ e. rw e)
+
+  pub up-far : (n p m l : ℕ) → farOf (grantsUp s n p .links m l) ≡ farOf (s .links m l)
+  up-far n p m l = by-test (ltb p links) (λ e. rw e (at-far (farOf (s .links n p)) m l)) (λ e. rw e)
+
+module _ (w : World) (n p : ℕ) where
+  popped-counters : popped w n p .net .ports n p .counters ≡ takeCounters (w .net .ports n p .counters)
+  unfolding popped
+  popped-counters = ap (λ (k : Port). k .counters) (upd-same (w .net .ports) n p _)
+
+  popped-holds : (k : ℕ) → Holds w n p (k + 1) → Holds (popped w n p) n p k
+  unfolding popped
+  popped-holds k r =
+      record {
+        node = r .node;
+        port = r .port;
+        fair = rw (popped-counters) (record { head-in = omega arith; held-in = omega (arith, r .fair .held-in) });
+        held = rw (popped-counters) (omega (arith, r .held));
+        reaches = rw (length-set (w .memory) (place n p + w .net .ports n p .counters .head) 0) (r .reaches);
+      }
+
+  popped-up : Up (w .net) n p → Up (popped w n p .net) n p
+  unfolding popped
+  popped-up u = u
+
+  pub takes-left : (k : ℕ) → Takes w n p (k + 1) → Takes (took w n p) n p k
+  unfolding took
+  takes-left k r =
+      let z = popped w n p .net in
+      let h = popped-holds k (r .holds) in
+      record {
+        holds =
+            record {
+              node = rw (up-nodes z n p) (h .node);
+              port = h .port;
+              fair = rw (up-ports z n p) (h .fair);
+              held = rw (up-ports z n p) (h .held);
+              reaches = h .reaches;
+            };
+        up = λ l. rw (up-nodes z n p, up-far z n p n p) (popped-up (r .up) l);
+      }
+
+-- .. where the world after is known by an equation
+pub takes-after : (w z : World) (n p k : ℕ) → z ≡ took w n p → Takes w n p (k + 1) → Takes z n p k
+takes-after w z n p k e r = rw e (takes-left w n p k r)
+
+pub up-after : (w : World) (s : Net) (m : List ℕ) (n p : ℕ) → record { net = s; memory = m } ≡ popped w n p → Up (w .net) n p → Up s n p
+up-after w s m n p e u = rw (ap (λ (z : World). z .net) e) (popped-up w n p u)
+
+pub took-gives : (w : World) (s z : Net) (m : List ℕ) (n p : ℕ) → record { net = s; memory = m } ≡ popped w n p → z ≡ grantsUp s n p
+    → record { net = z; memory = m } ≡ took w n p
+unfolding took
+took-gives w s z m n p e h =
+    λ j. record { net = (h ∙ ap (λ (y : World). grantsUp (y .net) n p) e) j; memory = ap (λ (y : World). y .memory) e j }
+
+-- a header that is marked as three bytes, and held whole, has three tokens
+pub three-held : (w : World) (n p : ℕ) → Holds w n p (sizeOf (markedWidth (wordAt w n p 0))) → isThree (wordAt w n p 0) ≡ true → Holds w n p 3
+three-held w n p r e = rw e at r
+
+-- .. and one at least, whatever its width
+pub one-held : (w : World) (n p : ℕ) → Holds w n p (sizeOf (markedWidth (wordAt w n p 0))) → Holds w n p 1
+one-held w n p r = holds-less (sizeOf (markedWidth (wordAt w n p 0))) 1 (size-some (markedWidth (wordAt w n p 0))) r
+
+-- held whole, by the test that asks
+pub holds-whole : (w : World) (n p k : ℕ) → k ≤ w .net .ports n p .counters .held → Holds w n p 1 → Holds w n p k
+holds-whole w n p k h r = record { node = r .node; port = r .port; fair = r .fair; held = h; reaches = r .reaches }
+
+pub holds-some : (w : World) (n p : ℕ) → (w .net .ports n p .counters .held ≡ 0 → ⊥) → Holds w n p 0 → Holds w n p 1
+holds-some w n p h r =
+    record { node = r .node; port = r .port; fair = r .fair; held = some (w .net .ports n p .counters .held) h; reaches = r .reaches }
+  where
+    some : (a : ℕ) → (a ≡ 0 → ⊥) → 1 ≤ a
+    some a ne = omega arith

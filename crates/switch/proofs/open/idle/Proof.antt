@@ -1,0 +1,10 @@
+-- `switch::open::idle` meets its contract. Assumes nothing.
+use borrow.Author.Needs.{needs}
+use Rattle.switch.proofs.open.idle.Statement.{statement}
+use Rattle.switch.proofs.open.idle.Tie as tie
+
+returns : tie.Need-returns
+returns c = rw (c .before .before .put .ensures, c .before .before .before .before .of-peer .ensures, c .before .before .before .before .before .at .ensures)
+
+pub idle-spec : {M : Type 1} → statement M
+idle-spec = tie.close (tie.spec (λ c κs. search needs) (λ c κs. search needs) (λ c κs. search needs) (λ c. search needs) returns)

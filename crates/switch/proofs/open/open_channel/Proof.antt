@@ -1,0 +1,32 @@
+-- `switch::open::open_channel` meets its contract. Assumes nothing.
+use Prim.{tt}
+use mathlib.Core.Logic.{⊎-elim}
+use native.Mathlib.Omega.{arith}
+use borrow.Author.Needs.{needs}
+use Rattle.switch.proofs.open.open_channel.Statement.{statement}
+use Rattle.switch.proofs.open.open_channel.Tie as tie
+
+cast-t9 : tie.Need-cast-t9
+cast-t9 c = ⊎-elim (λ e. omega arith) (λ h. omega arith) (c .before .before .pre .2)
+
+set-tile-user-requires : tie.Need-set-tile-user-requires
+set-tile-user-requires c κs = rw (c .before .before .before .set-hop .ensures) (c .before .before .before .before .before .before .pre .0, c .before .before .before .before .before .before .pre .3)
+
+claim-requires : tie.Need-claim-requires
+claim-requires c κs = rw (c .before .before .before .set-tile-user .ensures, c .before .before .before .before .before .before .before .set-hop .ensures) (c .before .before .before .before .before .before .before .before .before .before .pre .0, c .before .before .before .before .before .before .before .before .before .before .pre .2, c .before .before .before .before .before .before .before .before .before .before .pre .1)
+
+returns : tie.Need-returns
+returns c = rw (c .before .before .claim .ensures, c .before .before .before .before .before .before .set-tile-user .ensures, c .before .before .before .before .before .before .before .before .before .before .set-hop .ensures)
+
+pub open-channel-spec : {M : Type 1} → statement M
+open-channel-spec =
+    tie.close
+    (tie.spec
+    cast-t9
+    (λ c. search needs)
+    (λ c κs. search needs)
+    (λ c. search needs)
+    set-tile-user-requires
+    claim-requires
+    (λ c. search needs)
+    returns)

@@ -1,0 +1,10 @@
+-- `switch::pass::pay` meets its contract. Assumes nothing.
+use borrow.Author.Needs.{needs}
+use Rattle.switch.proofs.pass.pay.Statement.{statement}
+use Rattle.switch.proofs.pass.pay.Tie as tie
+
+returns : tie.Need-returns
+returns c = rw (c .before .before .put .ensures, c .before .before .before .before .less-one .ensures, c .before .before .before .before .before .at .ensures)
+
+pub pay-spec : {M : Type 1} → statement M
+pay-spec = tie.close (tie.spec (λ c κs. search needs) (λ c κs. search needs) (λ c κs. search needs) (λ c. search needs) returns)

@@ -1,0 +1,169 @@
+-- "What a Step does" (document 01), done: a plan carried out by the acts.
+use Prim.{Unit}
+use Prim.Native.Nat.{ℕ, _+_, _-_, _<_, _≤_}
+use mathlib.Core.Path.{_≡_}
+use mathlib.Core.Bool.{Bool, true, false}
+use mathlib.Core.Logic.{_⊎_}
+use lib.Dec.{eqb, ltb}
+use lib.ListN.{length, set}
+use Rattle.laws.specs.Pick.{pick}
+use Rattle.names.specs.Size.{links, ports, tileLinks, ends, sink}
+use Rattle.circuits.specs.Circuit.{ofPeer}
+use Rattle.circuits.specs.declared.Peer.the-variants as Peers
+use Rattle.circuits.specs.declared.Hop.the-variants as Hops
+use Rattle.tokens.specs.Word.{closes}
+use Rattle.tokens.specs.declared.header.Width.{Width}
+use Rattle.tokens.specs.declared.header.Width.the-variants.{One, Three}
+use Rattle.ports.specs.Queue.{capacity, Fair}
+use Rattle.ports.specs.Memory.{place}
+use Rattle.cells.specs.View.{Net, withLink, withEnd, withUnit}
+use Rattle.cells.specs.World.{World, farOf}
+use Rattle.cells.specs.Changes.{creditAs, servesAs, heardAs}
+use Rattle.cells.specs.declared.link.Far.{Far}
+use Rattle.cells.specs.declared.link.Far.the-variants.{Nowhere, At}
+use Rattle.cells.specs.declared.unit.Unit as Units
+use Rattle.acts.specs.Acts.{withNet, widthAt, Room, pushed, Holds, firstAt, popped, hopped, shut, linkedTo, tiledTo, claimedBy, kept, Keeps}
+use Rattle.grants.specs.Grants.{considered, Cabled}
+use Rattle.switch.specs.Plan.{sizeOf}
+use Rattle.switch.specs.declared.plan.Plan.{Plan}
+use Rattle.switch.specs.declared.plan.Plan.the-variants.{Idle, Wait, OpenOut, OpenChannel, OpenUnit, Refuse, MoveOut, Hand, Hear, Drop}
+
+-- "after each token .. taken from the far buffer": the link that feeds port p may be granted
+abbrev pub consideredAt : Net → Far → Net
+consideredAt s Nowhere = s
+consideredAt s (At m j) = considered s (m .0) j
+
+abbrev pub grantsUp : Net → ℕ → ℕ → Net
+grantsUp s n p = pick (ltb p links) (consideredAt s (farOf (s .links n p))) s
+
+-- .. where its cable leads to a link that is there
+abbrev pub Up : Net → ℕ → ℕ → Type 0
+Up s n p = p < links → Cabled s n p
+
+-- a token is taken, and a grant considered for it
+unfoldable pub took : World → ℕ → ℕ → World
+took w n p = withNet (popped w n p) (grantsUp (popped w n p .net) n p)
+
+-- "the header is removed"
+abbrev pub stripped : World → ℕ → ℕ → Width → World
+stripped w n p One = took w n p
+stripped w n p Three = took (took (took w n p) n p) n p
+
+-- "another node's .. Opened with the link; header tokens stay"
+abbrev pub opensOut : Net → ℕ → ℕ → ℕ → Net
+opensOut s n p l = linkedTo (hopped s n p (Hops.Out l)) n l (Peers.Port p)
+
+-- "the channel is claimed (the sink never is)"
+abbrev pub claims : Net → ℕ → ℕ → ℕ → Net
+claims s n c p = pick (eqb c sink) s (claimedBy s n c (Peers.Port p))
+
+abbrev pub opensChannel : Net → ℕ → ℕ → ℕ → ℕ → Net
+opensChannel s n p c t = claims (tiledTo (hopped s n p (Hops.Channel c t)) n t (Peers.Port p)) n c p
+
+-- the control unit serves this port, and has heard nothing of its message
+abbrev pub serves : Net → ℕ → ℕ → Net
+serves s n p = withUnit s n (heardAs (servesAs (s .units n 0) (ofPeer (Peers.Port p))) 0 (s .units n 0 .tokens))
+
+abbrev pub opensUnit : Net → ℕ → ℕ → Net
+opensUnit s n p = serves (hopped s n p Hops.Unit) n p
+
+-- "END and PAUSE close the hop": what it held is free
+abbrev pub closesOut : Net → ℕ → ℕ → ℕ → ℕ → Net
+closesOut s n p l x = pick (closes x) (linkedTo (shut s n p) n l Peers.Nobody) s
+
+abbrev pub freesClaim : Net → ℕ → ℕ → Net
+freesClaim s n c = pick (eqb c sink) s (claimedBy s n c Peers.Nobody)
+
+abbrev pub closesChannel : Net → ℕ → ℕ → ℕ → ℕ → ℕ → Net
+closesChannel s n p c t x = pick (closes x) (freesClaim (tiledTo (shut s n p) n t Peers.Nobody) n c) s
+
+abbrev pub idle : Net → ℕ → Net
+idle s n = withUnit s n (servesAs (s .units n 0) (ofPeer Peers.Nobody))
+
+abbrev pub closesUnit : Net → ℕ → ℕ → ℕ → Net
+closesUnit s n p x = pick (closes x) (idle (shut s n p) n) s
+
+abbrev pub closesDropped : Net → ℕ → ℕ → ℕ → Net
+closesDropped s n p x = pick (closes x) (shut s n p) s
+
+-- "Each token moved over a link, header included, costs one credit."
+abbrev pub paid : Net → ℕ → ℕ → Net
+paid s n l = withLink s n l (creditAs (s .links n l) (s .links n l .credit - 1))
+
+-- a token crosses at once: put at the far end, paid, and a grant considered
+abbrev pub arrives : World → Far → ℕ → World
+arrives w Nowhere x = w
+arrives w (At m j) x = pushed w (m .0) j x
+
+abbrev pub pays : World → ℕ → ℕ → World
+pays w n l = withNet w (considered (paid (w .net) n l) n l)
+
+unfoldable pub crosses : World → ℕ → ℕ → ℕ → World
+crosses w n l x = pays (arrives w (farOf (w .net .links n l)) x) n l
+
+abbrev pub movesOut : World → ℕ → ℕ → ℕ → World
+movesOut w n p l =
+    crosses (withNet (took w n p) (closesOut (took w n p .net) n p l (firstAt w n p))) n l (firstAt w n p)
+
+-- "PAUSE is never stored in a channel-end; END is." The sink forgets.
+abbrev pub gives : Net → ℕ → ℕ → ℕ → Net
+gives s n c x = pick (eqb c sink) s (withEnd s n c (kept (s .ends n c) x))
+
+abbrev pub hands : World → ℕ → ℕ → ℕ → ℕ → World
+hands w n p c t =
+    withNet (took w n p) (closesChannel (gives (took w n p .net) n c (firstAt w n p)) n p c t (firstAt w n p))
+
+-- a control unit hears a token: eleven decide what becomes of a message, and no more are kept
+abbrev pub hearsWord : Units.Unit → ℕ → Units.Unit
+hearsWord k x = pick (ltb (k .heard) 11) (heardAs k (k .heard + 1) (set (k .tokens) (k .heard) x)) k
+
+abbrev pub hears : World → ℕ → ℕ → World
+hears w n p =
+    withNet (took w n p)
+    (closesUnit (withUnit (took w n p .net) n (hearsWord (took w n p .net .units n 0) (firstAt w n p))) n p (firstAt w n p))
+
+-- "Refused circuits: Dropped, with the cause."
+abbrev pub drops : World → ℕ → ℕ → World
+drops w n p = withNet (took w n p) (closesDropped (took w n p .net) n p (firstAt w n p))
+
+abbrev pub performed : World → ℕ → ℕ → Plan → World
+performed w n p Idle = w
+performed w n p Wait = w
+performed w n p (OpenOut l) = withNet w (opensOut (w .net) n p l)
+performed w n p (OpenChannel c t) = stripped (withNet w (opensChannel (w .net) n p c t)) n p (widthAt (w .net) n)
+performed w n p OpenUnit = stripped (withNet w (opensUnit (w .net) n p)) n p (widthAt (w .net) n)
+performed w n p (Refuse x) = withNet w (hopped (w .net) n p (Hops.Dropped x))
+performed w n p (MoveOut l) = movesOut w n p l
+performed w n p (Hand c t) = hands w n p c t
+performed w n p Hear = hears w n p
+performed w n p (Drop x) = drops w n p
+
+-- What the code has on its way: k tokens to take, and a cable that leads somewhere
+pub record Takes (w : World) (n p k : ℕ) : Type 0 where
+  pub holds : Holds w n p k
+  pub up : Up (w .net) n p
+
+-- the sink, or a channel-end that is there
+abbrev pub Door : ℕ → Type 0
+Door c = (c ≡ sink) ⊎ (c < ends)
+
+-- .. that has room for what it keeps of a token
+abbrev pub Given : Net → ℕ → ℕ → ℕ → Type 0
+Given s n c x = (c ≡ sink) ⊎ ((c < ends) × Keeps (s .ends n c) x)
+
+-- where the cable of a link leads there is room for a token
+abbrev pub FarRoom : World → Far → Type 0
+FarRoom w Nowhere = Unit
+FarRoom w (At m j) = Room w (m .0) j 1
+
+abbrev pub Possible : World → ℕ → ℕ → Plan → Type 0
+Possible w n p Idle = Unit
+Possible w n p Wait = Unit
+Possible w n p (OpenOut l) = l < links
+Possible w n p (OpenChannel c t) = (t < tileLinks) × Door c × Takes w n p (sizeOf (widthAt (w .net) n))
+Possible w n p OpenUnit = Takes w n p (sizeOf (widthAt (w .net) n))
+Possible w n p (Refuse x) = Unit
+Possible w n p (MoveOut l) = (l < links) × Takes w n p 1 × FarRoom w (farOf (w .net .links n l))
+Possible w n p (Hand c t) = (t < tileLinks) × Given (w .net) n c (firstAt w n p) × Takes w n p 1
+Possible w n p Hear = Takes w n p 1
+Possible w n p (Drop x) = Takes w n p 1

@@ -1,0 +1,139 @@
+// One token passes: over a cable, to a channel, to the control unit, or away.
+use crate::open::close_channel;
+use crate::open::close_dropped;
+use crate::open::close_out;
+use crate::open::close_unit;
+use crate::take::take;
+use acts::keep;
+use acts::push;
+use cells::end;
+use cells::link;
+use cells::link::Far;
+use cells::link::far_of;
+use cells::unit;
+use cells::unit::Unit;
+use grants::consider;
+use names::Slot;
+use names::size::SINK;
+ghost use mathlib.Core.Path.{_≡_};
+ghost use Prim.Native.Nat.{_-_, _<_};
+ghost use Rattle.names.specs.Size.{links, ports, tileLinks};
+ghost use Rattle.cells.specs.View.{view, withUnit};
+ghost use Rattle.cells.specs.World.{world, farOf};
+ghost use Rattle.acts.specs.Acts.{firstAt};
+ghost use Rattle.switch.specs.Step.{paid, arrives, pays, crosses, movesOut, gives, Given, hands, hearsWord, hears, drops, Takes, Door, FarRoom};
+
+// The token is put at the far end of the cable.
+fn arrive(st: &mut [u32], mem: &mut [u16], f: Far, word: u16)
+    requires { ⌜ FarRoom (world (now st) (now mem)) f ⌝ }
+    ensures { λ r. ⌜ world (now (st .exit)) (now (mem .exit)) ≡ arrives (world (now (st .entry)) (now (mem .entry))) f word ⌝ }
+{
+    match f {
+        Far::Nowhere => {}
+        Far::At(m, j) => push(st, mem, m, j, word),
+    }
+}
+
+// It costs one credit.
+fn pay(st: &mut [u32], slot: Slot, l: usize)
+    requires { ⌜ (slot .0 < view (now st) .nodes) × (l < links) ⌝ }
+    ensures { λ r. ⌜ view (now (st .exit)) ≡ paid (view (now (st .entry))) (slot .0) l ⌝ }
+{
+    let mut k = link::at(st, slot, l);
+    k.credit = less_one(k.credit);
+    link::put(st, slot, l, k);
+}
+
+fn less_one(n: u32) -> u32
+    ensures { λ r. ⌜ r ≡ n - 1 ⌝ }
+{
+    if n == 0 {
+        return 0;
+    }
+    n - 1
+}
+
+// A token crosses at once: put at the far end, paid, and a grant considered.
+fn cross(st: &mut [u32], mem: &mut [u16], slot: Slot, l: usize, word: u16)
+    requires { ⌜ (slot .0 < view (now st) .nodes) × (l < links) × FarRoom (world (now st) (now mem)) (farOf (view (now st) .links (slot .0) l)) ⌝ }
+    ensures { λ r. ⌜ world (now (st .exit)) (now (mem .exit)) ≡ crosses (world (now (st .entry)) (now (mem .entry))) (slot .0) l word ⌝ }
+{
+    let far = far_of(link::at(st, slot, l));
+    arrive(st, mem, far, word);
+    pay(st, slot, l);
+    consider(st, slot, l);
+}
+
+// "Outward: .. Moved."
+pub fn move_out(st: &mut [u32], mem: &mut [u16], slot: Slot, p: usize, l: usize)
+    requires { ⌜ (l < links) × Takes (world (now st) (now mem)) (slot .0) p 1 × FarRoom (world (now st) (now mem)) (farOf (view (now st) .links (slot .0) l)) ⌝ }
+    ensures { λ r. ⌜ world (now (st .exit)) (now (mem .exit)) ≡ movesOut (world (now (st .entry)) (now (mem .entry))) (slot .0) p l ⌝ }
+{
+    let word = take(st, mem, slot, p);
+    close_out(st, slot, p, l, word);
+    cross(st, mem, slot, l, word);
+}
+
+// A channel is handed a token; the sink forgets it.
+fn give(st: &mut [u32], slot: Slot, c: usize, word: u16)
+    requires { ⌜ (slot .0 < view (now st) .nodes) × Given (view (now st)) (slot .0) c word ⌝ }
+    ensures { λ r. ⌜ view (now (st .exit)) ≡ gives (view (now (st .entry))) (slot .0) c word ⌝ }
+{
+    if c == SINK as usize {
+        return;
+    }
+    let k = keep(end::at(st, slot, c), word);
+    end::put(st, slot, c, k);
+}
+
+// "To a channel: .. Moved."
+pub fn hand(st: &mut [u32], mem: &mut [u16], slot: Slot, p: usize, c: usize, t: usize)
+    requires { ⌜ (t < tileLinks) × Given (view (now st)) (slot .0) c (firstAt (world (now st) (now mem)) (slot .0) p) × Takes (world (now st) (now mem)) (slot .0) p 1 ⌝ }
+    ensures { λ r. ⌜ world (now (st .exit)) (now (mem .exit)) ≡ hands (world (now (st .entry)) (now (mem .entry))) (slot .0) p c t ⌝ }
+{
+    let word = take(st, mem, slot, p);
+    give(st, slot, c, word);
+    close_channel(st, slot, p, c, t, word);
+}
+
+// A control unit that hears a token: eleven decide what becomes of a message, and no more are kept.
+fn hears_word(k: Unit, word: u16) -> Unit
+    ensures { λ r. ⌜ r ≡ hearsWord k word ⌝ }
+{
+    let mut j = k;
+    if k.heard < 11 {
+        let mut t = k.tokens;
+        let i = k.heard as usize;
+        t[i] = word as u32;
+        j.tokens = t;
+        j.heard = k.heard + 1;
+    }
+    j
+}
+
+fn listen(st: &mut [u32], slot: Slot, word: u16)
+    requires { ⌜ slot .0 < view (now st) .nodes ⌝ }
+    ensures { λ r. ⌜ view (now (st .exit)) ≡ withUnit (view (now (st .entry))) (slot .0) (hearsWord (view (now (st .entry)) .units (slot .0) 0) word) ⌝ }
+{
+    let k = hears_word(unit::at(st, slot), word);
+    unit::put(st, slot, k);
+}
+
+// "To the control unit: Moved."
+pub fn hear(st: &mut [u32], mem: &mut [u16], slot: Slot, p: usize)
+    requires { ⌜ Takes (world (now st) (now mem)) (slot .0) p 1 ⌝ }
+    ensures { λ r. ⌜ world (now (st .exit)) (now (mem .exit)) ≡ hears (world (now (st .entry)) (now (mem .entry))) (slot .0) p ⌝ }
+{
+    let word = take(st, mem, slot, p);
+    listen(st, slot, word);
+    close_unit(st, slot, p, word);
+}
+
+// "Refused circuits: Dropped."
+pub fn drop_one(st: &mut [u32], mem: &mut [u16], slot: Slot, p: usize)
+    requires { ⌜ Takes (world (now st) (now mem)) (slot .0) p 1 ⌝ }
+    ensures { λ r. ⌜ world (now (st .exit)) (now (mem .exit)) ≡ drops (world (now (st .entry)) (now (mem .entry))) (slot .0) p ⌝ }
+{
+    let word = take(st, mem, slot, p);
+    close_dropped(st, slot, p, word);
+}
