@@ -16,7 +16,7 @@ use model::set::Setting;
 use model::tokens::{header, Destination, Token};
 use model::{Answer, No};
 
-const RUNS: u64 = 60;
+const RUNS: u64 = 100;
 const CALLS: usize = 400;
 const FILLING: usize = 1000;
 

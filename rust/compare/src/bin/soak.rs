@@ -13,9 +13,9 @@ soak: compares the proved bench with the model on random runs and damaged memori
   soak [--seed N] [--minutes N] [--into FOLDER]
 
 Seeds are taken one after the other, from N or from the clock, until a difference is found or the
-minutes (60 if not given) have passed. A run that differs is reduced to the shortest one that still
-does and written as a script, FOLDER/soak-SEED.txt (the folder at hand if none is given), with the
-model's answers stated. The same seed gives the same run.
+minutes (60 if not given) have passed. A run that differs is made as short as it can be and written
+as a script, FOLDER/soak-SEED.txt (the folder at hand if none is given), with the model's answers
+stated. The same seed gives the same run.
 
 Exit status: 0 no difference, 1 a difference, 2 words that are not understood.
 ";
