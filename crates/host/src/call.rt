@@ -1,14 +1,23 @@
 // The calls. Each answers one number, and leaves both memories as the call of crate bench does.
 use crate::number::answer_number;
+use bench::aim;
 use bench::fresh;
+use bench::input;
+use bench::output;
 use bench::set;
 use bench::wire;
+use ends::Token;
+use ends::Wanted;
+use ends::aim::Goal;
 use names::Slot;
 use settings::Setting;
 ghost use mathlib.Core.Path.{_≡_};
 ghost use Rattle.settings.specs.declared.Setting.the-variants.{Number, Width, Direction, LinkDirection, Network, Enable, Hello};
+ghost use Rattle.ends.specs.declared.aim.Goal.the-variants as Goals;
+ghost use Rattle.ends.specs.declared.Token.the-variants as Tokens;
+ghost use Rattle.ends.specs.declared.Wanted.the-variants as Wants;
 ghost use Rattle.cells.specs.World.{world};
-ghost use Rattle.bench.specs.Calls.{apply, Fresh, Wire, Set};
+ghost use Rattle.bench.specs.Calls.{apply, Fresh, Wire, Set, Aim, Output, Input};
 ghost use Rattle.host.specs.Crossed.{crossing, crossed, slot};
 
 #[no_mangle]
@@ -104,4 +113,75 @@ pub extern "C" fn tarvelgyo_hello(st: &mut [u32], mem: &[u16], n: usize, l: usiz
     ensures { λ r. ⌜ crossing r (world (now (st .exit)) (now (mem .entry))) ≡ crossed (apply (world (now (st .entry)) (now (mem .entry))) (Set (slot n) (Hello l))) ⌝ }
 {
     answer_number(set(st, mem, Slot(n), Setting::Hello(l)))
+}
+
+// A channel-end aimed at a channel, 0..31 or 255, of a number.
+#[no_mangle]
+pub extern "C" fn tarvelgyo_aim_channel(
+    st: &mut [u32],
+    mem: &[u16],
+    n: usize,
+    c: usize,
+    number: u32,
+    channel: u32,
+    network: u32,
+) -> u64
+    ensures { λ r. ⌜ crossing r (world (now (st .exit)) (now (mem .entry))) ≡ crossed (apply (world (now (st .entry)) (now (mem .entry))) (Aim (slot n) c (Goals.Channel number channel) network)) ⌝ }
+{
+    answer_number(aim(st, mem, Slot(n), c, Goal::Channel(number, channel), network))
+}
+
+// A channel-end aimed at a number's control unit.
+#[no_mangle]
+pub extern "C" fn tarvelgyo_aim_unit(
+    st: &mut [u32],
+    mem: &[u16],
+    n: usize,
+    c: usize,
+    number: u32,
+    network: u32,
+) -> u64
+    ensures { λ r. ⌜ crossing r (world (now (st .exit)) (now (mem .entry))) ≡ crossed (apply (world (now (st .entry)) (now (mem .entry))) (Aim (slot n) c (Goals.Unit number) network)) ⌝ }
+{
+    answer_number(aim(st, mem, Slot(n), c, Goal::Unit(number), network))
+}
+
+#[no_mangle]
+pub extern "C" fn tarvelgyo_output_data(
+    st: &mut [u32],
+    mem: &mut [u16],
+    n: usize,
+    c: usize,
+    value: u8,
+) -> u64
+    ensures { λ r. ⌜ crossing r (world (now (st .exit)) (now (mem .exit))) ≡ crossed (apply (world (now (st .entry)) (now (mem .entry))) (Output (slot n) c (Tokens.Data value))) ⌝ }
+{
+    answer_number(output(st, mem, Slot(n), c, Token::Data(value)))
+}
+
+#[no_mangle]
+pub extern "C" fn tarvelgyo_output_control(
+    st: &mut [u32],
+    mem: &mut [u16],
+    n: usize,
+    c: usize,
+    value: u8,
+) -> u64
+    ensures { λ r. ⌜ crossing r (world (now (st .exit)) (now (mem .exit))) ≡ crossed (apply (world (now (st .entry)) (now (mem .entry))) (Output (slot n) c (Tokens.Control value))) ⌝ }
+{
+    answer_number(output(st, mem, Slot(n), c, Token::Control(value)))
+}
+
+#[no_mangle]
+pub extern "C" fn tarvelgyo_input_data(st: &mut [u32], mem: &[u16], n: usize, c: usize) -> u64
+    ensures { λ r. ⌜ crossing r (world (now (st .exit)) (now (mem .entry))) ≡ crossed (apply (world (now (st .entry)) (now (mem .entry))) (Input (slot n) c Wants.Data)) ⌝ }
+{
+    answer_number(input(st, mem, Slot(n), c, Wanted::Data))
+}
+
+#[no_mangle]
+pub extern "C" fn tarvelgyo_input_control(st: &mut [u32], mem: &[u16], n: usize, c: usize) -> u64
+    ensures { λ r. ⌜ crossing r (world (now (st .exit)) (now (mem .entry))) ≡ crossed (apply (world (now (st .entry)) (now (mem .entry))) (Input (slot n) c Wants.Control)) ⌝ }
+{
+    answer_number(input(st, mem, Slot(n), c, Wanted::Control))
 }

@@ -18,6 +18,7 @@ pub fn answer_number(a: Answer) -> u64
         Answer::No(n) => packed(0, n as u32),
         Answer::Done => packed(1, 0),
         Answer::Granted(credit) => packed(2, credit),
+        Answer::Token(value) => packed(3, value as u32),
     }
 }
 

@@ -11,6 +11,8 @@ pub enum Answer {
     Done,
     /// "The answer to HELLO gives the grant."
     Granted(u32),
+    /// The value of the token that Input took.
+    Token(u8),
 }
 
 impl Answer {
@@ -22,6 +24,7 @@ impl Answer {
     ///
     /// assert_eq!(Answer::from_crossed(4), Some(Answer::No(Refusal::Busy)));
     /// assert_eq!(Answer::from_crossed(2 << 32 | 64), Some(Answer::Granted(64)));
+    /// assert_eq!(Answer::from_crossed(3 << 32 | 255), Some(Answer::Token(255)));
     /// assert_eq!(Answer::from_crossed(0), None);
     /// ```
     pub fn from_crossed(crossed: u64) -> Option<Answer> {
@@ -29,6 +32,7 @@ impl Answer {
             (0, number) => Refusal::from_number(number).map(Answer::No),
             (1, 0) => Some(Answer::Done),
             (2, credit) => Some(Answer::Granted(credit)),
+            (3, value) => u8::try_from(value).ok().map(Answer::Token),
             _ => None,
         }
     }

@@ -3,8 +3,10 @@
 use crate::answer::Answer;
 use crate::looks::Looks;
 use crate::raw;
+use crate::records::Destination;
 use crate::refusal::Refusal;
 use crate::sizes::MOST_NODES;
+use crate::token::Kind;
 
 /// One end of a cable: a link of the node in a slot.
 #[derive(Clone, Copy, Debug, PartialEq, Eq, Hash)]
@@ -147,7 +149,95 @@ impl Bench {
         match raw::hello(&mut self.state, &self.memory, slot, link) {
             Answer::No(refusal) => Err(refusal),
             Answer::Granted(credit) => Ok(credit),
-            Answer::Done => unreachable!("HELLO answers with a grant"),
+            other => unreachable!("HELLO answers with a grant, not {other:?}"),
+        }
+    }
+
+    /// Aim: a channel-end's destination and network. Refused while it has a circuit open.
+    ///
+    /// ```
+    /// use bench::{Bench, Destination, Kind, Refusal};
+    ///
+    /// let mut bench = Bench::fresh(1).unwrap();
+    /// let neighbour = Destination::Channel { number: 0, channel: 7 };
+    /// let beyond = Destination::Channel { number: 0, channel: 32 };
+    /// assert_eq!(bench.aim(0, 2, beyond, 0), Err(Refusal::Value));
+    /// assert_eq!(bench.aim(0, 2, neighbour, 4), Err(Refusal::Value));
+    /// assert_eq!(bench.aim(0, 2, neighbour, 0), Ok(()));
+    /// assert_eq!(bench.looks().channel_end(0, 2).destination(), Some(neighbour));
+    /// bench.output(0, 2, Kind::Data, 5).unwrap();
+    /// assert_eq!(bench.aim(0, 2, neighbour, 0), Err(Refusal::Open));
+    /// ```
+    pub fn aim(
+        &mut self,
+        slot: usize,
+        channel_end: usize,
+        destination: Destination,
+        network: u32,
+    ) -> Result<(), Refusal> {
+        let (state, memory) = (&mut self.state, &self.memory);
+        done(match destination {
+            Destination::Channel { number, channel } => {
+                raw::aim_channel(state, memory, slot, channel_end, number, channel, network)
+            }
+            Destination::Control { number } => {
+                raw::aim_unit(state, memory, slot, channel_end, number, network)
+            }
+        })
+    }
+
+    /// Output a token. The first opens a circuit: straight to a channel-end of the same node, or by
+    /// the lowest free port 8..11, which receives header and token. END and PAUSE end it.
+    ///
+    /// ```
+    /// use bench::{Bench, Destination, Kind, Peer, Refusal, Token};
+    ///
+    /// let mut bench = Bench::fresh(1).unwrap();
+    /// assert_eq!(bench.output(0, 2, Kind::Control, 0xE0), Err(Refusal::Unaimed));
+    /// bench.aim(0, 2, Destination::Channel { number: 0x0125, channel: 7 }, 0).unwrap();
+    /// assert_eq!(bench.output(0, 2, Kind::Control, 0xE0), Err(Refusal::Hardware));
+    /// assert_eq!(bench.output(0, 2, Kind::Data, 9), Ok(()));
+    /// let tokens = bench.looks().port_tokens(0, 8).filter_map(Token::from_word);
+    /// assert!(tokens.map(|token| token.value).eq([0x01, 0x25, 7, 9]));
+    /// assert_eq!(bench.looks().channel_end(0, 2).sending.peer(), Some(Peer::Port(8)));
+    /// ```
+    pub fn output(
+        &mut self,
+        slot: usize,
+        channel_end: usize,
+        kind: Kind,
+        value: u8,
+    ) -> Result<(), Refusal> {
+        let (state, memory) = (&mut self.state, &mut self.memory);
+        done(match kind {
+            Kind::Data => raw::output_data(state, memory, slot, channel_end, value),
+            Kind::Control => raw::output_control(state, memory, slot, channel_end, value),
+        })
+    }
+
+    /// Input the next token as data or as control. The answer gives its value; a token of the other
+    /// kind stays.
+    ///
+    /// ```
+    /// use bench::{Bench, Destination, Kind, Refusal};
+    ///
+    /// let mut bench = Bench::fresh(1).unwrap();
+    /// bench.aim(0, 2, Destination::Channel { number: 0, channel: 7 }, 0).unwrap();
+    /// assert_eq!(bench.input(0, 7, Kind::Data), Err(Refusal::Empty));
+    /// bench.output(0, 2, Kind::Data, 9).unwrap();
+    /// assert_eq!(bench.input(0, 7, Kind::Control), Err(Refusal::Trap));
+    /// assert_eq!(bench.input(0, 7, Kind::Data), Ok(9));
+    /// ```
+    pub fn input(&mut self, slot: usize, channel_end: usize, kind: Kind) -> Result<u8, Refusal> {
+        let (state, memory) = (&mut self.state, &self.memory);
+        let answer = match kind {
+            Kind::Data => raw::input_data(state, memory, slot, channel_end),
+            Kind::Control => raw::input_control(state, memory, slot, channel_end),
+        };
+        match answer {
+            Answer::No(refusal) => Err(refusal),
+            Answer::Token(value) => Ok(value),
+            other => unreachable!("Input answers with a token, not {other:?}"),
         }
     }
 

@@ -79,6 +79,61 @@ extern "C" {
         slot: usize,
         link: usize,
     ) -> u64;
+    pub fn tarvelgyo_aim_channel(
+        state: *mut u32,
+        words: usize,
+        memory: *const u16,
+        tokens: usize,
+        slot: usize,
+        channel_end: usize,
+        number: u32,
+        channel: u32,
+        network: u32,
+    ) -> u64;
+    pub fn tarvelgyo_aim_unit(
+        state: *mut u32,
+        words: usize,
+        memory: *const u16,
+        tokens: usize,
+        slot: usize,
+        channel_end: usize,
+        number: u32,
+        network: u32,
+    ) -> u64;
+    pub fn tarvelgyo_output_data(
+        state: *mut u32,
+        words: usize,
+        memory: *mut u16,
+        tokens: usize,
+        slot: usize,
+        channel_end: usize,
+        value: u8,
+    ) -> u64;
+    pub fn tarvelgyo_output_control(
+        state: *mut u32,
+        words: usize,
+        memory: *mut u16,
+        tokens: usize,
+        slot: usize,
+        channel_end: usize,
+        value: u8,
+    ) -> u64;
+    pub fn tarvelgyo_input_data(
+        state: *mut u32,
+        words: usize,
+        memory: *const u16,
+        tokens: usize,
+        slot: usize,
+        channel_end: usize,
+    ) -> u64;
+    pub fn tarvelgyo_input_control(
+        state: *mut u32,
+        words: usize,
+        memory: *const u16,
+        tokens: usize,
+        slot: usize,
+        channel_end: usize,
+    ) -> u64;
     pub fn tarvelgyo_state_words() -> usize;
     pub fn tarvelgyo_memory_words() -> usize;
     pub fn tarvelgyo_node_count(state: *const u32, words: usize) -> usize;

@@ -203,6 +203,130 @@ pub fn hello(state: &mut [u32], memory: &[u16], slot: usize, link: usize) -> Ans
     })
 }
 
+/// Aim: a channel-end at a channel, 0..31 or 255, of the nodes of a number.
+pub fn aim_channel(
+    state: &mut [u32],
+    memory: &[u16],
+    slot: usize,
+    channel_end: usize,
+    number: u32,
+    channel: u32,
+    network: u32,
+) -> Answer {
+    // SAFETY: as said above.
+    answered(unsafe {
+        proved::tarvelgyo_aim_channel(
+            state.as_mut_ptr(),
+            state.len(),
+            memory.as_ptr(),
+            memory.len(),
+            slot,
+            channel_end,
+            number,
+            channel,
+            network,
+        )
+    })
+}
+
+/// Aim: a channel-end at the control unit of the nodes of a number.
+pub fn aim_unit(
+    state: &mut [u32],
+    memory: &[u16],
+    slot: usize,
+    channel_end: usize,
+    number: u32,
+    network: u32,
+) -> Answer {
+    // SAFETY: as said above.
+    answered(unsafe {
+        proved::tarvelgyo_aim_unit(
+            state.as_mut_ptr(),
+            state.len(),
+            memory.as_ptr(),
+            memory.len(),
+            slot,
+            channel_end,
+            number,
+            network,
+        )
+    })
+}
+
+/// Output: a data token.
+pub fn output_data(
+    state: &mut [u32],
+    memory: &mut [u16],
+    slot: usize,
+    channel_end: usize,
+    value: u8,
+) -> Answer {
+    // SAFETY: as said above.
+    answered(unsafe {
+        proved::tarvelgyo_output_data(
+            state.as_mut_ptr(),
+            state.len(),
+            memory.as_mut_ptr(),
+            memory.len(),
+            slot,
+            channel_end,
+            value,
+        )
+    })
+}
+
+/// Output: a control token.
+pub fn output_control(
+    state: &mut [u32],
+    memory: &mut [u16],
+    slot: usize,
+    channel_end: usize,
+    value: u8,
+) -> Answer {
+    // SAFETY: as said above.
+    answered(unsafe {
+        proved::tarvelgyo_output_control(
+            state.as_mut_ptr(),
+            state.len(),
+            memory.as_mut_ptr(),
+            memory.len(),
+            slot,
+            channel_end,
+            value,
+        )
+    })
+}
+
+/// Input: the next token, as data.
+pub fn input_data(state: &mut [u32], memory: &[u16], slot: usize, channel_end: usize) -> Answer {
+    // SAFETY: as said above.
+    answered(unsafe {
+        proved::tarvelgyo_input_data(
+            state.as_mut_ptr(),
+            state.len(),
+            memory.as_ptr(),
+            memory.len(),
+            slot,
+            channel_end,
+        )
+    })
+}
+
+/// Input: the next token, as control.
+pub fn input_control(state: &mut [u32], memory: &[u16], slot: usize, channel_end: usize) -> Answer {
+    // SAFETY: as said above.
+    answered(unsafe {
+        proved::tarvelgyo_input_control(
+            state.as_mut_ptr(),
+            state.len(),
+            memory.as_ptr(),
+            memory.len(),
+            slot,
+            channel_end,
+        )
+    })
+}
+
 /// How many words of state to lend for each node.
 pub fn state_words() -> usize {
     // SAFETY: as said above.

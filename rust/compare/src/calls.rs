@@ -2,12 +2,14 @@
 
 use bench::raw;
 use model::calls::Call;
-use model::network::{LinkEnd, Network, BITS, LINKS};
+use model::network::Network;
 use model::random::Random;
 use model::set::Setting;
+use model::tokens::{Destination, Kind};
 use model::{Answer, No};
 
 use crate::difference;
+use crate::layout;
 use crate::reading::read;
 
 /// The words that a host lends.
@@ -16,6 +18,17 @@ pub struct Lent {
     pub state: Vec<u32>,
     pub memory: Vec<u16>,
 }
+
+impl Lent {
+    /// The words of a model's state; none where there is no network.
+    pub fn of(network: Option<&Network>, random: &mut Random) -> Lent {
+        let words = network.map(|network| layout::write(network, random));
+        words.map_or_else(Lent::default, |(state, memory)| Lent { state, memory })
+    }
+}
+
+/// How the model makes a call: [`model::apply`], or another where it is to be wrong on purpose.
+pub type Apply = fn(&mut Option<Network>, &Call) -> Answer;
 
 /// Makes a call on lent words; none where the proved bench has no such call yet.
 pub fn make(lent: &mut Lent, call: &Call) -> Option<Answer> {
@@ -29,11 +42,54 @@ pub fn make(lent: &mut Lent, call: &Call) -> Option<Answer> {
             raw::wire(state, memory, one.slot, one.link, other.slot, other.link)
         }
         Call::Set { slot, setting } => set(lent, slot, setting),
-        Call::Aim { .. } | Call::Output { .. } | Call::Input { .. } | Call::Step { .. } => {
-            return None
+        Call::Aim {
+            slot,
+            channel_end,
+            destination,
+            network,
+        } => aim(lent, slot, channel_end, destination, network),
+        Call::Output {
+            slot,
+            channel_end: end,
+            kind,
+            value,
+        } => {
+            let (state, memory) = (&mut lent.state, &mut lent.memory);
+            match kind {
+                Kind::Data => raw::output_data(state, memory, slot, end, value),
+                Kind::Control => raw::output_control(state, memory, slot, end, value),
+            }
         }
+        Call::Input {
+            slot,
+            channel_end: end,
+            kind: Kind::Data,
+        } => raw::input_data(&mut lent.state, &lent.memory, slot, end),
+        Call::Input {
+            slot,
+            channel_end: end,
+            kind: Kind::Control,
+        } => raw::input_control(&mut lent.state, &lent.memory, slot, end),
+        Call::Step { .. } => return None,
     };
     Some(of_bench(answer))
+}
+
+fn aim(
+    lent: &mut Lent,
+    slot: usize,
+    end: usize,
+    destination: Destination,
+    network: u32,
+) -> bench::Answer {
+    let (state, memory) = (&mut lent.state, &lent.memory);
+    match destination {
+        Destination::Channel { number, channel } => {
+            let channel = u32::try_from(channel).unwrap_or(u32::MAX);
+            raw::aim_channel(state, memory, slot, end, number, channel, network)
+        }
+        Destination::Control { number } => raw::aim_unit(state, memory, slot, end, number, network),
+    }
 }
 
 /// Fresh is made on memories of its own, full of rubbish, which take the place of the others where
@@ -81,13 +137,15 @@ fn of_bench(answer: bench::Answer) -> Answer {
         },
         bench::Answer::Done => Answer::Done,
         bench::Answer::Granted(credit) => Answer::Granted(credit as usize),
+        bench::Answer::Token(value) => Answer::Token(value),
     }
 }
 
 /// Makes a call on both sides, whose states are the same before it. Says how the answers or the
 /// states behind it differ, or that a refused call has changed a word. False where the proved bench
-/// has no such call.
+/// has no such call, and nothing was done.
 pub fn compare(
+    apply: Apply,
     network: &mut Option<Network>,
     lent: &mut Lent,
     call: &Call,
@@ -96,127 +154,19 @@ pub fn compare(
     let Some(found) = make(lent, call) else {
         return Ok(false);
     };
-    let expected = model::apply(network, call);
+    let expected = apply(network, call);
     if found != expected {
-        return Err(format!(
-            "{call:?}: the library {found:?}, the model {expected:?}"
-        ));
+        return Err(format!("{call}: the library {found}, the model {expected}"));
     }
     if matches!(found, Answer::No(_)) && *lent != before {
-        return Err(format!("{call:?} was refused and has changed a word"));
+        return Err(format!("{call}: refused, and a word has changed"));
     }
     let Some(network) = network else {
         return Ok(true);
     };
-    let read = read(&lent.state, &lent.memory).map_err(|why| format!("{call:?}: {}", why.0))?;
+    let read = read(&lent.state, &lent.memory).map_err(|why| format!("{call}: {}", why.0))?;
     match difference::first(&read, network) {
-        Some(difference) => Err(format!("{call:?}: {difference}")),
+        Some(difference) => Err(format!("{call}: {difference}")),
         None => Ok(true),
-    }
-}
-
-/// A call that both sides have, with arguments in and out of range; often of a link whose cable or
-/// circuits make a difference.
-pub fn any(random: &mut Random, network: Option<&Network>) -> Call {
-    let nodes = network.map_or(3, |network| network.nodes.len());
-    let busy = network.map(busy_links).unwrap_or_default();
-    let (slot, link) = match random.pick(&busy) {
-        Some(end) if random.chance(50) => (end.slot, end.link),
-        _ => (
-            below_or_beyond(random, nodes),
-            below_or_beyond(random, LINKS),
-        ),
-    };
-    let of_node = any_of_node(random);
-    let of_link = any_of_link(random, link);
-    match random.below(20) {
-        0 => Call::Fresh {
-            nodes: below_or_beyond(random, 17),
-            memory_words: 832 * random.below(18),
-        },
-        1..=3 => Call::Wire {
-            one: any_end(random, nodes),
-            other: any_end(random, nodes),
-        },
-        4..=8 => Call::Set {
-            slot,
-            setting: of_node,
-        },
-        _ => Call::Set {
-            slot,
-            setting: of_link,
-        },
-    }
-}
-
-/// The links that are in use, or whose port or far port holds a token.
-fn busy_links(network: &Network) -> Vec<LinkEnd> {
-    let holds = |end: LinkEnd| {
-        let port = network.port(end.slot, end.link);
-        port.is_ok_and(|port| port.is_taken())
-    };
-    let slots = 0..network.nodes.len();
-    let all = slots.flat_map(|slot| (0..LINKS).map(move |link| LinkEnd { slot, link }));
-    all.filter(|end| {
-        let link = &network.nodes[end.slot].links[end.link];
-        link.used_by.is_some() || holds(*end) || link.far.is_some_and(holds)
-    })
-    .collect()
-}
-
-fn any_end(random: &mut Random, nodes: usize) -> LinkEnd {
-    LinkEnd {
-        slot: below_or_beyond(random, nodes),
-        link: below_or_beyond(random, LINKS),
-    }
-}
-
-fn any_of_node(random: &mut Random) -> Setting {
-    match random.below(3) {
-        0 => Setting::Number {
-            value: value(random, 0x1_0000),
-        },
-        1 => Setting::Width {
-            value: value(random, 4),
-        },
-        _ => Setting::Direction {
-            bit: below_or_beyond(random, BITS),
-            value: value(random, 16),
-        },
-    }
-}
-
-fn any_of_link(random: &mut Random, link: usize) -> Setting {
-    match random.below(6) {
-        0 => Setting::LinkDirection {
-            link,
-            value: value(random, 16),
-        },
-        1 => Setting::Network {
-            link,
-            value: value(random, 4),
-        },
-        2 | 3 => Setting::Enable {
-            link,
-            value: value(random, 2),
-        },
-        _ => Setting::Hello { link },
-    }
-}
-
-/// A number below the limit, and seldom one that is not.
-fn below_or_beyond(random: &mut Random, limit: usize) -> usize {
-    let beyond = [limit, limit + 1, 255, 65_536, usize::MAX];
-    match random.below(12) {
-        0 => random.pick(&beyond).unwrap_or(limit),
-        _ => random.below(limit),
-    }
-}
-
-fn value(random: &mut Random, limit: u32) -> u32 {
-    let beyond = [limit, limit + 1, 255, 65_536, u32::MAX];
-    match random.below(12) {
-        0 => random.pick(&beyond).unwrap_or(limit),
-        _ => random.value_below(limit),
     }
 }

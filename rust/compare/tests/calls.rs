@@ -1,71 +1,158 @@
 //! Calls made on both sides: every answer and the whole visible state are the same, and a refused
 //! call has changed no word.
 
-use compare::calls::{any, compare, Lent};
-use compare::{layout, reading};
+use std::collections::BTreeSet;
+
+use compare::calls::{compare, Lent};
+use compare::pair::Pair;
+use compare::reduce::report;
+use compare::soak::{fill, run, Figures, Found};
+use compare::{choice, filling, layout, reading};
 use model::calls::Call;
 use model::network::{LinkEnd, Network};
 use model::random::Random;
 use model::runs::Runner;
 use model::set::Setting;
 use model::tokens::{header, Destination, Token};
+use model::{Answer, No};
 
-const RUNS: u64 = 60;
+const RUNS: u64 = 100;
 const CALLS: usize = 400;
-/// From each state of a run so many calls are made in a row, aside from the run.
-const ASIDE: usize = 4;
+const FILLING: usize = 1000;
 
-/// The words of a state of the model; none lent where there is no network.
-fn lend(network: Option<&Network>, random: &mut Random) -> Lent {
-    network.map_or(Lent::default(), |network| {
-        let (state, memory) = layout::write(network, random);
-        Lent { state, memory }
-    })
-}
-
-/// A few calls from one state on; says how many were compared.
-fn calls_aside(network: Option<&Network>, random: &mut Random, from: &str) -> usize {
-    let mut lent = lend(network, random);
-    let mut network = network.cloned();
-    for _ in 0..ASIDE {
-        let call = any(random, network.as_ref());
-        let made = compare(&mut network, &mut lent, &call);
-        made.unwrap_or_else(|difference| panic!("{from}: {difference}"));
+/// Adds what one seed compared, or ends the test with the reduced run that differs.
+fn add(figures: &mut Figures, seed: u64, compared: Result<Figures, Found>) {
+    match compared {
+        Ok(more) => *figures += more,
+        Err(Found::Memory { behind, how }) => panic!("seed {seed}, behind {behind} calls: {how}"),
+        Err(Found::Run(differing)) => {
+            panic!(
+                "{}",
+                report(model::apply, &format!("seed {seed}"), differing)
+            )
+        }
     }
-    ASIDE
 }
 
 #[test]
-fn calls_of_runs_and_aside_from_them() {
-    let (mut of_runs, mut aside) = (0, 0);
+fn random_runs_with_calls_and_damage_aside() {
+    let mut figures = Figures::default();
     for seed in 0..RUNS {
-        let mut runner = Runner::new(seed);
-        let mut random = Random::new(seed ^ 0xCA11);
-        for call in 0..CALLS {
-            let from = format!("seed {seed}, call {call}");
-            let mut network = runner.network().cloned();
-            aside += calls_aside(network.as_ref(), &mut random, &from);
-            let mut lent = lend(network.as_ref(), &mut random);
-            let (made, _) = runner.call();
-            let compared = compare(&mut network, &mut lent, &made);
-            of_runs += usize::from(compared.unwrap_or_else(|d| panic!("{from}: {d}")));
-        }
+        add(&mut figures, seed, run(model::apply, seed, CALLS));
     }
-    println!("{of_runs} calls of runs compared, {aside} aside from them");
+    println!("{figures}");
 }
 
-/// The calls of a run that both sides have, one after the other on the same words.
 #[test]
-fn settings_of_whole_runs() {
-    let mut compared = 0;
-    for seed in 1000..1000 + RUNS {
-        let (mut network, mut lent) = (None, Lent::default());
-        for call in model::runs::calls(seed, CALLS) {
-            let made = compare(&mut network, &mut lent, &call);
-            compared += usize::from(made.unwrap_or_else(|d| panic!("seed {seed}: {d}")));
+fn runs_that_fill_ports_and_channel_ends() {
+    let mut figures = Figures::default();
+    for seed in 0..RUNS {
+        add(&mut figures, seed, fill(model::apply, seed, FILLING));
+    }
+    println!("{figures}");
+}
+
+/// Which call it is, by its first word; settings by their own.
+fn name(call: &Call) -> String {
+    let text = call.to_string();
+    let mut words = text.split_whitespace();
+    match (words.next(), words.nth(1)) {
+        (Some("set"), Some(setting)) => setting.to_owned(),
+        (first, _) => first.unwrap_or_default().to_owned(),
+    }
+}
+
+/// The refusals that a call can be given.
+fn refusals(name: &str) -> &'static [No] {
+    match name {
+        "fresh" => &[No::Unsound, No::NoSuch],
+        "wire" | "network" | "enable" => &[No::NoSuch, No::Value, No::Busy],
+        "number" | "width" | "direction" | "linkdirection" => &[No::NoSuch, No::Value],
+        "hello" => &[No::NoSuch, No::Busy],
+        "aim" => &[No::NoSuch, No::Value, No::Open],
+        "output" => &[
+            No::NoSuch,
+            No::Unaimed,
+            No::Hardware,
+            No::Privileged,
+            No::Narrow,
+            No::Full,
+        ],
+        _ => &[No::NoSuch, No::Empty, No::Trap],
+    }
+}
+
+/// What calls made up in this way answer on a sound state.
+fn answers_met() -> BTreeSet<(String, String)> {
+    let mut met = BTreeSet::new();
+    for seed in 0..40 {
+        let mut runner = Runner::new(seed);
+        let mut random = Random::new(seed);
+        for _ in 0..CALLS {
+            runner.call();
+            let mut network = runner.network().cloned();
+            for _ in 0..6 {
+                let call = choice::any(&mut random, network.as_ref());
+                let answer = model::apply(&mut network, &call);
+                met.insert((name(&call), answer.to_string()));
+            }
         }
     }
-    println!("{compared} calls compared");
+    met
+}
+
+/// Every refusal of every call, and every success, is among what is compared.
+#[test]
+fn every_refusal_of_every_call_is_met() {
+    let met = answers_met();
+    let calls = [
+        "fresh",
+        "wire",
+        "number",
+        "width",
+        "direction",
+        "linkdirection",
+        "network",
+        "enable",
+        "hello",
+        "aim",
+        "output",
+        "input",
+    ];
+    for call in calls {
+        for no in refusals(call) {
+            let case = (call.to_owned(), Answer::No(*no).to_string());
+            assert!(met.contains(&case), "no {call} was refused as {no:?}");
+        }
+        let mut of_call = met.iter().filter(|(name, _)| name == call);
+        assert!(
+            of_call.any(|(_, answer)| !answer.starts_with("no ")),
+            "{call}"
+        );
+    }
+}
+
+/// What the states of runs that fill have: how full a port 8..11 and a channel-end were.
+#[test]
+fn filling_fills() {
+    let (mut in_port, mut in_end, mut all_taken) = (0, 0, 0);
+    for seed in 0..20 {
+        let mut pair = Pair::new(model::apply);
+        for call in filling::calls(seed, FILLING) {
+            pair.call(&call).unwrap_or_else(|how| panic!("{how}"));
+            let nodes = pair.network().map_or(&[][..], |network| &network.nodes);
+            for node in nodes {
+                let held = node.ports.iter().map(|port| port.tokens.len());
+                in_port = in_port.max(held.max().unwrap_or(0));
+                let held = node.channel_ends.iter().map(|end| end.tokens.len());
+                in_end = in_end.max(held.max().unwrap_or(0));
+                let taken = node.ports[8..12].iter().all(|port| port.is_taken());
+                all_taken += usize::from(taken);
+            }
+        }
+    }
+    assert_eq!((in_port, in_end), (64, 8));
+    assert!(all_taken > 0);
 }
 
 /// Two nodes joined by their links A, both enabled, and a network at the far end that holds so many
@@ -90,15 +177,11 @@ fn joined(held: usize) -> Network {
 #[test]
 fn a_hello_at_every_number_of_tokens_held() {
     for held in 0..=64 {
-        let mut network = Some(joined(held));
-        let mut lent = lend(network.as_ref(), &mut Random::new(held as u64));
+        let network = joined(held);
+        let mut pair = Pair::at(model::apply, Some(&network), Random::new(held as u64));
         let setting = Setting::Hello { link: 0 };
         let call = Call::Set { slot: 0, setting };
-        assert_eq!(
-            compare(&mut network, &mut lent, &call),
-            Ok(true),
-            "{held} held"
-        );
+        assert_eq!(pair.call(&call), Ok(true), "{held} held");
     }
 }
 
@@ -111,7 +194,7 @@ fn a_fresh_network_is_all_zeros_but_for_its_widths() {
             nodes,
             memory_words,
         };
-        compare(&mut network, &mut lent, &call).unwrap();
+        compare(model::apply, &mut network, &mut lent, &call).unwrap();
         assert_eq!(lent.memory, vec![0; memory_words]);
         for node in lent.state.chunks(layout::NODE_WORDS) {
             let others = node.iter().enumerate().filter(|(at, _)| *at != 1);

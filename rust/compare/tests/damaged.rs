@@ -4,19 +4,18 @@
 use std::fmt;
 use std::ops::Range;
 
-use bench::sizes::{BITS, CHANNEL_ENDS, LINKS, MOST_NODES, PORTS};
-use bench::{raw, Looks};
-use compare::calls::{any, compare, make, Lent};
-use compare::damage::{disturb, things};
+use bench::raw;
+use bench::sizes::MOST_NODES;
+use compare::calls::Lent;
+use compare::damage::disturb;
+use compare::damaged::{self, other_things, other_words};
 use compare::layout::{self, NODE_TOKENS, NODE_WORDS};
-use compare::reading;
-use compare::verdict::{verdict, Verdict};
+use compare::verdict::Verdict;
 use model::network::Network;
 use model::random::Random;
 use model::runs::Runner;
-use model::{Answer, No};
 
-const RUNS: u64 = 150;
+const RUNS: u64 = 100;
 const CALLS: usize = 300;
 
 /// State and token memory.
@@ -53,74 +52,13 @@ impl fmt::Display for Tally {
     }
 }
 
-/// Makes every look at every place of so many nodes, and at one place beyond in each direction.
-fn look_everywhere(looks: Looks) {
-    let beyond = [looks.nodes(), usize::MAX];
-    for slot in (0..looks.nodes()).chain(beyond) {
-        looks.node(slot);
-        looks.control_unit(slot);
-        for bit in 0..=BITS {
-            assert!(looks.direction(slot, bit) < 16);
-        }
-        for link in 0..=LINKS {
-            looks.link(slot, link);
-            looks.tile_link(slot, link);
-        }
-        for port in 0..=PORTS {
-            looks.port(slot, port);
-            assert!(looks.port_tokens(slot, port).count() <= 64);
-        }
-        for end in 0..=CHANNEL_ENDS {
-            looks.channel_end(slot, end);
-            assert!(looks.end_tokens(slot, end).count() <= 8);
-        }
-    }
-    looks.digest();
-    looks.is_tight();
-    looks.is_quiet();
-}
-
-/// Makes calls on damaged words, each on a copy. Unsound ones are refused as that and left as they
-/// are; what is sound is a state of the model, which must answer the same.
-fn call_on(verdict: Verdict, state: &[u32], memory: &[u16], from: &str) {
-    let mut random = Random::new(
-        state
-            .iter()
-            .fold(0_u64, |sum, word| sum.wrapping_mul(31) ^ u64::from(*word)),
-    );
-    let read = reading::read(state, memory).ok();
-    for _ in 0..3 {
-        let mut network = read.clone();
-        let call = any(&mut random, network.as_ref());
-        let (state, memory) = (state.to_vec(), memory.to_vec());
-        let mut lent = Lent { state, memory };
-        let is_fresh = matches!(call, model::Call::Fresh { .. });
-        if verdict == Verdict::Sound || is_fresh {
-            compare(&mut network, &mut lent, &call).unwrap_or_else(|d| panic!("{from}: {d}"));
-        } else {
-            let before = lent.clone();
-            assert_eq!(
-                make(&mut lent, &call),
-                Some(Answer::No(No::Unsound)),
-                "{from}: {call:?}"
-            );
-            assert!(lent == before, "{from}: {call:?} has changed a word");
-        }
-    }
-}
-
-/// Asks both sides, makes every look, and sees that no word has changed.
+/// Asks both sides of words.
 fn check(state: &[u32], memory: &[u16], from: &str) -> Verdict {
-    let before = (state.to_vec(), memory.to_vec());
-    let verdict =
-        verdict(state, memory).unwrap_or_else(|difference| panic!("{from}: {difference}"));
-    look_everywhere(Looks::over(state, memory));
-    assert!(
-        before.0 == state && before.1 == memory,
-        "{from}: a word has changed"
-    );
-    call_on(verdict, state, memory, from);
-    verdict
+    let lent = Lent {
+        state: state.to_vec(),
+        memory: memory.to_vec(),
+    };
+    damaged::check(&lent).unwrap_or_else(|difference| panic!("{from}: {difference}"))
 }
 
 /// The words that a fresh network has.
@@ -130,7 +68,7 @@ fn fresh(nodes: usize) -> Words {
 }
 
 /// Damages the states of runs, and asks both sides of what comes of it.
-fn disturb_runs(seeds: Range<u64>, damage: impl Fn(&mut Random, &Network) -> Words) -> Tally {
+fn disturb_runs(seeds: Range<u64>, damage: impl Fn(&Network, &mut Random) -> Lent) -> Tally {
     let mut tally = Tally::default();
     for seed in seeds {
         let mut runner = Runner::new(seed);
@@ -138,7 +76,7 @@ fn disturb_runs(seeds: Range<u64>, damage: impl Fn(&mut Random, &Network) -> Wor
         for call in 0..CALLS {
             runner.call();
             if let Some(network) = runner.network() {
-                let (state, memory) = damage(&mut random, network);
+                let Lent { state, memory } = damage(network, &mut random);
                 let found = check(&state, &memory, &format!("seed {seed}, call {call}"));
                 tally.count(found, &state, &memory);
             }
@@ -149,21 +87,12 @@ fn disturb_runs(seeds: Range<u64>, damage: impl Fn(&mut Random, &Network) -> Wor
 
 #[test]
 fn states_of_runs_with_other_words() {
-    let tally = disturb_runs(0..RUNS, |random, network| {
-        let (mut state, mut memory) = layout::write(network, random);
-        disturb(random, &mut state, &mut memory);
-        (state, memory)
-    });
-    println!("{tally}");
+    println!("{}", disturb_runs(0..RUNS, other_words));
 }
 
 #[test]
 fn states_of_runs_with_other_things() {
-    let tally = disturb_runs(RUNS..2 * RUNS, |random, network| {
-        let mut network = network.clone();
-        things::disturb(random, &mut network);
-        layout::write(&network, random)
-    });
+    let tally = disturb_runs(RUNS..2 * RUNS, other_things);
     println!("{tally}");
     assert_eq!(tally.unreadable, 0);
     let failed = &tally.clauses[2..];

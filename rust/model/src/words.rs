@@ -160,6 +160,12 @@ impl<'a> Words<'a> {
         self.number("a link")
     }
 
+    /// A bit or a channel: a number of 32 bits, as settings are, which the model has as an index.
+    fn index_of_32_bits(&mut self, what: &str) -> Result<usize, String> {
+        let number: u32 = self.number(what)?;
+        Ok(number as usize)
+    }
+
     fn value(&mut self) -> Result<u32, String> {
         self.number("a value up to 4294967295")
     }
@@ -185,7 +191,7 @@ impl<'a> Words<'a> {
         match self.word(names)? {
             name @ ("number" | "width") => self.node_setting(name),
             "direction" => Ok(Setting::Direction {
-                bit: self.number("a bit")?,
+                bit: self.index_of_32_bits("a bit")?,
                 value: self.value()?,
             }),
             name @ ("linkdirection" | "network" | "enable" | "hello") => self.link_setting(name),
@@ -228,7 +234,7 @@ impl<'a> Words<'a> {
         let destination = match to {
             "channel" => Destination::Channel {
                 number,
-                channel: self.number("a channel")?,
+                channel: self.index_of_32_bits("a channel")?,
             },
             "control" => {
                 self.nought("the channel of a control unit")?;

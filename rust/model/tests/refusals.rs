@@ -687,12 +687,13 @@ fn step_no_such() {
 // All of them.
 
 /// Calls with places and values left open.
-const FORMS: [&str; 13] = [
+const FORMS: [&str; 14] = [
     "fresh A B",
     "wire A B C B",
     "set A number 0 C",
     "set A width 0 C",
-    "set A direction B C",
+    "set A direction C 3",
+    "set A direction 3 C",
     "set A linkdirection B C",
     "set A network B C",
     "set A enable B C",

@@ -225,7 +225,7 @@ fn no_network_yet() {
 
 /// Lines that are no call, and what was expected.
 #[rustfmt::skip]
-const UNREADABLE_CALLS: [(&str, &str); 20] = [
+const UNREADABLE_CALLS: [(&str, &str); 22] = [
     ("jump 0 0", "expected fresh, wire, set, aim, output, input or step, found jump"),
     ("step 0", "expected a port, found nothing"),
     ("step 0 0 0", "expected no more words, found 0"),
@@ -243,6 +243,8 @@ const UNREADABLE_CALLS: [(&str, &str); 20] = [
     ("set 0 number 1 0", "expected 0 as the index, found 1"),
     ("set 0 hello 1 1", "expected 0 as the value, found 1"),
     ("set 0 number 0 4294967296", "expected a value up to 4294967295, found 4294967296"),
+    ("set 0 direction 4294967296 0", "expected a bit, found 4294967296"),
+    ("aim 0 0 channel 0 4294967296 0", "expected a channel, found 4294967296"),
     ("aim 0 0 tile 0 0 0", "expected channel or control, found tile"),
     ("aim 0 0 control 0 1 0", "expected 0 as the channel of a control unit, found 1"),
     ("step 0 0 # 0000000000000000", "expected no more words, found #"),

@@ -32,7 +32,7 @@ impl Runner {
                 value: self.value_below_or_beyond(4),
             },
             _ => Setting::Direction {
-                bit: self.below_or_beyond(BITS),
+                bit: self.value_below_or_beyond(BITS as u32) as usize,
                 value: self.value_below_or_beyond(16),
             },
         }

@@ -33,7 +33,7 @@ impl Runner {
 
     pub(super) fn odd_aim(&mut self) -> Call {
         let number = self.value_below_or_beyond(0x1_0000);
-        let channels = [0, 31, 32, 254, 255, 256, usize::MAX];
+        let channels = [0, 31, 32, 254, 255, 256, u32::MAX as usize];
         let channel = self.random.pick(&channels).unwrap_or(0);
         let to_channel = self.random.chance(70);
         Call::Aim {

@@ -1,0 +1,119 @@
+//! The command `soak`: random comparison of the proved bench with the model, for hours.
+
+use std::path::PathBuf;
+use std::process::ExitCode;
+use std::time::{Duration, Instant, SystemTime, UNIX_EPOCH};
+
+use compare::reduce::report;
+use compare::soak::{fill, run, Figures, Found};
+
+const ABOUT: &str = "\
+soak: compares the proved bench with the model on random runs and damaged memories
+
+  soak [--seed N] [--minutes N] [--into FOLDER]
+
+Seeds are taken one after the other, from N or from the clock, until a difference is found or the
+minutes (60 if not given) have passed. A run that differs is made as short as it can be and written
+as a script, FOLDER/soak-SEED.txt (the folder at hand if none is given), with the model's answers
+stated. The same seed gives the same run.
+
+Exit status: 0 no difference, 1 a difference, 2 words that are not understood.
+";
+
+/// Calls of each random run, and of each run that fills buffers.
+const CALLS: usize = 400;
+const FILLING: usize = 800;
+
+/// How often it says how far it is.
+const EVERY: Duration = Duration::from_secs(10);
+
+struct Asked {
+    seed: u64,
+    time: Duration,
+    into: PathBuf,
+}
+
+fn main() -> ExitCode {
+    let words: Vec<String> = std::env::args().skip(1).collect();
+    match asked(&words) {
+        Some(asked) => soak(&asked),
+        None => {
+            let help = words == ["--help"] || words == ["-h"];
+            print!("{ABOUT}");
+            ExitCode::from(if help { 0 } else { 2 })
+        }
+    }
+}
+
+/// What the words ask for; none where they are not understood.
+fn asked(words: &[String]) -> Option<Asked> {
+    let mut asked = Asked {
+        seed: clock(),
+        time: Duration::from_secs(3600),
+        into: PathBuf::new(),
+    };
+    for pair in words.chunks(2) {
+        let [name, value] = pair else { return None };
+        match name.as_str() {
+            "--seed" => asked.seed = value.parse().ok()?,
+            "--minutes" => asked.time = Duration::from_secs(60 * value.parse::<u64>().ok()?),
+            "--into" => asked.into = PathBuf::from(value),
+            _ => return None,
+        }
+    }
+    Some(asked)
+}
+
+/// A seed that is not the last one's.
+fn clock() -> u64 {
+    let now = SystemTime::now().duration_since(UNIX_EPOCH);
+    now.map_or(0, |since| since.as_secs())
+}
+
+fn soak(asked: &Asked) -> ExitCode {
+    println!("from seed {}", asked.seed);
+    let (begun, mut said) = (Instant::now(), Instant::now());
+    let mut figures = Figures::default();
+    for seed in asked.seed.. {
+        match compare_with(seed) {
+            Ok(more) => figures += more,
+            Err(found) => return tell(asked, seed, found),
+        }
+        let over = begun.elapsed() >= asked.time;
+        if over || said.elapsed() >= EVERY {
+            said = Instant::now();
+            let seconds = begun.elapsed().as_secs();
+            println!("up to seed {seed}, {seconds} s: {figures}");
+        }
+        if over {
+            break;
+        }
+    }
+    println!("no difference");
+    ExitCode::SUCCESS
+}
+
+fn compare_with(seed: u64) -> Result<Figures, Found> {
+    let mut figures = run(model::apply, seed, CALLS)?;
+    figures += fill(model::apply, seed, FILLING)?;
+    Ok(figures)
+}
+
+/// Says what differs, and leaves a script of it where one can show it.
+fn tell(asked: &Asked, seed: u64, found: Found) -> ExitCode {
+    match found {
+        Found::Memory { behind, how } => {
+            println!("seed {seed}, a damaged memory behind {behind} calls: {how}");
+        }
+        Found::Run(differing) => {
+            println!("seed {seed}: {}", differing.how);
+            let text = report(model::apply, &format!("seed {seed}"), differing);
+            let path = asked.into.join(format!("soak-{seed}.txt"));
+            match std::fs::write(&path, &text) {
+                Ok(()) => println!("{text}written to {}", path.display()),
+                Err(error) => println!("{text}not written to {}: {error}", path.display()),
+            }
+        }
+    }
+    ExitCode::FAILURE
+}

@@ -1,0 +1,114 @@
+//! Calls made up at random, with arguments in and out of range.
+
+mod ends;
+
+pub use ends::any_token;
+
+use model::calls::Call;
+use model::network::{LinkEnd, Network, BITS, LINKS};
+use model::random::Random;
+use model::set::Setting;
+
+/// Any call but Step, often of a link or channel-end whose circuits make a difference.
+pub fn any(random: &mut Random, network: Option<&Network>) -> Call {
+    let nodes = network.map_or(3, |network| network.nodes.len());
+    match random.below(40) {
+        0 => Call::Fresh {
+            nodes: below_or_beyond(random, 17),
+            memory_words: 832 * random.below(18),
+        },
+        1..=2 => Call::Wire {
+            one: any_end(random, nodes),
+            other: any_end(random, nodes),
+        },
+        3..=14 => any_set(random, network, nodes),
+        _ => ends::any(random, network),
+    }
+}
+
+fn any_set(random: &mut Random, network: Option<&Network>, nodes: usize) -> Call {
+    let busy = network.map(busy_links).unwrap_or_default();
+    let LinkEnd { slot, link } = match random.pick(&busy) {
+        Some(end) if random.chance(50) => end,
+        _ => any_end(random, nodes),
+    };
+    let of_link = random.chance(70);
+    let setting = if of_link {
+        any_of_link(random, link)
+    } else {
+        any_of_node(random)
+    };
+    Call::Set { slot, setting }
+}
+
+/// The links that are in use, or whose port or far port holds a token.
+fn busy_links(network: &Network) -> Vec<LinkEnd> {
+    let holds = |end: LinkEnd| {
+        let port = network.port(end.slot, end.link);
+        port.is_ok_and(|port| port.is_taken())
+    };
+    let slots = 0..network.nodes.len();
+    let all = slots.flat_map(|slot| (0..LINKS).map(move |link| LinkEnd { slot, link }));
+    all.filter(|end| {
+        let link = &network.nodes[end.slot].links[end.link];
+        link.used_by.is_some() || holds(*end) || link.far.is_some_and(holds)
+    })
+    .collect()
+}
+
+fn any_end(random: &mut Random, nodes: usize) -> LinkEnd {
+    LinkEnd {
+        slot: below_or_beyond(random, nodes),
+        link: below_or_beyond(random, LINKS),
+    }
+}
+
+fn any_of_node(random: &mut Random) -> Setting {
+    match random.below(3) {
+        0 => Setting::Number {
+            value: value(random, 0x1_0000),
+        },
+        1 => Setting::Width {
+            value: value(random, 4),
+        },
+        _ => Setting::Direction {
+            bit: value(random, BITS as u32) as usize,
+            value: value(random, 16),
+        },
+    }
+}
+
+fn any_of_link(random: &mut Random, link: usize) -> Setting {
+    match random.below(6) {
+        0 => Setting::LinkDirection {
+            link,
+            value: value(random, 16),
+        },
+        1 => Setting::Network {
+            link,
+            value: value(random, 4),
+        },
+        2 | 3 => Setting::Enable {
+            link,
+            value: value(random, 2),
+        },
+        _ => Setting::Hello { link },
+    }
+}
+
+/// A number below the limit, and seldom one that is not.
+fn below_or_beyond(random: &mut Random, limit: usize) -> usize {
+    let beyond = [limit, limit + 1, 255, 65_536, usize::MAX];
+    match random.below(12) {
+        0 => random.pick(&beyond).unwrap_or(limit),
+        _ => random.below(limit),
+    }
+}
+
+fn value(random: &mut Random, limit: u32) -> u32 {
+    let beyond = [limit, limit + 1, 255, 65_536, u32::MAX];
+    match random.below(12) {
+        0 => random.pick(&beyond).unwrap_or(limit),
+        _ => random.value_below(limit),
+    }
+}

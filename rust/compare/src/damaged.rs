@@ -1,0 +1,108 @@
+//! Damaged memories, asked of both sides: the proved tests, looks and calls answer for any words,
+//! change none that they are not to, and agree with the model wherever the words are a state of it.
+
+use bench::sizes::{BITS, CHANNEL_ENDS, LINKS, PORTS};
+use bench::Looks;
+use model::calls::Call;
+use model::network::Network;
+use model::random::Random;
+use model::{Answer, No};
+
+use crate::calls::{compare, make, Lent};
+use crate::choice::any;
+use crate::damage::{disturb, things};
+use crate::reading;
+use crate::verdict::{verdict, Verdict};
+
+/// How many calls are made on each memory.
+pub const CALLS: usize = 3;
+
+/// A state of the model with one to three of its words changed.
+pub fn other_words(network: &Network, random: &mut Random) -> Lent {
+    let mut lent = Lent::of(Some(network), random);
+    disturb(random, &mut lent.state, &mut lent.memory);
+    lent
+}
+
+/// A state of the model with one to three things in it changed.
+pub fn other_things(network: &Network, random: &mut Random) -> Lent {
+    let mut network = network.clone();
+    things::disturb(random, &mut network);
+    Lent::of(Some(&network), random)
+}
+
+/// Asks both sides of a memory, makes every look at it, and [`CALLS`] calls on copies of it.
+pub fn check(lent: &Lent) -> Result<Verdict, String> {
+    let before = lent.clone();
+    let verdict = verdict(&lent.state, &lent.memory)?;
+    look_everywhere(Looks::over(&lent.state, &lent.memory))?;
+    if *lent != before {
+        return Err("a look has changed a word".to_owned());
+    }
+    let read = reading::read(&lent.state, &lent.memory).ok();
+    let mut random = Random::new(sum(&lent.state));
+    for _ in 0..CALLS {
+        let call = any(&mut random, read.as_ref());
+        call_on(verdict, read.clone(), lent.clone(), &call)?;
+    }
+    Ok(verdict)
+}
+
+/// A seed, so that the same words meet the same calls.
+fn sum(words: &[u32]) -> u64 {
+    let mix = |sum: u64, word: &u32| sum.wrapping_mul(31) ^ u64::from(*word);
+    words.iter().fold(0, mix)
+}
+
+/// Makes a call on a damaged memory. An unsound one is refused as that and left as it is; what is
+/// sound is a state of the model, which must answer the same.
+fn call_on(
+    verdict: Verdict,
+    mut network: Option<Network>,
+    mut lent: Lent,
+    call: &Call,
+) -> Result<(), String> {
+    if verdict == Verdict::Sound || matches!(call, Call::Fresh { .. }) {
+        return compare(model::apply, &mut network, &mut lent, call).map(|_| ());
+    }
+    let before = lent.clone();
+    match make(&mut lent, call) {
+        Some(Answer::No(No::Unsound)) if lent == before => Ok(()),
+        Some(Answer::No(No::Unsound)) => Err(format!("{call}: refused, and a word has changed")),
+        found => Err(format!("{call} on an unsound memory: {found:?}")),
+    }
+}
+
+/// Makes every look at every place of the nodes, and at one place beyond in each direction.
+fn look_everywhere(looks: Looks) -> Result<(), String> {
+    let beyond = [looks.nodes(), usize::MAX];
+    for slot in (0..looks.nodes()).chain(beyond) {
+        if !look_at_node(looks, slot) {
+            return Err(format!("a look at slot {slot} shows too much"));
+        }
+    }
+    looks.digest();
+    looks.is_tight();
+    looks.is_quiet();
+    Ok(())
+}
+
+/// Makes every look at a node. False where one shows an entry or a number of tokens that cannot be.
+fn look_at_node(looks: Looks, slot: usize) -> bool {
+    looks.node(slot);
+    looks.control_unit(slot);
+    for link in 0..=LINKS {
+        looks.link(slot, link);
+        looks.tile_link(slot, link);
+    }
+    let entries = (0..=BITS).all(|bit| looks.direction(slot, bit) < 16);
+    let ports = (0..=PORTS).all(|port| {
+        looks.port(slot, port);
+        looks.port_tokens(slot, port).count() <= 64
+    });
+    let ends = (0..=CHANNEL_ENDS).all(|end| {
+        looks.channel_end(slot, end);
+        looks.end_tokens(slot, end).count() <= 8
+    });
+    entries && ports && ends
+}

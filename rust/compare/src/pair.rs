@@ -1,0 +1,83 @@
+//! Both sides of one run, call after call on the same words.
+
+use model::calls::Call;
+use model::digest::digest;
+use model::network::Network;
+use model::random::Random;
+use model::script::Outcome;
+
+use crate::calls::{compare, Apply, Lent};
+
+/// The model's state and the library's words, which say the same.
+pub struct Pair {
+    apply: Apply,
+    network: Option<Network>,
+    lent: Lent,
+    random: Random,
+}
+
+impl Pair {
+    /// Both sides before the first call. The model may be one that is wrong on purpose.
+    pub fn new(apply: Apply) -> Pair {
+        Pair::at(apply, None, Random::new(0))
+    }
+
+    /// Both sides at a state of the model.
+    pub fn at(apply: Apply, network: Option<&Network>, mut random: Random) -> Pair {
+        Pair {
+            apply,
+            network: network.cloned(),
+            lent: Lent::of(network, &mut random),
+            random,
+        }
+    }
+
+    /// The state that both sides are at.
+    pub fn network(&self) -> Option<&Network> {
+        self.network.as_ref()
+    }
+
+    /// Makes a call on both sides and says how they differ behind it. False where the library has
+    /// no such call: the model makes it alone, and the words are written anew from its state.
+    pub fn call(&mut self, call: &Call) -> Result<bool, String> {
+        let compared = compare(self.apply, &mut self.network, &mut self.lent, call)?;
+        if !compared {
+            (self.apply)(&mut self.network, call);
+            self.lent = Lent::of(self.network.as_ref(), &mut self.random);
+        }
+        Ok(compared)
+    }
+}
+
+/// A run in whose last call the two sides differ.
+#[derive(Clone, Debug, PartialEq, Eq)]
+pub struct Differing {
+    pub calls: Vec<Call>,
+    pub how: String,
+}
+
+/// Makes calls from nothing. Gives the run up to the first call in which the sides differ, if they
+/// do.
+pub fn differing(apply: Apply, calls: &[Call]) -> Option<Differing> {
+    let mut pair = Pair::new(apply);
+    for (place, call) in calls.iter().enumerate() {
+        if let Err(how) = pair.call(call) {
+            let calls = calls[..=place].to_vec();
+            return Some(Differing { calls, how });
+        }
+    }
+    None
+}
+
+/// What the model says of a run, as a script that states it: `bench check` names the call in which
+/// the library differs.
+pub fn script(apply: Apply, calls: &[Call]) -> String {
+    let mut network = None;
+    let mut written = String::new();
+    for call in calls {
+        let answer = apply(&mut network, call);
+        let digest = digest(network.as_ref());
+        written += &format!("{call} -> {}\n", Outcome { answer, digest });
+    }
+    written
+}

@@ -1,0 +1,113 @@
+//! A run in which the two sides differ, made as short as it can be.
+
+use std::collections::BTreeSet;
+
+use model::calls::Call;
+use model::network::{memory_words, MOST_NODES};
+use model::words::parse_call;
+
+use crate::calls::Apply;
+use crate::pair::{differing, script, Differing};
+
+/// The run with no call that can be left out, no number that may as well be 0 and no node too many,
+/// and with nothing behind the call in which the sides differ.
+pub fn reduce(apply: Apply, found: Differing) -> Differing {
+    let mut shortest = leave_all_out(apply, found);
+    while let Some(plainer) = plainer(apply, &shortest.calls) {
+        shortest = leave_all_out(apply, plainer);
+    }
+    shortest
+}
+
+/// Leaves calls out as long as the sides still differ somewhere: large parts first, then single
+/// calls, until none can be left out.
+fn leave_all_out(apply: Apply, found: Differing) -> Differing {
+    let mut shortest = found;
+    let mut part = shortest.calls.len() / 2;
+    while part > 0 {
+        match leave_out(apply, &shortest.calls, part) {
+            Some(shorter) => shortest = shorter,
+            None => part /= 2,
+        }
+        part = part.min(shortest.calls.len());
+    }
+    shortest
+}
+
+/// The run without one part of so many calls, the first such part from the end that is not needed.
+fn leave_out(apply: Apply, calls: &[Call], part: usize) -> Option<Differing> {
+    let starts = (0..=calls.len() - part).rev().step_by(part);
+    let mut shorter = starts.map(|start| {
+        let kept = calls[..start].iter().chain(&calls[start + part..]);
+        kept.copied().collect::<Vec<_>>()
+    });
+    shorter.find_map(|kept| differing(apply, &kept))
+}
+
+/// The run with fewer nodes, or with some number 0 in all calls or in one, if the sides still
+/// differ.
+fn plainer(apply: Apply, calls: &[Call]) -> Option<Differing> {
+    let everywhere = numbers(calls).into_iter().map(|number| {
+        let plainer = calls.iter().map(|call| with_nought(call, &number));
+        plainer.collect::<Vec<_>>()
+    });
+    let in_one = (0..calls.len()).flat_map(|place| {
+        let mut numbers = numbers(&calls[place..=place]).into_iter();
+        let mut plainer = fewer_nodes(&calls[place]);
+        plainer.extend(numbers.by_ref().map(|n| with_nought(&calls[place], &n)));
+        plainer.into_iter().map(move |call| {
+            let mut tried = calls.to_vec();
+            tried[place] = call;
+            tried
+        })
+    });
+    let mut tried = everywhere.chain(in_one).filter(|tried| tried != calls);
+    tried.find_map(|tried| differing(apply, &tried))
+}
+
+/// The numbers other than 0 that calls are written with, each once.
+fn numbers(calls: &[Call]) -> BTreeSet<String> {
+    let texts: Vec<String> = calls.iter().map(Call::to_string).collect();
+    let words = texts.iter().flat_map(|text| text.split(' '));
+    let numbers = words.filter(|word| word.parse::<u64>().is_ok_and(|number| number > 0));
+    numbers.map(str::to_owned).collect()
+}
+
+/// A call with 0 wherever it has that number; a Fresh is left as it is.
+fn with_nought(call: &Call, number: &str) -> Call {
+    let text = call.to_string();
+    let nought = |word| if word == number { "0" } else { word };
+    let words: Vec<&str> = text.split(' ').map(nought).collect();
+    match call {
+        Call::Fresh { .. } => *call,
+        _ => parse_call(&words.join(" ")).unwrap_or(*call),
+    }
+}
+
+/// A Fresh of fewer nodes, the fewest first.
+fn fewer_nodes(call: &Call) -> Vec<Call> {
+    match *call {
+        Call::Fresh { nodes, .. } => (1..nodes.min(MOST_NODES + 1)).filter_map(fresh).collect(),
+        _ => Vec::new(),
+    }
+}
+
+fn fresh(nodes: usize) -> Option<Call> {
+    let memory_words = memory_words(nodes)?;
+    Some(Call::Fresh {
+        nodes,
+        memory_words,
+    })
+}
+
+/// The reduced run in the script format: what differs, and the model's side stated.
+pub fn report(apply: Apply, from: &str, found: Differing) -> String {
+    let calls = found.calls.len();
+    let shortest = reduce(apply, found);
+    let how = &shortest.how;
+    let stated = script(apply, &shortest.calls);
+    format!(
+        "// {from}: {calls} calls, reduced to {}\n// {how}\n{stated}",
+        shortest.calls.len()
+    )
+}

@@ -1,0 +1,130 @@
+//! Random comparison of both sides, a run at a time: in the gate for seconds, as the command `soak`
+//! for hours.
+
+use std::fmt;
+use std::ops::AddAssign;
+
+use model::calls::Call;
+use model::random::Random;
+use model::runs::Runner;
+
+use crate::calls::Apply;
+use crate::choice::any;
+use crate::damaged;
+use crate::filling;
+use crate::pair::{differing, Differing, Pair};
+
+/// From each state of a run so many calls are made in a row, aside from the run.
+const ASIDE: usize = 4;
+
+/// What was compared.
+#[derive(Clone, Copy, Debug, Default, PartialEq, Eq)]
+pub struct Figures {
+    pub runs: usize,
+    /// Calls of runs that both sides made, and those that the model made alone.
+    pub calls: usize,
+    pub alone: usize,
+    /// Calls made aside from a run.
+    pub aside: usize,
+    /// Memories that were damaged.
+    pub damaged: usize,
+}
+
+impl AddAssign for Figures {
+    fn add_assign(&mut self, more: Figures) {
+        self.runs += more.runs;
+        self.calls += more.calls;
+        self.alone += more.alone;
+        self.aside += more.aside;
+        self.damaged += more.damaged;
+    }
+}
+
+impl fmt::Display for Figures {
+    fn fmt(&self, f: &mut fmt::Formatter<'_>) -> fmt::Result {
+        let compared = self.calls + self.aside + damaged::CALLS * self.damaged;
+        write!(f, "{} runs, {compared} calls compared ", self.runs)?;
+        write!(f, "({} of runs, {} aside, ", self.calls, self.aside)?;
+        write!(f, "the rest on {} damaged memories), ", self.damaged)?;
+        write!(f, "{} calls made by the model alone", self.alone)
+    }
+}
+
+/// What was found to differ.
+#[derive(Clone, Debug, PartialEq, Eq)]
+pub enum Found {
+    /// A run, which a script can show.
+    Run(Differing),
+    /// A memory, which no script leads to.
+    Memory { behind: usize, how: String },
+}
+
+/// A random run of that many calls, with calls aside from each of its states and damage to each.
+pub fn run(apply: Apply, seed: u64, count: usize) -> Result<Figures, Found> {
+    let mut runner = Runner::new(seed);
+    let mut random = Random::new(seed ^ 0xCA11);
+    let mut pair = Pair::at(apply, None, Random::new(seed ^ 0x4EAD));
+    let mut made = Vec::new();
+    let mut figures = Figures {
+        runs: 1,
+        ..Figures::default()
+    };
+    for _ in 0..count {
+        figures.aside += aside(apply, &pair, &made, &mut random)?;
+        figures.damaged += damage(&pair, made.len(), &mut random)?;
+        let (call, _) = runner.call();
+        made.push(call);
+        match pair.call(&call) {
+            Ok(true) => figures.calls += 1,
+            Ok(false) => figures.alone += 1,
+            Err(how) => return Err(found(apply, made, how)),
+        }
+    }
+    Ok(figures)
+}
+
+/// A few calls from the state of a run on; says how many.
+fn aside(apply: Apply, pair: &Pair, made: &[Call], random: &mut Random) -> Result<usize, Found> {
+    let mut pair = Pair::at(apply, pair.network(), random.clone());
+    let mut more = Vec::new();
+    for _ in 0..ASIDE {
+        let call = any(random, pair.network());
+        more.push(call);
+        pair.call(&call)
+            .map_err(|how| found(apply, [made, &more].concat(), how))?;
+    }
+    Ok(ASIDE)
+}
+
+/// The state of a run, damaged by words or by things; says how many memories were asked of.
+fn damage(pair: &Pair, behind: usize, random: &mut Random) -> Result<usize, Found> {
+    let Some(network) = pair.network() else {
+        return Ok(0);
+    };
+    let lent = match random.chance(50) {
+        true => damaged::other_words(network, random),
+        false => damaged::other_things(network, random),
+    };
+    let checked = damaged::check(&lent);
+    checked.map_err(|how| Found::Memory { behind, how })?;
+    Ok(1)
+}
+
+/// A run without a Step that fills ports and channel-ends.
+pub fn fill(apply: Apply, seed: u64, count: usize) -> Result<Figures, Found> {
+    let calls = filling::calls(seed, count);
+    match differing(apply, &calls) {
+        Some(differing) => Err(Found::Run(differing)),
+        None => Ok(Figures {
+            runs: 1,
+            calls: calls.len(),
+            ..Figures::default()
+        }),
+    }
+}
+
+/// The run that differs, made once more from nothing, as a script would make it.
+fn found(apply: Apply, calls: Vec<Call>, how: String) -> Found {
+    let again = differing(apply, &calls);
+    Found::Run(again.unwrap_or(Differing { calls, how }))
+}

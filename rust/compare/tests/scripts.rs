@@ -1,0 +1,154 @@
+//! The same script on both sides, as text: the product has a reader of its own, and so has the
+//! model. What they print is the same, and a line that one does not take the other does not take.
+
+use compare::filling;
+use model::random::Random;
+use model::{runs, Call};
+
+/// What the command prints for a script.
+fn run_library(text: &str) -> Result<String, script::Fault> {
+    let mut printed = String::new();
+    script::run(text, |made| {
+        printed += &format!("{made}\n");
+        Ok(())
+    })?;
+    Ok(printed)
+}
+
+fn as_script(calls: &[Call]) -> String {
+    calls.iter().map(|call| format!("{call}\n")).collect()
+}
+
+/// The calls of a random run, but for those that the library has not.
+fn without_steps(seed: u64) -> Vec<Call> {
+    let calls = runs::calls(seed, 400).into_iter();
+    calls
+        .filter(|call| !matches!(call, Call::Step { .. }))
+        .collect()
+}
+
+fn same_text(calls: &[Call]) -> usize {
+    let text = as_script(calls);
+    let library = run_library(&text).unwrap_or_else(|fault| panic!("{fault}"));
+    let model = model::script::run(&text).unwrap_or_else(|fault| panic!("{fault}"));
+    for (one, other) in library.lines().zip(model.lines()) {
+        assert_eq!(one, other);
+    }
+    assert_eq!(library, model);
+    assert_eq!(script::check(&model, |_| Ok(())).unwrap(), calls.len());
+    assert_eq!(model::script::check(&library), Ok(calls.len()));
+    calls.len()
+}
+
+#[test]
+fn the_same_text_from_both_sides() {
+    let random: usize = (0..60).map(|seed| same_text(&without_steps(seed))).sum();
+    let filling: usize = (0..20)
+        .map(|seed| same_text(&filling::calls(seed, 600)))
+        .sum();
+    println!("{} lines", random + filling);
+}
+
+/// The scripts that stand beside the command state what the model says too.
+#[test]
+fn the_model_agrees_with_the_scripts_beside_the_command() {
+    let folder = concat!(env!("CARGO_MANIFEST_DIR"), "/../script/scripts");
+    for entry in std::fs::read_dir(folder).expect("the folder scripts") {
+        let path = entry.expect("a file").path();
+        let text = std::fs::read_to_string(&path).expect("a script");
+        let agree = model::script::check(&text);
+        assert!(agree.is_ok_and(|calls| calls > 10), "{}", path.display());
+    }
+}
+
+/// Words to be put into lines.
+#[rustfmt::skip]
+const NAMES: [&str; 29] = [
+    "fresh", "wire", "set", "aim", "output", "input", "step", "number", "width", "direction",
+    "linkdirection", "network", "enable", "hello", "channel", "control", "data", "tile", "->", "#",
+    "no", "done", "granted", "token", "opened", "link", "refused", "split", "//",
+];
+
+/// Numbers at the edges, and what is nearly a number.
+#[rustfmt::skip]
+const NUMBERS: [&str; 17] = [
+    "0", "1", "3", "8", "13", "0012", "255", "256", "0xFF", "0xff", "0X1", "0x", "-1", "+1",
+    "4294967295", "4294967296", "18446744073709551616",
+];
+
+/// A line with one or two of its words changed, left out or added; mostly a number for a number.
+fn damaged(random: &mut Random, line: &str) -> String {
+    let mut words: Vec<&str> = line.split(' ').collect();
+    for _ in 0..1 + random.below(2) {
+        let place = random.below(words.len());
+        let name = random.pick(&NAMES).unwrap_or("0");
+        let number = random.pick(&NUMBERS).unwrap_or("0");
+        let was_number = words[place].parse::<u64>().is_ok();
+        match random.below(12) {
+            0 if words.len() > 1 => drop(words.remove(place)),
+            1 => words.insert(place, name),
+            2 => words.insert(place, number),
+            3 => words[place] = name,
+            _ if was_number => words[place] = number,
+            _ => {}
+        }
+    }
+    words.join(if random.chance(90) { " " } else { "\t  " })
+}
+
+/// What the library's side reads a line as, written again; none where it is no call.
+fn read_by_library(line: &str) -> Option<String> {
+    let lines = script::parse(line).ok()?;
+    let written = lines.iter().map(|line| match line.stated {
+        Some(stated) => format!("{} -> {stated}", line.call),
+        None => line.call.to_string(),
+    });
+    Some(written.collect())
+}
+
+fn read_by_model(line: &str) -> Option<String> {
+    let lines = model::script::parse(line).ok()?;
+    let written = lines.iter().map(|line| match line.stated {
+        Some(stated) => format!("{} -> {stated}", line.call),
+        None => line.call.to_string(),
+    });
+    Some(written.collect())
+}
+
+#[test]
+fn both_take_the_same_lines_and_no_others() {
+    let (mut taken, mut not_taken) = (0, 0);
+    for seed in 0..60 {
+        let mut random = Random::new(seed ^ 0x11E5);
+        for (call, found) in runs::run(seed, 400) {
+            let line = damaged(&mut random, &format!("{call} -> {found}"));
+            let read = read_by_library(&line);
+            assert_eq!(read, read_by_model(&line), "{line}");
+            match read {
+                Some(_) => taken += 1,
+                None => not_taken += 1,
+            }
+        }
+    }
+    println!("{taken} lines taken, {not_taken} not");
+    assert!(taken > 1000 && not_taken > 1000);
+}
+
+/// Both name the same line as the first that is none.
+#[test]
+fn both_name_the_same_line() {
+    let mut random = Random::new(7);
+    for seed in 0..200 {
+        let calls = without_steps(seed % 20);
+        let mut lines: Vec<String> = calls.iter().take(40).map(Call::to_string).collect();
+        let place = random.below(lines.len());
+        lines[place] = damaged(&mut random, &lines[place]);
+        let text = lines.join("\n");
+        let library = script::parse(&text).map_err(|(line, _)| line);
+        let model = model::script::parse(&text).map_err(|fault| match fault {
+            model::script::Fault::Unreadable { line, .. } => line,
+            other => panic!("{other}"),
+        });
+        assert_eq!(library.err(), model.err(), "{text}");
+    }
+}

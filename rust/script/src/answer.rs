@@ -1,0 +1,69 @@
+//! What a script may state as an answer.
+
+use std::fmt;
+
+use bench::{Cause, Refusal};
+
+/// What a Step opened a circuit to.
+#[derive(Clone, Copy, Debug, PartialEq, Eq)]
+pub enum Opening {
+    Link(usize),
+    Channel,
+    Control,
+}
+
+/// Every answer that the format has words for, those of calls that are not built yet too.
+#[derive(Clone, Copy, Debug, PartialEq, Eq)]
+pub enum Answer {
+    No(Refusal),
+    Done,
+    Granted(u32),
+    Token(u8),
+    Idle,
+    Waiting,
+    Moved,
+    Opened(Opening),
+    Refused(Cause),
+    Dropped(Cause),
+    Malformed,
+    Unheard,
+}
+
+impl From<bench::Answer> for Answer {
+    fn from(answer: bench::Answer) -> Answer {
+        match answer {
+            bench::Answer::No(refusal) => Answer::No(refusal),
+            bench::Answer::Done => Answer::Done,
+            bench::Answer::Granted(credit) => Answer::Granted(credit),
+            bench::Answer::Token(value) => Answer::Token(value),
+        }
+    }
+}
+
+fn cause_word(cause: Cause) -> &'static str {
+    match cause {
+        Cause::Split => "split",
+        Cause::NoRoute => "noroute",
+    }
+}
+
+impl fmt::Display for Answer {
+    fn fmt(&self, f: &mut fmt::Formatter<'_>) -> fmt::Result {
+        match *self {
+            Answer::No(refusal) => write!(f, "no {}", refusal.number()),
+            Answer::Done => f.write_str("done"),
+            Answer::Granted(credit) => write!(f, "granted {credit}"),
+            Answer::Token(value) => write!(f, "token {value}"),
+            Answer::Idle => f.write_str("idle"),
+            Answer::Waiting => f.write_str("waiting"),
+            Answer::Moved => f.write_str("moved"),
+            Answer::Opened(Opening::Link(link)) => write!(f, "opened link {link}"),
+            Answer::Opened(Opening::Channel) => f.write_str("opened channel"),
+            Answer::Opened(Opening::Control) => f.write_str("opened control"),
+            Answer::Refused(cause) => write!(f, "refused {}", cause_word(cause)),
+            Answer::Dropped(cause) => write!(f, "dropped {}", cause_word(cause)),
+            Answer::Malformed => f.write_str("malformed"),
+            Answer::Unheard => f.write_str("unheard"),
+        }
+    }
+}

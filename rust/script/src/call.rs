@@ -1,0 +1,133 @@
+//! Calls with their arguments, and how they are written.
+
+use std::fmt;
+
+use bench::{Destination, Kind, LinkEnd, Setting};
+
+/// A call with its arguments, which may be out of range: that is what refusals are for.
+#[derive(Clone, Copy, Debug, PartialEq, Eq)]
+pub enum Call {
+    Fresh {
+        nodes: usize,
+        memory_words: usize,
+    },
+    Wire {
+        one: LinkEnd,
+        other: LinkEnd,
+    },
+    Set {
+        slot: usize,
+        setting: Setting,
+    },
+    /// Written as the setting `hello`.
+    Hello {
+        slot: usize,
+        link: usize,
+    },
+    Aim {
+        slot: usize,
+        channel_end: usize,
+        destination: Destination,
+        network: u32,
+    },
+    Output {
+        slot: usize,
+        channel_end: usize,
+        kind: Kind,
+        value: u8,
+    },
+    Input {
+        slot: usize,
+        channel_end: usize,
+        kind: Kind,
+    },
+    Step {
+        slot: usize,
+        port: usize,
+    },
+}
+
+/// The calls as a line has them, by their first word.
+pub const FORMS: [(&str, &str); 7] = [
+    ("fresh", "fresh NODES MEMORY_WORDS"),
+    ("wire", "wire SLOT LINK SLOT LINK"),
+    ("set", "set SLOT SETTING INDEX VALUE"),
+    (
+        "aim",
+        "aim SLOT CHANNELEND channel NUMBER CHANNEL NETWORK, or aim SLOT CHANNELEND control NUMBER 0 NETWORK",
+    ),
+    ("output", "output SLOT CHANNELEND data VALUE, or output SLOT CHANNELEND control VALUE"),
+    ("input", "input SLOT CHANNELEND data, or input SLOT CHANNELEND control"),
+    ("step", "step SLOT PORT"),
+];
+
+/// The word for a kind of token.
+fn kind_word(kind: Kind) -> &'static str {
+    match kind {
+        Kind::Data => "data",
+        Kind::Control => "control",
+    }
+}
+
+/// `SETTING INDEX VALUE`.
+fn write_setting(f: &mut fmt::Formatter<'_>, setting: Setting) -> fmt::Result {
+    let (name, index, value) = match setting {
+        Setting::Number(value) => ("number", 0, value),
+        Setting::Width(value) => ("width", 0, value),
+        Setting::Direction { bit, value } => ("direction", bit as usize, value),
+        Setting::LinkDirection { link, value } => ("linkdirection", link, value),
+        Setting::Network { link, value } => ("network", link, value),
+        Setting::Enable { link, value } => ("enable", link, value),
+    };
+    write!(f, "{name} {index} {value}")
+}
+
+/// `channel NUMBER CHANNEL` or `control NUMBER 0`.
+fn write_destination(f: &mut fmt::Formatter<'_>, destination: Destination) -> fmt::Result {
+    match destination {
+        Destination::Channel { number, channel } => write!(f, "channel {number} {channel}"),
+        Destination::Control { number } => write!(f, "control {number} 0"),
+    }
+}
+
+impl fmt::Display for Call {
+    fn fmt(&self, f: &mut fmt::Formatter<'_>) -> fmt::Result {
+        match *self {
+            Call::Fresh {
+                nodes,
+                memory_words,
+            } => write!(f, "fresh {nodes} {memory_words}"),
+            Call::Wire { one, other } => {
+                let (near, far) = ((one.slot, one.link), (other.slot, other.link));
+                write!(f, "wire {} {} {} {}", near.0, near.1, far.0, far.1)
+            }
+            Call::Set { slot, setting } => {
+                write!(f, "set {slot} ")?;
+                write_setting(f, setting)
+            }
+            Call::Hello { slot, link } => write!(f, "set {slot} hello {link} 0"),
+            Call::Aim {
+                slot,
+                channel_end,
+                destination,
+                network,
+            } => {
+                write!(f, "aim {slot} {channel_end} ")?;
+                write_destination(f, destination)?;
+                write!(f, " {network}")
+            }
+            Call::Output {
+                slot,
+                channel_end,
+                kind,
+                value,
+            } => write!(f, "output {slot} {channel_end} {} {value}", kind_word(kind)),
+            Call::Input {
+                slot,
+                channel_end,
+                kind,
+            } => write!(f, "input {slot} {channel_end} {}", kind_word(kind)),
+            Call::Step { slot, port } => write!(f, "step {slot} {port}"),
+        }
+    }
+}

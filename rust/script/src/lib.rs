@@ -1,0 +1,28 @@
+//! The script and trace format: runs of calls as plain text, made on the proved bench.
+//!
+//! One call a line, `CALL`, or with what came of it, `CALL -> ANSWER # DIGEST`. Empty lines and
+//! lines that begin with `//` are passed over. Numbers are decimal, or hexadecimal with `0x`.
+//! [`FORMS`] lists the calls. The command `bench` runs and checks scripts; this is what it is made
+//! of.
+//!
+//! ```
+//! let mut lines = Vec::new();
+//! let script = "// two boards, one cable\nfresh 2 1664\nwire 0 0 1 0\nwire 0 0 1 0\n";
+//! script::run(script, |made| Ok(lines.push(made.to_string()))).unwrap();
+//! assert_eq!(lines[1], "wire 0 0 1 0 -> done # a327495a29021b84");
+//! assert!(lines[2].starts_with("wire 0 0 1 0 -> no 4 # "));
+//! assert_eq!(script::check(&lines.join("\n"), |_| Ok(())).unwrap(), 3);
+//! ```
+
+mod answer;
+mod call;
+mod parse;
+mod play;
+mod session;
+mod words;
+
+pub use answer::{Answer, Opening};
+pub use call::{Call, FORMS};
+pub use parse::{parse, Line};
+pub use play::{check, run, Fault};
+pub use session::{Made, NotBuilt, Outcome, Session};

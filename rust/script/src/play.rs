@@ -1,0 +1,106 @@
+//! A script, run or checked.
+
+use std::fmt;
+use std::io;
+
+use crate::call::Call;
+use crate::parse::{parse, Line};
+use crate::session::{Made, NotBuilt, Outcome, Session};
+use crate::words::Expected;
+
+/// Why a script was not run to its end.
+#[derive(Debug)]
+pub enum Fault {
+    /// A line that is no call, or names a value that no call can take.
+    BadLine { line: usize, expected: Expected },
+    /// A call that the proved library has not yet.
+    NotBuilt { line: usize, call: Call },
+    /// A line that states another outcome than the one found.
+    Differs {
+        line: usize,
+        call: Call,
+        stated: Outcome,
+        found: Outcome,
+    },
+    /// Whoever is told of the calls could not take it.
+    Untold(io::Error),
+}
+
+impl Fault {
+    /// The exit status that the command ends with.
+    pub fn exit_status(&self) -> u8 {
+        match self {
+            Fault::Differs { .. } => 1,
+            _ => 2,
+        }
+    }
+}
+
+impl fmt::Display for Fault {
+    fn fmt(&self, f: &mut fmt::Formatter<'_>) -> fmt::Result {
+        match self {
+            Fault::BadLine { line, expected } => write!(f, "line {line}: {expected}"),
+            Fault::NotBuilt { line, call } => {
+                write!(f, "line {line}: {call}: this call is not built yet")
+            }
+            Fault::Differs {
+                line,
+                call,
+                stated,
+                found,
+            } => write!(f, "line {line}: {call} gives {found}, stated is {stated}"),
+            Fault::Untold(error) => write!(f, "cannot write what came of a call: {error}"),
+        }
+    }
+}
+
+impl std::error::Error for Fault {}
+
+/// Makes the calls of a script and tells of each as it is made. A bad line is found before any
+/// call is made.
+pub fn run(text: &str, mut tell: impl FnMut(&Made) -> io::Result<()>) -> Result<(), Fault> {
+    let mut session = Session::default();
+    for line in lines(text)? {
+        let made = make(&mut session, line)?;
+        tell(&made).map_err(Fault::Untold)?;
+    }
+    Ok(())
+}
+
+/// Makes the calls of a script and compares with what it states. Answers how many calls were
+/// compared, or the first that differs; a call whose line states nothing is made and not compared.
+pub fn check(text: &str, mut tell: impl FnMut(&Made) -> io::Result<()>) -> Result<usize, Fault> {
+    let mut session = Session::default();
+    let mut compared = 0;
+    for line in lines(text)? {
+        let made = make(&mut session, line)?;
+        tell(&made).map_err(Fault::Untold)?;
+        compare(line, &made)?;
+        compared += usize::from(line.stated.is_some());
+    }
+    Ok(compared)
+}
+
+fn lines(text: &str) -> Result<Vec<Line>, Fault> {
+    parse(text).map_err(|(line, expected)| Fault::BadLine { line, expected })
+}
+
+fn make(session: &mut Session, line: Line) -> Result<Made, Fault> {
+    let made = session.make(line.number, line.call);
+    made.map_err(|NotBuilt(call)| Fault::NotBuilt {
+        line: line.number,
+        call,
+    })
+}
+
+fn compare(line: Line, made: &Made) -> Result<(), Fault> {
+    match line.stated {
+        Some(stated) if stated != made.found => Err(Fault::Differs {
+            line: line.number,
+            call: line.call,
+            stated,
+            found: made.found,
+        }),
+        _ => Ok(()),
+    }
+}

@@ -1,0 +1,186 @@
+//! A network that the calls of a script are made on.
+
+use std::fmt;
+
+use bench::sizes::MOST_NODES;
+use bench::{raw, Clause, Destination, Kind, Looks, Refusal, Setting};
+
+use crate::answer::Answer;
+use crate::call::Call;
+
+/// What came of a call: its answer, and the digest of the state behind it.
+#[derive(Clone, Copy, Debug, PartialEq, Eq)]
+pub struct Outcome {
+    pub answer: Answer,
+    pub digest: u64,
+}
+
+impl fmt::Display for Outcome {
+    fn fmt(&self, f: &mut fmt::Formatter<'_>) -> fmt::Result {
+        write!(f, "{} # {:016x}", self.answer, self.digest)
+    }
+}
+
+/// A call that was made, written as `CALL -> ANSWER # DIGEST`.
+#[derive(Clone, Copy, Debug, PartialEq, Eq)]
+pub struct Made {
+    /// The line of the script that has the call.
+    pub line: usize,
+    pub call: Call,
+    pub found: Outcome,
+    /// Where the answer is Unsound: the clause that the memory fails first.
+    pub failing: Option<Clause>,
+}
+
+impl fmt::Display for Made {
+    fn fmt(&self, f: &mut fmt::Formatter<'_>) -> fmt::Result {
+        write!(f, "{} -> {}", self.call, self.found)
+    }
+}
+
+/// A call that document 01 has and the proved library has not yet.
+#[derive(Clone, Copy, Debug, PartialEq, Eq)]
+pub struct NotBuilt(pub Call);
+
+/// The two memories that a host lends.
+#[derive(Clone, Debug, Default)]
+struct Lent {
+    state: Vec<u32>,
+    memory: Vec<u16>,
+}
+
+impl Lent {
+    fn looks(&self) -> Looks<'_> {
+        Looks::over(&self.state, &self.memory)
+    }
+}
+
+/// A network under way: none before the first Fresh that succeeds, which is Unsound to every other
+/// call.
+#[derive(Clone, Debug, Default)]
+pub struct Session {
+    lent: Lent,
+}
+
+impl Session {
+    /// The state, to be looked at.
+    pub fn looks(&self) -> Looks<'_> {
+        self.lent.looks()
+    }
+
+    /// The digest of the state, "0 while there is no network".
+    pub fn digest(&self) -> u64 {
+        match self.looks().nodes() {
+            0 => 0,
+            _ => self.looks().digest(),
+        }
+    }
+
+    /// Makes a call.
+    pub fn make(&mut self, line: usize, call: Call) -> Result<Made, NotBuilt> {
+        let (answer, failing) = match call {
+            Call::Fresh {
+                nodes,
+                memory_words,
+            } => self.fresh(nodes, memory_words),
+            _ => {
+                let answer = made_on(&mut self.lent, call).ok_or(NotBuilt(call))?;
+                (answer, failing_clause(answer, &self.lent))
+            }
+        };
+        let answer = Answer::from(answer);
+        let digest = self.digest();
+        let found = Outcome { answer, digest };
+        Ok(Made {
+            line,
+            call,
+            found,
+            failing,
+        })
+    }
+
+    /// Fresh on two memories of its own: "a later Fresh that succeeds replaces the network".
+    fn fresh(&mut self, nodes: usize, memory_words: usize) -> (bench::Answer, Option<Clause>) {
+        let mut lent = lent_for(nodes, memory_words);
+        let answer = raw::fresh(&mut lent.state, &mut lent.memory, nodes);
+        let failing = failing_clause(answer, &lent);
+        if answer == bench::Answer::Done {
+            self.lent = lent;
+        }
+        (answer, failing)
+    }
+}
+
+/// Memories for so many nodes. Any length beyond that of 16 nodes is as wrong as one word beyond,
+/// and a count that is refused is refused at any length: no more is lent than can matter.
+fn lent_for(nodes: usize, memory_words: usize) -> Lent {
+    let most_words = MOST_NODES * raw::memory_words() + 1;
+    Lent {
+        state: vec![0; nodes.min(MOST_NODES) * raw::state_words()],
+        memory: vec![0; memory_words.min(most_words)],
+    }
+}
+
+/// What is wrong with a memory that was refused as Unsound.
+fn failing_clause(answer: bench::Answer, lent: &Lent) -> Option<Clause> {
+    match answer {
+        bench::Answer::No(Refusal::Unsound) => lent.looks().failing_clause(),
+        _ => None,
+    }
+}
+
+/// Makes any call but Fresh; none where the proved library has no such call.
+fn made_on(lent: &mut Lent, call: Call) -> Option<bench::Answer> {
+    let (state, memory) = (&mut lent.state, &mut lent.memory);
+    Some(match call {
+        Call::Wire { one, other } => {
+            raw::wire(state, memory, one.slot, one.link, other.slot, other.link)
+        }
+        Call::Set { slot, setting } => set(state, memory, slot, setting),
+        Call::Hello { slot, link } => raw::hello(state, memory, slot, link),
+        Call::Aim {
+            slot,
+            channel_end: end,
+            destination,
+            network,
+        } => match destination {
+            Destination::Channel { number, channel } => {
+                raw::aim_channel(state, memory, slot, end, number, channel, network)
+            }
+            Destination::Control { number } => {
+                raw::aim_unit(state, memory, slot, end, number, network)
+            }
+        },
+        Call::Output {
+            slot,
+            channel_end: end,
+            kind,
+            value,
+        } => match kind {
+            Kind::Data => raw::output_data(state, memory, slot, end, value),
+            Kind::Control => raw::output_control(state, memory, slot, end, value),
+        },
+        Call::Input {
+            slot,
+            channel_end: end,
+            kind,
+        } => match kind {
+            Kind::Data => raw::input_data(state, memory, slot, end),
+            Kind::Control => raw::input_control(state, memory, slot, end),
+        },
+        Call::Fresh { .. } | Call::Step { .. } => return None,
+    })
+}
+
+fn set(state: &mut [u32], memory: &[u16], slot: usize, setting: Setting) -> bench::Answer {
+    match setting {
+        Setting::Number(value) => raw::set_number(state, memory, slot, value),
+        Setting::Width(value) => raw::set_width(state, memory, slot, value),
+        Setting::Direction { bit, value } => raw::set_direction(state, memory, slot, bit, value),
+        Setting::LinkDirection { link, value } => {
+            raw::set_link_direction(state, memory, slot, link, value)
+        }
+        Setting::Network { link, value } => raw::set_network(state, memory, slot, link, value),
+        Setting::Enable { link, value } => raw::set_enable(state, memory, slot, link, value),
+    }
+}

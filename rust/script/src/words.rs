@@ -1,0 +1,76 @@
+//! The words of a line, read from left to right. An error says what was expected and what stands
+//! there.
+
+use std::str::SplitWhitespace;
+
+/// What was expected, and what was found instead.
+pub type Expected = String;
+
+/// Words that are still to be read.
+pub struct Words<'a>(SplitWhitespace<'a>);
+
+/// The complaint that another word was expected.
+pub fn expected(what: &str, found: Option<&str>) -> Expected {
+    format!("expected {what}, found {}", found.unwrap_or("nothing"))
+}
+
+/// "Numbers are decimal, or hexadecimal with `0x`". No sign, no more than 64 bits.
+fn number_of(word: &str) -> Option<u64> {
+    let (digits, radix) = match word.strip_prefix("0x") {
+        Some(digits) => (digits, 16),
+        None => (word, 10),
+    };
+    if !digits.chars().all(|digit| digit.is_digit(radix)) {
+        return None;
+    }
+    u64::from_str_radix(digits, radix).ok()
+}
+
+impl<'a> Words<'a> {
+    pub fn of(text: &'a str) -> Words<'a> {
+        Words(text.split_whitespace())
+    }
+
+    /// The next word.
+    pub fn word(&mut self, what: &str) -> Result<&'a str, Expected> {
+        self.0.next().ok_or_else(|| expected(what, None))
+    }
+
+    /// The next word, where it has a meaning.
+    pub fn meaning<T>(
+        &mut self,
+        what: &str,
+        of: impl FnOnce(&str) -> Option<T>,
+    ) -> Result<T, Expected> {
+        let word = self.word(what)?;
+        of(word).ok_or_else(|| expected(what, Some(word)))
+    }
+
+    /// A number that the call can take: one that fits the type of its argument.
+    pub fn number<T: TryFrom<u64>>(&mut self, what: &str) -> Result<T, Expected> {
+        self.meaning(what, |word| T::try_from(number_of(word)?).ok())
+    }
+
+    /// A number that stands for something.
+    pub fn number_for<T>(
+        &mut self,
+        what: &str,
+        of: impl FnOnce(u32) -> Option<T>,
+    ) -> Result<T, Expected> {
+        self.meaning(what, |word| of(u32::try_from(number_of(word)?).ok()?))
+    }
+
+    /// The 0 that stands where a call has nothing to say.
+    pub fn nought(&mut self, place: &str) -> Result<(), Expected> {
+        let nought = |number: u32| (number == 0).then_some(());
+        self.number_for(&format!("0 as {place}"), nought)
+    }
+
+    /// That there are no more words.
+    pub fn end(&mut self) -> Result<(), Expected> {
+        match self.0.next() {
+            None => Ok(()),
+            more => Err(expected("no more words", more)),
+        }
+    }
+}

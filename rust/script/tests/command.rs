@@ -1,0 +1,172 @@
+//! The command `bench`: what it prints, and its exit status.
+
+use std::path::{Path, PathBuf};
+use std::process::{Command, Output};
+
+fn bench(words: &[&str]) -> Output {
+    let program = env!("CARGO_BIN_EXE_bench");
+    let mut command = Command::new(program);
+    command.args(words).output().expect("an output")
+}
+
+/// A file with this text.
+fn file(name: &str, text: &str) -> String {
+    let path = PathBuf::from(env!("CARGO_TARGET_TMPDIR")).join(name);
+    std::fs::write(&path, text).expect("a file");
+    path.to_str().expect("a path").to_owned()
+}
+
+fn text(bytes: &[u8]) -> String {
+    String::from_utf8_lossy(bytes).into_owned()
+}
+
+/// The scripts that stand beside the command, each with what it states.
+fn scripts() -> Vec<PathBuf> {
+    let folder = Path::new(env!("CARGO_MANIFEST_DIR")).join("scripts");
+    let entries = std::fs::read_dir(folder).expect("the folder scripts");
+    let mut paths: Vec<_> = entries.map(|entry| entry.expect("a file").path()).collect();
+    paths.sort();
+    assert!(paths.len() >= 4);
+    paths
+}
+
+/// The lines that have a call.
+fn calls(text: &str) -> Vec<&str> {
+    let lines = text.lines().map(str::trim);
+    lines
+        .filter(|line| !line.is_empty() && !line.starts_with("//"))
+        .collect()
+}
+
+#[test]
+fn the_scripts_beside_it_agree() {
+    for path in scripts() {
+        let stated = std::fs::read_to_string(&path).expect("a script");
+        let output = bench(&["check", path.to_str().expect("a path")]);
+        let printed = text(&output.stdout) + &text(&output.stderr);
+        assert_eq!(output.status.code(), Some(0), "{printed}");
+        let agree = format!("{} calls agree\n", calls(&stated).len());
+        assert_eq!(text(&output.stdout), agree);
+    }
+}
+
+/// Every number for no is met in them, and every answer of a call that stands.
+#[test]
+fn the_scripts_beside_it_have_every_answer() {
+    let all = scripts().into_iter().map(std::fs::read_to_string);
+    let all: String = all.map(|text| text.expect("a script")).collect();
+    for number in 1..=12 {
+        assert!(all.contains(&format!("-> no {number} #")), "no {number}");
+    }
+    for answer in ["done", "granted 0", "granted 64", "token 77"] {
+        assert!(all.contains(&format!("-> {answer} #")), "{answer}");
+    }
+}
+
+/// What `run` prints is a script that `check` agrees with, and that runs to the same text.
+#[test]
+fn what_is_printed_is_a_script() {
+    for path in scripts() {
+        let first = bench(&["run", path.to_str().expect("a path")]);
+        assert!(first.status.success());
+        let name = path.file_name().and_then(|name| name.to_str());
+        let printed = file(name.expect("a name"), &text(&first.stdout));
+        assert!(bench(&["check", &printed]).status.success());
+        assert_eq!(bench(&["run", &printed]).stdout, first.stdout);
+    }
+}
+
+#[test]
+fn a_line_that_differs_is_named() {
+    let good = "fresh 1 832\n\n// a comment\nset 0 width 0 1 -> done # b0ab0d38d8ff1d36\n";
+    let path = file("digest.txt", good);
+    let output = bench(&["check", &path]);
+    assert_eq!(output.status.code(), Some(1));
+    let complaint = text(&output.stderr);
+    let expected = format!("{path}: line 4: set 0 width 0 1 gives done # ");
+    assert!(complaint.starts_with(&expected), "{complaint}");
+    assert!(
+        complaint.ends_with(", stated is done # b0ab0d38d8ff1d36\n"),
+        "{complaint}"
+    );
+    let path = file("answer.txt", &good.replace("done", "waiting"));
+    assert_eq!(bench(&["check", &path]).status.code(), Some(1));
+}
+
+/// A bad line stops the command before any call is made.
+#[test]
+fn a_bad_line_is_named() {
+    let cases = [
+        (
+            "output 0 0 data 256",
+            "expected a token value 0..255, found 256 (output SLOT",
+        ),
+        (
+            "jump 1",
+            "expected fresh, wire, set, aim, output, input or step, found jump",
+        ),
+        (
+            "wire 0 0 1",
+            "expected a link, found nothing (wire SLOT LINK SLOT LINK)",
+        ),
+        (
+            "input 0 0 text",
+            "expected data or control, found text (input SLOT",
+        ),
+        (
+            "fresh 1 832 -> done",
+            "expected ANSWER # DIGEST behind ->, found done",
+        ),
+    ];
+    for (line, expected) in cases {
+        let path = file("bad.txt", &format!("fresh 1 832\n\n{line}\n"));
+        for verb in ["run", "check"] {
+            let output = bench(&[verb, &path]);
+            assert_eq!(output.status.code(), Some(2), "{line}");
+            let complaint = text(&output.stderr);
+            let expected = format!("{path}: line 3: {expected}");
+            assert!(complaint.starts_with(&expected), "{complaint}");
+            assert!(output.stdout.is_empty());
+        }
+    }
+}
+
+#[test]
+fn a_call_that_is_not_built_yet_is_named() {
+    let path = file("step.txt", "fresh 1 832\nstep 0 0\n");
+    for verb in ["run", "check"] {
+        let output = bench(&[verb, &path]);
+        assert_eq!(output.status.code(), Some(2));
+        let complaint = text(&output.stderr);
+        let expected = format!("{path}: line 2: step 0 0: this call is not built yet\n");
+        assert_eq!(complaint, expected);
+    }
+}
+
+#[test]
+fn an_unsound_memory_is_explained() {
+    let path = file("unsound.txt", "fresh 1 831\nset 0 width 0 1\n");
+    let output = bench(&["run", &path]);
+    assert!(output.status.success());
+    let expected = "fresh 1 831 -> no 1 # 0000000000000000\n\
+                    set 0 width 0 1 -> no 1 # 0000000000000000\n";
+    assert_eq!(text(&output.stdout), expected);
+    let clause = "unsound memory, clause 1: both memories have the lengths of 1 to 16 nodes";
+    let expected = format!("{path}: line 1: {clause}\n{path}: line 2: {clause}\n");
+    assert_eq!(text(&output.stderr), expected);
+}
+
+#[test]
+fn other_words() {
+    for words in [&[][..], &["dance"], &["run"], &["run", "a", "b"]] {
+        let output = bench(words);
+        assert_eq!(output.status.code(), Some(2), "{words:?}");
+        assert!(text(&output.stderr).starts_with("usage: bench run FILE"));
+    }
+    let missing = bench(&["run", "no-such-file"]);
+    assert_eq!(missing.status.code(), Some(2));
+    assert!(text(&missing.stderr).starts_with("no-such-file: "));
+    let help = bench(&["--help"]);
+    assert!(help.status.success());
+    assert!(text(&help.stdout).contains("  wire SLOT LINK SLOT LINK\n"));
+}

@@ -1,0 +1,179 @@
+//! Scripts as text: what is read is written the same, and a line that is no call is not read.
+
+use bench::{Destination, Kind, LinkEnd, Refusal, Setting};
+use script::{parse, Answer, Call, Line, Outcome};
+
+#[track_caller]
+fn reads(text: &str, call: Call) {
+    let stated = None;
+    let line = Line {
+        number: 1,
+        call,
+        stated,
+    };
+    assert_eq!(parse(text), Ok(vec![line]));
+    assert_eq!(call.to_string(), text);
+}
+
+#[test]
+fn settings_in_words() {
+    let settings = [
+        ("number 0 65536", Setting::Number(65_536)),
+        ("width 0 2", Setting::Width(2)),
+        ("direction 16 9", Setting::Direction { bit: 16, value: 9 }),
+        (
+            "linkdirection 8 9",
+            Setting::LinkDirection { link: 8, value: 9 },
+        ),
+        ("network 7 3", Setting::Network { link: 7, value: 3 }),
+        ("enable 7 1", Setting::Enable { link: 7, value: 1 }),
+    ];
+    for (text, setting) in settings {
+        reads(&format!("set 4 {text}"), Call::Set { slot: 4, setting });
+    }
+    reads("set 4 hello 7 0", Call::Hello { slot: 4, link: 7 });
+}
+
+#[test]
+fn other_calls_in_words() {
+    let (slot, channel_end) = (3, 31);
+    let fresh = Call::Fresh {
+        nodes: 2,
+        memory_words: 1664,
+    };
+    reads("fresh 2 1664", fresh);
+    let wire = Call::Wire {
+        one: LinkEnd { slot: 0, link: 1 },
+        other: LinkEnd { slot: 2, link: 3 },
+    };
+    reads("wire 0 1 2 3", wire);
+    let aim = |destination| Call::Aim {
+        slot,
+        channel_end,
+        destination,
+        network: 2,
+    };
+    let (number, channel) = (293, 255);
+    reads(
+        "aim 3 31 channel 293 255 2",
+        aim(Destination::Channel { number, channel }),
+    );
+    reads(
+        "aim 3 31 control 293 0 2",
+        aim(Destination::Control { number }),
+    );
+    let (kind, value) = (Kind::Control, 255);
+    let output = Call::Output {
+        slot,
+        channel_end,
+        kind,
+        value,
+    };
+    reads("output 3 31 control 255", output);
+    let kind = Kind::Data;
+    let input = Call::Input {
+        slot,
+        channel_end,
+        kind,
+    };
+    reads("input 3 31 data", input);
+    reads("step 3 12", Call::Step { slot, port: 12 });
+}
+
+#[test]
+fn every_answer_in_words() {
+    let answers = [
+        "no 1",
+        "no 12",
+        "done",
+        "granted 0",
+        "granted 8",
+        "granted 16",
+        "granted 64",
+        "token 255",
+        "idle",
+        "waiting",
+        "moved",
+        "opened link 7",
+        "opened channel",
+        "opened control",
+        "refused split",
+        "refused noroute",
+        "dropped split",
+        "dropped noroute",
+        "malformed",
+        "unheard",
+    ];
+    for answer in answers {
+        let line = format!("step 0 0 -> {answer} # 00000000000000ff");
+        let lines = parse(&line).expect(&line);
+        let stated = lines[0].stated.expect("an outcome");
+        assert_eq!(format!("{} -> {stated}", lines[0].call), line);
+    }
+}
+
+#[test]
+fn lines_that_differ_in_spaces_and_digits_alone() {
+    let plain = parse("set 0 number 0 293 -> no 3 # 00000000000000ff");
+    let other = parse("  set\t0 number 0x0 0x125->no 0x3#  00000000000000FF \r\n");
+    assert_eq!(plain, other);
+    let answer = Answer::No(Refusal::Value);
+    let stated = Some(Outcome {
+        answer,
+        digest: 255,
+    });
+    assert_eq!(plain.map(|lines| lines[0].stated), Ok(stated));
+}
+
+#[test]
+fn lines_are_counted_through() {
+    let text = "// a board\n\nfresh 1 832\n   \n  // set\nset 0 width 0 1\n";
+    let lines = parse(text).expect("a script");
+    let numbers: Vec<_> = lines.iter().map(|line| line.number).collect();
+    assert_eq!(numbers, [3, 6]);
+}
+
+/// Lines that are no call, and what was expected.
+#[rustfmt::skip]
+const BAD_LINES: [(&str, &str); 30] = [
+    ("jump 0 0", "expected fresh, wire, set, aim, output, input or step, found jump"),
+    ("-> done # 0000000000000000", "expected fresh, wire, set, aim, output, input or step, found nothing"),
+    ("step 0", "expected a port, found nothing (step SLOT PORT)"),
+    ("step 0 0 0", "expected no more words, found 0 (step SLOT PORT)"),
+    ("step 0 x", "expected a port, found x (step SLOT PORT)"),
+    ("step -1 0", "expected a slot, found -1 (step SLOT PORT)"),
+    ("step +1 0", "expected a slot, found +1 (step SLOT PORT)"),
+    ("step 0x 0", "expected a slot, found 0x (step SLOT PORT)"),
+    ("step 0xg 0", "expected a slot, found 0xg (step SLOT PORT)"),
+    ("step 0X1 0", "expected a slot, found 0X1 (step SLOT PORT)"),
+    ("step 18446744073709551616 0", "expected a slot, found 18446744073709551616 (step SLOT PORT)"),
+    ("fresh 1", "expected a number of memory words, found nothing (fresh NODES MEMORY_WORDS)"),
+    ("set 0 colour 0 0", "expected number, width, direction, linkdirection, network, enable or hello, found colour (set SLOT SETTING INDEX VALUE)"),
+    ("set 0 number 1 0", "expected 0 as the index, found 1 (set SLOT SETTING INDEX VALUE)"),
+    ("set 0 hello 1 1", "expected 0 as the value, found 1 (set SLOT SETTING INDEX VALUE)"),
+    ("set 0 number 0 4294967296", "expected a value of 32 bits, found 4294967296 (set SLOT SETTING INDEX VALUE)"),
+    ("set 0 direction 4294967296 0", "expected a bit of 32 bits, found 4294967296 (set SLOT SETTING INDEX VALUE)"),
+    ("aim 0 0 tile 0 0 0", "expected channel or control, found tile (aim SLOT"),
+    ("aim 0 0 control 0 1 0", "expected 0 as the channel of a control unit, found 1 (aim SLOT"),
+    ("aim 0 0 channel 0 4294967296 0", "expected a channel of 32 bits, found 4294967296 (aim SLOT"),
+    ("output 0 0 data 256", "expected a token value 0..255, found 256 (output SLOT"),
+    ("output 0 0 date 25", "expected data or control, found date (output SLOT"),
+    ("step 0 0 # 0000000000000000", "expected no more words, found # (step SLOT PORT)"),
+    ("step 0 0 -> idle", "expected ANSWER # DIGEST behind ->, found idle"),
+    ("step 0 0 -> idle # 12", "expected a digest of 16 hexadecimal digits, found 12"),
+    ("step 0 0 -> idle # +00000000000000f", "expected a digest of 16 hexadecimal digits, found +00000000000000f"),
+    ("step 0 0 -> idling # 0000000000000000", "expected an answer, found idling"),
+    ("step 0 0 -> no 13 # 0000000000000000", "expected a refusal 1..12, found 13"),
+    ("step 0 0 -> granted 4 # 0000000000000000", "expected a grant of 0, 8, 16 or 64, found 4"),
+    ("step 0 0 -> opened link 8 # 0000000000000000", "expected a link 0..7, found 8"),
+];
+
+#[test]
+fn bad_lines_are_named() {
+    for (line, expected) in BAD_LINES {
+        let text = format!("fresh 1 832\n\n// next\n{line}\nnor is this\n");
+        let (number, complaint) = parse(&text).expect_err(line);
+        assert_eq!(number, 4);
+        assert!(complaint.starts_with(expected), "{complaint}");
+    }
+}
