@@ -1,8 +1,10 @@
 -- "If an answer is an enum, a definition gives this paper's number and values for each of its cases." (document 01, "Where each form belongs")
 use Prim.Native.Nat.{ℕ}
 use Rattle.names.specs.No.{passes}
+use Rattle.circuits.specs.declared.Cause.{Cause}
+use Rattle.circuits.specs.declared.Cause.the-variants.{Split, NoRoute}
 use Rattle.answers.specs.declared.Answer.{Answer}
-use Rattle.answers.specs.declared.Answer.the-variants.{No, Done, Granted, Token}
+use Rattle.answers.specs.declared.Answer.the-variants.{No, Done, Granted, Token, Idle, Waiting, Moved, OpenedLink, OpenedChannel, OpenedUnit, Refused, Dropped}
 
 -- "A refused call returns its number": the number for no, and none for every other answer
 abbrev pub numberOf : Answer → ℕ
@@ -10,10 +12,47 @@ numberOf (No n) = n
 numberOf Done = passes
 numberOf (Granted g) = passes
 numberOf (Token v) = passes
+numberOf Idle = passes
+numberOf Waiting = passes
+numberOf Moved = passes
+numberOf (OpenedLink l) = passes
+numberOf OpenedChannel = passes
+numberOf OpenedUnit = passes
+numberOf (Refused c) = passes
+numberOf (Dropped c) = passes
 
--- the value that an answer bears: "The answer to HELLO gives the grant"; the token that Input took
+-- which case it is, in the order in which they are listed
+abbrev pub caseOf : Answer → ℕ
+caseOf (No n) = 0
+caseOf Done = 1
+caseOf (Granted g) = 2
+caseOf (Token v) = 3
+caseOf Idle = 4
+caseOf Waiting = 5
+caseOf Moved = 6
+caseOf (OpenedLink l) = 7
+caseOf OpenedChannel = 8
+caseOf OpenedUnit = 9
+caseOf (Refused c) = 10
+caseOf (Dropped c) = 11
+
+-- "it has a cause and no number"
+abbrev pub causeOf : Cause → ℕ
+causeOf Split = 0
+causeOf NoRoute = 1
+
+-- the number that its case bears: a refusal's, "The answer to HELLO gives the grant", the token that Input took, the link that a circuit opened
+-- by, a circuit's cause
 abbrev pub valueOf : Answer → ℕ
-valueOf (No n) = 0
+valueOf (No n) = n
 valueOf Done = 0
 valueOf (Granted g) = g
 valueOf (Token v) = v
+valueOf Idle = 0
+valueOf Waiting = 0
+valueOf Moved = 0
+valueOf (OpenedLink l) = l
+valueOf OpenedChannel = 0
+valueOf OpenedUnit = 0
+valueOf (Refused c) = causeOf c
+valueOf (Dropped c) = causeOf c

@@ -1,7 +1,8 @@
 // What a call answers. One type serves all calls: a list of calls has then a list of answers, and the
 // host's crossing has one translation.
+use circuits::Cause;
 ghost use mathlib.Core.Path.{_≡_};
-ghost use Rattle.answers.specs.Answer.{numberOf};
+ghost use Rattle.answers.specs.Answer.{numberOf, caseOf, causeOf, valueOf};
 
 pub enum Answer {
     // refused, by the paper's number: nothing is changed
@@ -12,6 +13,22 @@ pub enum Answer {
     Granted(u32),
     // Input: the value of the token
     Token(u8),
+    // Step, and so are all below: nothing is held
+    Idle,
+    // nothing can be done now
+    Waiting,
+    // one token moved, was handed or was heard
+    Moved,
+    // a circuit opened outward, by this link
+    OpenedLink(u32),
+    // .. to a channel of this node
+    OpenedChannel,
+    // .. to this node's control unit
+    OpenedUnit,
+    // a circuit was refused: this speaks of the circuit and not of the call
+    Refused(Cause),
+    // one token of a refused circuit was dropped
+    Dropped(Cause),
 }
 
 // The paper's number of a refusal, 0 for none.
@@ -23,5 +40,62 @@ pub fn number(a: Answer) -> u8
         Answer::Done => 0,
         Answer::Granted(_) => 0,
         Answer::Token(_) => 0,
+        Answer::Idle => 0,
+        Answer::Waiting => 0,
+        Answer::Moved => 0,
+        Answer::OpenedLink(_) => 0,
+        Answer::OpenedChannel => 0,
+        Answer::OpenedUnit => 0,
+        Answer::Refused(_) => 0,
+        Answer::Dropped(_) => 0,
+    }
+}
+
+// Which case an answer is.
+pub fn case_of(a: Answer) -> u32
+    ensures { λ r. ⌜ r ≡ caseOf a ⌝ }
+{
+    match a {
+        Answer::No(_) => 0,
+        Answer::Done => 1,
+        Answer::Granted(_) => 2,
+        Answer::Token(_) => 3,
+        Answer::Idle => 4,
+        Answer::Waiting => 5,
+        Answer::Moved => 6,
+        Answer::OpenedLink(_) => 7,
+        Answer::OpenedChannel => 8,
+        Answer::OpenedUnit => 9,
+        Answer::Refused(_) => 10,
+        Answer::Dropped(_) => 11,
+    }
+}
+
+fn cause_of(c: Cause) -> u32
+    ensures { λ r. ⌜ r ≡ causeOf c ⌝ }
+{
+    match c {
+        Cause::Split => 0,
+        Cause::NoRoute => 1,
+    }
+}
+
+// The number that its case bears.
+pub fn value_of(a: Answer) -> u32
+    ensures { λ r. ⌜ r ≡ valueOf a ⌝ }
+{
+    match a {
+        Answer::No(n) => n as u32,
+        Answer::Done => 0,
+        Answer::Granted(credit) => credit,
+        Answer::Token(value) => value as u32,
+        Answer::Idle => 0,
+        Answer::Waiting => 0,
+        Answer::Moved => 0,
+        Answer::OpenedLink(l) => l,
+        Answer::OpenedChannel => 0,
+        Answer::OpenedUnit => 0,
+        Answer::Refused(c) => cause_of(c),
+        Answer::Dropped(c) => cause_of(c),
     }
 }

@@ -16,7 +16,11 @@ use Rattle.cells.specs.View.{Net}
 use Rattle.cells.proofs.Whole.{whole-state}
 use Rattle.settings.specs.declared.Setting.{Setting}
 use Rattle.settings.specs.declared.Setting.the-variants.{Number, Width, Direction, LinkDirection, Network, Enable, Hello}
-use Rattle.bench.specs.Calls.{Call, Fresh, Wire, Set, Aim, Output, Input, rows, made, apply}
+use Rattle.switch.specs.Plan.{planOf}
+use Rattle.switch.specs.Step.{answerOf, performed}
+use Rattle.switch.specs.declared.plan.Plan.{Plan}
+use Rattle.switch.specs.declared.plan.Plan.the-variants.{Idle, Wait, OpenOut, OpenChannel, OpenUnit, Refuse, MoveOut, Hand, Hear, Drop}
+use Rattle.bench.specs.Calls.{Call, Fresh, Wire, Set, Aim, Output, Input, Step, rows, made, apply}
 
 -- "show that two results meeting it are equal": answer, every word of the state, every word of token memory
 pub one-result : (w : World) (c : Call) (r q : Answer) (st zt mem nem : List ℕ)
@@ -26,6 +30,19 @@ pub one-result : (w : World) (c : Call) (r q : Answer) (st zt mem nem : List ℕ
 one-result w c r q st zt mem nem a b =
     let e : out r (world st mem) ≡ out q (world zt nem) = a ∙ sym b in
     (ap (λ (o : Out World). o .answer) e, whole-state st zt (ap (λ (o : Out World). o .next .net) e), ap (λ (o : Out World). o .next .memory) e)
+
+-- a Step's answer is no refusal of the call
+no-refusal : (x : Plan) → numberOf (answerOf x) ≡ Names.passes
+no-refusal Idle = refl
+no-refusal Wait = refl
+no-refusal (OpenOut l) = refl
+no-refusal (OpenChannel c t) = refl
+no-refusal OpenUnit = refl
+no-refusal (Refuse x) = refl
+no-refusal (MoveOut l) = refl
+no-refusal (Hand c t) = refl
+no-refusal Hear = refl
+no-refusal (Drop x) = refl
 
 -- what a call makes is no refusal
 passing : (w : World) (c : Call) → numberOf (made w c .answer) ≡ Names.passes
@@ -41,6 +58,7 @@ passing w (Set a (Hello l)) = refl
 passing w (Aim a c g v) = refl
 passing w (Output a c x) = refl
 passing w (Input a c k) = refl
+passing w (Step a p) = no-refusal (planOf w (a .0) p)
 
 -- no call has two rows of one number
 once : (w : World) (c : Call) → distinct (rows w c) ≡ true
@@ -50,6 +68,7 @@ once w (Set a x) = refl
 once w (Aim a c g v) = refl
 once w (Output a c x) = refl
 once w (Input a c k) = refl
+once w (Step a p) = refl
 
 -- "The lowest number wins": the rows of a call stand in the order of their numbers; Fresh looks at the count before the lengths
 abbrev pub InOrder : World → Call → Type 0
@@ -59,6 +78,7 @@ InOrder w (Set a x) = rising 0 (rows w (Set a x)) ≡ true
 InOrder w (Aim a c g v) = rising 0 (rows w (Aim a c g v)) ≡ true
 InOrder w (Output a c x) = rising 0 (rows w (Output a c x)) ≡ true
 InOrder w (Input a c k) = rising 0 (rows w (Input a c k)) ≡ true
+InOrder w (Step a p) = rising 0 (rows w (Step a p)) ≡ true
 
 pub in-order : (w : World) (c : Call) → InOrder w c
 in-order w (Fresh n) = refl
@@ -67,6 +87,7 @@ in-order w (Set a x) = refl
 in-order w (Aim a c g v) = refl
 in-order w (Output a c x) = refl
 in-order w (Input a c k) = refl
+in-order w (Step a p) = refl
 
 module _ (w : World) (c : Call) where
   pub numbered : numberOf (apply w c .answer) ≡ refusal (rows w c)
@@ -85,3 +106,4 @@ module _ (w : World) (c : Call) where
   pub refused-changes-nothing : (numberOf (apply w c .answer) ≡ Names.passes → ⊥) → apply w c .next ≡ w
   unfolding apply
   refused-changes-nothing h = kept (rows w c) w (made w c) (passing w c) h
+

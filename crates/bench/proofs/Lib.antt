@@ -4,3 +4,4 @@ pub mod Applied
 pub mod Numbers
 pub mod Cabled
 pub mod Started
+pub mod Waits

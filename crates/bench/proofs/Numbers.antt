@@ -13,6 +13,7 @@ use Rattle.fresh.specs.Fresh.{counted, fits}
 use Rattle.settings.specs.Wire.{linkAt, endTaken}
 use Rattle.settings.specs.Set.{linkThere, inRange, setBusy}
 use Rattle.settings.specs.declared.Setting.{Setting}
+use Rattle.switch.specs.Step.{portAt}
 use Rattle.sound.specs.Sound.{sound}
 use Rattle.ends.specs.Ends.{endAt, isOpen}
 use Rattle.ends.specs.Aim.{goalRanged}
@@ -22,7 +23,7 @@ use Rattle.ends.specs.Output.{wordOf, tokenNo, isNarrow, isFull}
 use Rattle.ends.specs.declared.Token.{Token}
 use Rattle.ends.specs.declared.Wanted.{Wanted}
 use Rattle.ends.specs.declared.aim.Goal.{Goal}
-use Rattle.bench.specs.Calls.{Call, Fresh, Wire, Set, Aim, Output, Input, apply}
+use Rattle.bench.specs.Calls.{Call, Fresh, Wire, Set, Aim, Output, Input, Step, apply}
 use Rattle.bench.proofs.Applied.{exactly}
 
 -- the call is refused by that number exactly when P
@@ -123,3 +124,10 @@ module _ (w : World) where
     pub output-full : Refused w (Output a c x) Names.Full
         ((not (sound w) ≡ false) × ((not (endAt (w .net) (a .0) c) ≡ false) × ((eqb (w .net .ends (a .0) c .aim) 0 ≡ false) × ((eqb (tokenNo x (targetOf (w .net .ends (a .0) c))) 7 ≡ false) × ((eqb (tokenNo x (targetOf (w .net .ends (a .0) c))) 8 ≡ false) × ((isNarrow (planOf (w .net) (a .0) c (targetOf (w .net .ends (a .0) c)) (wordOf x)) ≡ false) × (isFull (planOf (w .net) (a .0) c (targetOf (w .net .ends (a .0) c)) (wordOf x)) ≡ true)))))))
     output-full = exactly w (Output a c x) Names.Full
+
+  module _ (a : Slot) (p : ℕ) where
+    pub step-unsound : Refused w (Step a p) Names.Unsound (not (sound w) ≡ true)
+    step-unsound = exactly w (Step a p) Names.Unsound
+
+    pub step-no-such : Refused w (Step a p) Names.NoSuch ((not (sound w) ≡ false) × (not (portAt (w .net) (a .0) p) ≡ true))
+    step-no-such = exactly w (Step a p) Names.NoSuch

@@ -22,6 +22,7 @@ use Rattle.ends.specs.Input.{inputRows, inputValue, inputMade}
 use Rattle.ends.specs.declared.Token.{Token}
 use Rattle.ends.specs.declared.Wanted.{Wanted}
 use Rattle.ends.specs.declared.aim.Goal.{Goal}
+use Rattle.switch.specs.Step.{stepRows, stepMade}
 use Rattle.sound.specs.Sound.{sound}
 
 -- the calls, with arguments of any size
@@ -35,6 +36,8 @@ pub data Call : Type 0 where
   Aim : Slot → ℕ → Goal → ℕ → Call
   Output : Slot → ℕ → Token → Call
   Input : Slot → ℕ → Wanted → Call
+  -- slot and port
+  Step : Slot → ℕ → Call
 
 -- "1 Unsound: memory of the wrong length, or (not Fresh) state that fails the list"
 abbrev pub unsound : World → Row
@@ -48,6 +51,7 @@ rows w (Set a x) = unsound w ∷ setRows (w .net) (a .0) x
 rows w (Aim a c g v) = unsound w ∷ aimRows (w .net) (a .0) c g v
 rows w (Output a c x) = unsound w ∷ outputRows (w .net) (a .0) c x
 rows w (Input a c k) = unsound w ∷ inputRows (w .net) (a .0) c k
+rows w (Step a p) = unsound w ∷ stepRows (w .net) (a .0) p
 
 -- what a call makes that is not refused
 abbrev pub made : World → Call → Out World
@@ -57,6 +61,7 @@ made w (Set a x) = out (setAnswer (w .net) (a .0) x) (withNet w (setMade (w .net
 made w (Aim a c g v) = out Done (withNet w (aimMade (w .net) (a .0) c g v))
 made w (Output a c x) = out Done (outputMade w (a .0) c x)
 made w (Input a c k) = out (Answers.Token (inputValue (w .net) (a .0) c)) (withNet w (inputMade (w .net) (a .0) c))
+made w (Step a p) = stepMade w (a .0) p
 
 -- "A refused call returns its number and leaves the state as it was"
 unfoldable pub apply : World → Call → Out World

@@ -12,7 +12,7 @@ use sound::is_sound;
 ghost use mathlib.Core.Path.{_≡_};
 ghost use Rattle.answers.specs.Out.{out};
 ghost use Rattle.cells.specs.World.{world};
-ghost use Rattle.bench.specs.Calls.{apply, Fresh, Wire, Set, Aim, Output, Input};
+ghost use Rattle.bench.specs.Calls.{apply, Fresh, Wire, Set, Aim, Output, Input, Step};
 
 // A network of so many nodes, whatever the memories held.
 pub fn fresh(st: &mut [u32], mem: &mut [u16], nodes: usize) -> Answer
@@ -69,4 +69,14 @@ pub fn input(st: &mut [u32], mem: &[u16], slot: Slot, c: usize, wanted: Wanted) 
         return Answer::No(UNSOUND);
     }
     ends::input::input(st, slot, c, wanted)
+}
+
+// One Step of a node's port.
+pub fn step(st: &mut [u32], mem: &mut [u16], slot: Slot, p: usize) -> Answer
+    ensures { λ r. ⌜ out r (world (now (st .exit)) (now (mem .exit))) ≡ apply (world (now (st .entry)) (now (mem .entry))) (Step slot p) ⌝ }
+{
+    if !is_sound(st, mem) {
+        return Answer::No(UNSOUND);
+    }
+    switch::step(st, mem, slot, p)
 }

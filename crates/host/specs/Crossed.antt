@@ -8,8 +8,7 @@ use Rattle.laws.specs.Pick.{pick}
 use Rattle.names.specs.declared.Slot.{Slot}
 use Rattle.answers.specs.Out.{Out}
 use Rattle.answers.specs.declared.Answer.{Answer}
-use Rattle.answers.specs.declared.Answer.the-variants as A
-use Rattle.answers.specs.declared.Answer.the-variants.{No, Done, Granted}
+use Rattle.answers.specs.Answer.{caseOf, valueOf}
 use Rattle.cells.specs.World.{World}
 use Rattle.looks.specs.declared.Seen.{Seen}
 use Rattle.looks.specs.declared.Seen.the-variants.{Token, Nothing}
@@ -18,12 +17,9 @@ use Rattle.looks.specs.declared.Seen.the-variants.{Token, Nothing}
 abbrev pub packed : ℕ → ℕ → ℕ
 packed case value = case * 4294967296 + value
 
--- what a call answers: a refusal carries the paper's number, a grant the credit, a token that Input took its value
+-- what a call answers: its case, and the number that the case bears
 abbrev pub answerNumber : Answer → ℕ
-answerNumber (No n) = packed 0 n
-answerNumber Done = packed 1 0
-answerNumber (Granted credit) = packed 2 credit
-answerNumber (A.Token value) = packed 3 value
+answerNumber a = packed (caseOf a) (valueOf a)
 
 -- a slot is a plain number on the other side
 abbrev pub slot : ℕ → Slot

@@ -5,6 +5,7 @@ use bench::fresh;
 use bench::input;
 use bench::output;
 use bench::set;
+use bench::step;
 use bench::wire;
 use ends::Token;
 use ends::Wanted;
@@ -17,7 +18,7 @@ ghost use Rattle.ends.specs.declared.aim.Goal.the-variants as Goals;
 ghost use Rattle.ends.specs.declared.Token.the-variants as Tokens;
 ghost use Rattle.ends.specs.declared.Wanted.the-variants as Wants;
 ghost use Rattle.cells.specs.World.{world};
-ghost use Rattle.bench.specs.Calls.{apply, Fresh, Wire, Set, Aim, Output, Input};
+ghost use Rattle.bench.specs.Calls.{apply, Fresh, Wire, Set, Aim, Output, Input, Step};
 ghost use Rattle.host.specs.Crossed.{crossing, crossed, slot};
 
 #[no_mangle]
@@ -184,4 +185,12 @@ pub extern "C" fn tarvelgyo_input_control(st: &mut [u32], mem: &[u16], n: usize,
     ensures { λ r. ⌜ crossing r (world (now (st .exit)) (now (mem .entry))) ≡ crossed (apply (world (now (st .entry)) (now (mem .entry))) (Input (slot n) c Wants.Control)) ⌝ }
 {
     answer_number(input(st, mem, Slot(n), c, Wanted::Control))
+}
+
+// One Step of port p of slot n.
+#[no_mangle]
+pub extern "C" fn tarvelgyo_step(st: &mut [u32], mem: &mut [u16], n: usize, p: usize) -> u64
+    ensures { λ r. ⌜ crossing r (world (now (st .exit)) (now (mem .exit))) ≡ crossed (apply (world (now (st .entry)) (now (mem .entry))) (Step (slot n) p)) ⌝ }
+{
+    answer_number(step(st, mem, Slot(n), p))
 }

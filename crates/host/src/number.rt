@@ -1,5 +1,7 @@
 // What an enum crosses as: one number, which says the case and what the case carries.
 use answers::Answer;
+use answers::case_of;
+use answers::value_of;
 use looks::Seen;
 ghost use mathlib.Core.Path.{_≡_};
 ghost use Rattle.host.specs.Crossed.{packed, answerNumber, seenNumber};
@@ -14,12 +16,7 @@ fn packed(case: u32, value: u32) -> u64
 pub fn answer_number(a: Answer) -> u64
     ensures { λ r. ⌜ r ≡ answerNumber a ⌝ }
 {
-    match a {
-        Answer::No(n) => packed(0, n as u32),
-        Answer::Done => packed(1, 0),
-        Answer::Granted(credit) => packed(2, credit),
-        Answer::Token(value) => packed(3, value as u32),
-    }
+    packed(case_of(a), value_of(a))
 }
 
 // What a look at a token finds.

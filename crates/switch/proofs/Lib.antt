@@ -4,3 +4,4 @@ pub mod After
 pub mod Legal
 pub mod Cabled
 pub mod Possibles
+pub mod Stepped

@@ -2,7 +2,8 @@
 use Prim.{Unit}
 use Prim.Native.Nat.{ℕ, _+_, _-_, _<_, _≤_}
 use mathlib.Core.Path.{_≡_}
-use mathlib.Core.Bool.{Bool, true, false}
+use mathlib.Core.Bool.{Bool, true, false, not, _&&_}
+use mathlib.Core.List.{List, [], _∷_}
 use mathlib.Core.Logic.{_⊎_}
 use lib.Dec.{eqb, ltb}
 use lib.ListN.{length, set}
@@ -24,7 +25,12 @@ use Rattle.cells.specs.declared.link.Far.the-variants.{Nowhere, At}
 use Rattle.cells.specs.declared.unit.Unit as Units
 use Rattle.acts.specs.Acts.{withNet, widthAt, Room, pushed, Holds, firstAt, popped, hopped, shut, linkedTo, tiledTo, claimedBy, kept, Keeps}
 use Rattle.grants.specs.Grants.{considered, Cabled}
-use Rattle.switch.specs.Plan.{sizeOf}
+use Rattle.names.specs.No.{NoSuch}
+use Rattle.answers.specs.Rows.{Row, row}
+use Rattle.answers.specs.Out.{Out, out, attempt}
+use Rattle.answers.specs.declared.Answer.{Answer}
+use Rattle.answers.specs.declared.Answer.the-variants as Answers
+use Rattle.switch.specs.Plan.{sizeOf, planOf}
 use Rattle.switch.specs.declared.plan.Plan.{Plan}
 use Rattle.switch.specs.declared.plan.Plan.the-variants.{Idle, Wait, OpenOut, OpenChannel, OpenUnit, Refuse, MoveOut, Hand, Hear, Drop}
 
@@ -167,3 +173,43 @@ Possible w n p (MoveOut l) = (l < links) × Takes w n p 1 × FarRoom w (farOf (w
 Possible w n p (Hand c t) = (t < tileLinks) × Given (w .net) n c (firstAt w n p) × Takes w n p 1
 Possible w n p Hear = Takes w n p 1
 Possible w n p (Drop x) = Takes w n p 1
+
+-- "answering Opened with the link, Waiting, or Refused, NoRoute .. Moved .. Dropped, with the cause"
+abbrev pub answerOf : Plan → Answer
+answerOf Idle = Answers.Idle
+answerOf Wait = Answers.Waiting
+answerOf (OpenOut l) = Answers.OpenedLink l
+answerOf (OpenChannel c t) = Answers.OpenedChannel
+answerOf OpenUnit = Answers.OpenedUnit
+answerOf (Refuse x) = Answers.Refused x
+answerOf (MoveOut l) = Answers.Moved
+answerOf (Hand c t) = Answers.Moved
+answerOf Hear = Answers.Moved
+answerOf (Drop x) = Answers.Dropped x
+
+-- "port not present" is NoSuch
+abbrev pub portAt : Net → ℕ → ℕ → Bool
+portAt s n p = ltb n (s .nodes) && ltb p ports
+
+abbrev pub stepRows : Net → ℕ → ℕ → List Row
+stepRows s n p = row (not (portAt s n p)) NoSuch ∷ []
+
+-- what a Step makes: its plan's answer, and the plan carried out
+abbrev pub stepMade : World → ℕ → ℕ → Out World
+stepMade w n p = out (answerOf (planOf w n p)) (performed w n p (planOf w n p))
+
+unfoldable pub step : World → ℕ → ℕ → Out World
+step w n p = attempt (stepRows (w .net) n p) w (stepMade w n p)
+
+-- a link that is named in an answer is there
+abbrev pub LinkNamed : Plan → Type 0
+LinkNamed Idle = Unit
+LinkNamed Wait = Unit
+LinkNamed (OpenOut l) = l < links
+LinkNamed (OpenChannel c t) = Unit
+LinkNamed OpenUnit = Unit
+LinkNamed (Refuse x) = Unit
+LinkNamed (MoveOut l) = Unit
+LinkNamed (Hand c t) = Unit
+LinkNamed Hear = Unit
+LinkNamed (Drop x) = Unit

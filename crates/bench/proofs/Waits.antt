@@ -1,0 +1,53 @@
+-- "A Waiting or Idle step changes nothing either." (document 01, "Numbers for no") Assumes nothing.
+use Prim.Native.Nat.{ℕ}
+use mathlib.Core.Path.{_≡_, refl, sym, ap, _∙_}
+use mathlib.Core.Bool.{Bool, true, false}
+use lib.Dec.{eqb}
+use Rattle.laws.proofs.Order.{by-test, clash}
+use Rattle.names.specs.No.{passes}
+use Rattle.names.specs.declared.Slot.{Slot}
+use Rattle.answers.specs.Rows.{refusal}
+use Rattle.answers.specs.Out.{Out}
+use Rattle.answers.specs.declared.Answer.{Answer}
+use Rattle.answers.specs.declared.Answer.the-variants as A
+use Rattle.cells.specs.World.{World}
+use Rattle.switch.specs.Plan.{planOf}
+use Rattle.switch.specs.Step.{answerOf, performed}
+use Rattle.switch.specs.declared.plan.Plan.{Plan}
+use Rattle.switch.specs.declared.plan.Plan.the-variants.{Idle, Wait, OpenOut, OpenChannel, OpenUnit, Refuse, MoveOut, Hand, Hear, Drop}
+use Rattle.bench.specs.Calls.{Step, rows, made, apply}
+
+-- Idle and Waiting, of all answers
+abbrev pub still : Answer → Bool
+still (A.No n) = false
+still A.Done = false
+still (A.Granted g) = false
+still (A.Token v) = false
+still A.Idle = true
+still A.Waiting = true
+still A.Moved = false
+still (A.OpenedLink l) = false
+still A.OpenedChannel = false
+still A.OpenedUnit = false
+still (A.Refused c) = false
+still (A.Dropped c) = false
+
+module _ (w : World) (n p : ℕ) where
+  plan-still : (x : Plan) → still (answerOf x) ≡ true → performed w n p x ≡ w
+  plan-still Idle e = refl
+  plan-still Wait e = refl
+  plan-still (OpenOut l) e = clash (sym e)
+  plan-still (OpenChannel c t) e = clash (sym e)
+  plan-still OpenUnit e = clash (sym e)
+  plan-still (Refuse x) e = clash (sym e)
+  plan-still (MoveOut l) e = clash (sym e)
+  plan-still (Hand c t) e = clash (sym e)
+  plan-still Hear e = clash (sym e)
+  plan-still (Drop x) e = clash (sym e)
+
+pub waits-change-nothing : (w : World) (a : Slot) (p : ℕ) → still (apply w (Step a p) .answer) ≡ true → apply w (Step a p) .next ≡ w
+unfolding apply
+waits-change-nothing w a p h =
+    by-test (eqb (refusal (rows w (Step a p))) passes)
+    (λ e. rw e (plan-still w (a .0) p (planOf w (a .0) p) (rw e at h)))
+    (λ e. rw e)
