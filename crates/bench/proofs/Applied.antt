@@ -106,4 +106,3 @@ module _ (w : World) (c : Call) where
   pub refused-changes-nothing : (numberOf (apply w c .answer) ≡ Names.passes → ⊥) → apply w c .next ≡ w
   unfolding apply
   refused-changes-nothing h = kept (rows w c) w (made w c) (passing w c) h
-

@@ -11,7 +11,7 @@ use Rattle.bench.proofs.step.Statement.{statement}
 use Rattle.bench.proofs.step.Tie as tie
 
 returns : tie.Need-returns
-returns c = 
+returns c =
     let a = c .before .before .before .before .before .before .args in
     refused-unsound (world (a .st .now) (a .mem .now)) (Step (a .slot) (a .p)) (stepRows (view (a .st .now)) (a .slot .0) (a .p)) refl (sym (c .before .is-sound .ensures) ∙ not-true _ (c .if1 .taken))
 
@@ -20,7 +20,7 @@ step-requires c κs = sym (c .before .before .before .is-sound .ensures) ∙ not
 
 returns-2 : tie.Need-returns-2
 unfolding step
-returns-2 c = 
+returns-2 c =
     let a = c .before .before .before .before .before .before .before .before .before .before .before .before .before .args in
     on-world (world (a .st .now) (a .mem .now)) (Step (a .slot) (a .p)) (stepRows (view (a .st .now)) (a .slot .0) (a .p)) refl (sym (c .before .before .before .before .before .before .before .before .is-sound .ensures) ∙ not-false _ (c .before .before .before .before .before .before .before .if1 .left)) _ (c .before .before .before .before .step .ensures)
 

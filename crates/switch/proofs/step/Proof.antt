@@ -16,25 +16,25 @@ returns : tie.Need-returns
 returns c = let a = c .before .before .before .before .before in not-there (world (a .args .st .now) (a .args .mem .now)) (a .args .slot .0) (a .args .p) (sym (c .before .port-at .ensures) ∙ not-true _ (c .if1 .taken))
 
 plan-of-requires : tie.Need-plan-of-requires
-plan-of-requires c κs = 
+plan-of-requires c κs =
     let a = c .before .before .before .before .before .before .before in
     let z = port-there (view (a .args .st .now)) (a .args .slot .0) (a .args .p) (sym (c .before .before .before .port-at .ensures) ∙ not-false _ (c .before .before .if1 .left)) in
     (node-facts (world (a .args .st .now) (a .args .mem .now)) (a .pre) (a .args .slot .0) (z .0) .0, holds (world (a .args .st .now) (a .args .mem .now)) (a .pre) (a .args .slot .0) (a .args .p) (z .0) (z .1) 0 zero-le)
 
 perform-requires : tie.Need-perform-requires
-perform-requires c κs = 
+perform-requires c κs =
     let a = c .before .before .before .before .before .before .before .before .before .before in
     let z = port-there (view (a .args .st .now)) (a .args .slot .0) (a .args .p) (sym (c .before .before .before .before .before .before .port-at .ensures) ∙ not-false _ (c .before .before .before .before .before .if1 .left)) in
     (z .0, z .1, rw (c .before .before .plan-of .ensures) (plan-possible (world (a .args .st .now) (a .args .mem .now)) (a .pre) (a .args .slot .0) (a .args .p) (z .0) (z .1)))
 
 answer-of-requires : tie.Need-answer-of-requires
-answer-of-requires c κs = 
+answer-of-requires c κs =
     let a = c .before .before .before .before .before .before .before .before .before .before .before .before .before .before .before in
     let z = port-there (view (a .args .st .now)) (a .args .slot .0) (a .args .p) (sym (c .before .before .before .before .before .before .before .before .before .before .before .port-at .ensures) ∙ not-false _ (c .before .before .before .before .before .before .before .before .before .before .if1 .left)) in
     rw (c .before .before .before .before .before .before .before .plan-of .ensures) (link-named (world (a .args .st .now) (a .args .mem .now)) (a .args .slot .0) (a .args .p) (planOf (world (a .args .st .now) (a .args .mem .now)) (a .args .slot .0) (a .args .p)) (plan-possible (world (a .args .st .now) (a .args .mem .now)) (a .pre) (a .args .slot .0) (a .args .p) (z .0) (z .1)))
 
 returns-2 : tie.Need-returns-2
-returns-2 c = 
+returns-2 c =
     let a = c .before .before .before .before .before .before .before .before .before .before .before .before .before .before .before .before in
     rw (c .answer-of .ensures, c .before .before .before .before .before .perform .ensures, c .before .before .before .before .before .before .before .before .plan-of .ensures) (stepped (world (a .args .st .now) (a .args .mem .now)) (a .args .slot .0) (a .args .p) (sym (c .before .before .before .before .before .before .before .before .before .before .before .before .port-at .ensures) ∙ not-false _ (c .before .before .before .before .before .before .before .before .before .before .before .if1 .left)))
 
