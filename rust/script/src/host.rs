@@ -55,14 +55,14 @@ impl Lent {
     }
 }
 
-/// A network under way: none before the first Fresh that succeeds, which is Unsound to every other
-/// call.
+/// The host of a network: it lends its memories to each call. Before the first Fresh that succeeds
+/// they are empty, which is Unsound to every other call.
 #[derive(Clone, Debug, Default)]
-pub struct Session {
+pub struct Host {
     lent: Lent,
 }
 
-impl Session {
+impl Host {
     /// The state, to be looked at.
     pub fn looks(&self) -> Looks<'_> {
         self.lent.looks()
