@@ -11,9 +11,11 @@ use lib.Dec.{eqb, ltb}
 use lib.ListN.{length, set, length-set}
 use Rattle.laws.specs.Table.{upd}
 use Rattle.laws.proofs.Order.{by-test}
-use Rattle.laws.proofs.Table.{upd-all}
+use Rattle.laws.proofs.Table.{upd-same, upd-all}
 use Rattle.names.specs.Size.{links, ports, sink, ends}
-use Rattle.circuits.specs.Circuit.{ofPeer}
+use Rattle.circuits.specs.Circuit.{ofPeer, ofHop, tileOf}
+use Rattle.circuits.specs.declared.Hop.{Hop}
+use Rattle.circuits.specs.declared.Hop.the-variants as Hops
 use Rattle.circuits.specs.declared.Peer.the-variants.{Nobody}
 use Rattle.tokens.specs.Word.{closes}
 use Rattle.ports.specs.Queue.{capacity, Fair, takeCounters}
@@ -21,14 +23,14 @@ use Rattle.ports.specs.Memory.{place}
 use Rattle.ports.specs.declared.Counters.{Counters}
 use Rattle.cells.specs.View.{Net}
 use Rattle.cells.specs.World.{World, farOf}
-use Rattle.cells.specs.Changes.{countersAs, userAs}
+use Rattle.cells.specs.Changes.{countersAs, circuitAs, userAs}
 use Rattle.cells.specs.declared.port.Port.{Port}
 use Rattle.cells.specs.declared.link.Link.{Link}
 use Rattle.cells.specs.declared.link.Far.{Far}
 use Rattle.cells.specs.declared.link.Far.the-variants.{Nowhere, At}
-use Rattle.acts.specs.Acts.{Room, Holds, pushed, popped, withNet, firstAt, shutPort, shut, Keeps}
+use Rattle.acts.specs.Acts.{Room, Holds, pushed, popped, withNet, firstAt, hopped, shutPort, shut, Keeps}
 use Rattle.grants.specs.Grants.{considered}
-use Rattle.switch.specs.Step.{consideredAt, grantsUp, took, closesOut, paid, arrives, crosses, movesOut, gives, Given, Door, FarRoom}
+use Rattle.switch.specs.Step.{consideredAt, grantsUp, took, closesOut, paid, arrives, crosses, movesOut, gives, Given, Door, FarRoom, Takes, opensChannel, opensUnit}
 use Rattle.switch.proofs.Takes.{up-nodes, up-ports, up-far}
 
 -- counters of a port that can take k more tokens
@@ -168,3 +170,33 @@ gives-nodes s n c x = by-test (eqb c sink) (λ e. rw e) (λ e. rw e)
 
 pub door : (s : Net) (n c x : ℕ) → Given s n c x → Door c
 door s n c x g = ⊎-elim (λ e. inl e) (λ h. inr (h .0)) g
+
+-- A circuit that opens leaves what there is to take
+hopped-counters : (s : Net) (n p : ℕ) (h : Hop) → hopped s n p h .ports n p .counters ≡ s .ports n p .counters
+hopped-counters s n p h = ap (λ (k : Port). k .counters) (upd-same (s .ports) n p (circuitAs (s .ports n p) (ofHop h) (tileOf h)))
+
+pub hopped-takes : (w : World) (n p k : ℕ) (h : Hop) → Takes w n p k → Takes (withNet w (hopped (w .net) n p h)) n p k
+hopped-takes w n p k h r =
+    record {
+      holds =
+          record {
+            node = r .holds .node;
+            port = r .holds .port;
+            fair = rw (hopped-counters (w .net) n p h) (r .holds .fair);
+            held = rw (hopped-counters (w .net) n p h) (r .holds .held);
+            reaches = r .holds .reaches;
+          };
+      up = r .up;
+    }
+
+pub channel-takes : (w : World) (n p k c t : ℕ) → Takes w n p k → Takes (withNet w (opensChannel (w .net) n p c t)) n p k
+channel-takes w n p k c t r =
+    let z = hopped-takes w n p k (Hops.Channel c t) r in
+    by-test (eqb c sink)
+    (λ e. rw e (record { holds = record { node = z .holds .node; port = z .holds .port; fair = z .holds .fair; held = z .holds .held; reaches = z .holds .reaches }; up = z .up }))
+    (λ e. rw e (record { holds = record { node = z .holds .node; port = z .holds .port; fair = z .holds .fair; held = z .holds .held; reaches = z .holds .reaches }; up = z .up }))
+
+pub unit-takes : (w : World) (n p k : ℕ) → Takes w n p k → Takes (withNet w (opensUnit (w .net) n p)) n p k
+unit-takes w n p k r =
+    let z = hopped-takes w n p k Hops.Unit r in
+    record { holds = record { node = z .holds .node; port = z .holds .port; fair = z .holds .fair; held = z .holds .held; reaches = z .holds .reaches }; up = z .up }

@@ -1,3 +1,6 @@
 -- Laws of Step.
 pub mod Takes
 pub mod After
+pub mod Legal
+pub mod Cabled
+pub mod Possibles

@@ -2,6 +2,7 @@
 // plans, then what it does. The public call, which tests the state first, is crate bench's.
 pub mod open;
 pub mod pass;
+pub mod perform;
 pub mod plan;
 pub mod read;
 pub mod take;

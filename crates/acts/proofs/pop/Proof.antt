@@ -10,7 +10,7 @@ take-at-requires c κs = let r = c .before .before .before .before .before .pre 
 
 returns : tie.Need-returns
 unfolding popped
-returns c = 
+returns c =
     let t = c .before .before .before .before .before .before .before .take-at .ensures in
     (rw (t .1, c .before .before .before .before .before .before .before .before .before .at .ensures), rw (c .before .before .put .ensures, t .0, t .2, c .before .before .before .before .before .before .before .before .before .at .ensures))
 

@@ -13,12 +13,12 @@ add-at : tie.Need-add-at
 add-at c = rw (c .before .before .at .ensures) (omega (arith, c .before .before .before .before .before .pre .fair .head-in, c .before .before .before .before .before .pre .held, c .before .before .before .before .before .pre .fair .held-in))
 
 shared-slice-read-result : tie.Need-shared-slice-read-result
-shared-slice-read-result c = 
+shared-slice-read-result c =
     let a = c .before .before .before .before .before .before in
     rw (c .before .before .stretch .ensures, row-long capacity (place (a .args .slot .0) (a .args .p)) (a .args .mem .now) (a .pre .reaches)) (omega arith)
 
 returns : tie.Need-returns
-returns c = 
+returns c =
     let a = c .before .before .before .before .before .before .args in
     let k = view (a .st .now) .ports (a .slot .0) (a .p) .counters in
     rw (c .before .before .stretch .ensures, c .before .before .before .at .ensures) (row-at capacity (place (a .slot .0) (a .p)) ((k .head + a .i) % capacity) (a .mem .now) 0 (omega arith))

@@ -13,13 +13,13 @@ give-requires : tie.Need-give-requires
 give-requires c κs = let a = c .before .before .before .before .before .before .before .before .before .before in (node-after (world (a .args .st .now) (a .args .mem .now)) _ _ (a .args .slot .0) (a .args .p) (c .before .before .before .before .before .take .ensures .1) (a .pre .2 .holds .node), given-after (world (a .args .st .now) (a .args .mem .now)) _ _ (a .args .slot .0) (a .args .p) (c .before .before .before .before .before .take .ensures .1) (a .args .c) _ (c .before .before .before .before .before .take .ensures .0) (a .pre .1))
 
 close-channel-requires : tie.Need-close-channel-requires
-close-channel-requires c κs = 
+close-channel-requires c κs =
     let a = c .before .before .before .before .before .before .before .before .before .before .before .before .before .before in
     rw (c .before .before .before .give .ensures, gives-nodes _ (a .args .slot .0) (a .args .c) (c .before .before .before .before .before .before .before .before .before .take .result))
     (node-after (world (a .args .st .now) (a .args .mem .now)) _ _ (a .args .slot .0) (a .args .p) (c .before .before .before .before .before .before .before .before .before .take .ensures .1) (a .pre .2 .holds .node), a .pre .2 .holds .port, door (view (a .args .st .now)) (a .args .slot .0) (a .args .c) (firstAt (world (a .args .st .now) (a .args .mem .now)) (a .args .slot .0) (a .args .p)) (a .pre .1), a .pre .0)
 
 returns : tie.Need-returns
-returns c = 
+returns c =
     let a = c .before .before .before .before .before .before .before .before .before .before .before .before .before .before .before .before .before in
     after-took (world (a .args .st .now) (a .args .mem .now)) _ _ (a .args .slot .0) (a .args .p) (c .before .before .before .before .before .before .before .before .before .before .before .before .take .ensures .1) _ _ (λ s x. closesChannel (gives s (a .args .slot .0) (a .args .c) x) (a .args .slot .0) (a .args .p) (a .args .c) (a .args .t) x) (c .before .before .before .before .before .before .before .before .before .before .before .before .take .ensures .0)
     (c .before .before .close-channel .ensures ∙ rw (c .before .before .before .before .before .before .give .ensures))

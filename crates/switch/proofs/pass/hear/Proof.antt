@@ -15,7 +15,7 @@ close-unit-requires : tie.Need-close-unit-requires
 close-unit-requires c κs = let a = c .before .before .before .before .before .before .before .before .before .before .before .before .before .before in rw (c .before .before .before .listen .ensures) (node-after (world (a .args .st .now) (a .args .mem .now)) _ _ (a .args .slot .0) (a .args .p) (c .before .before .before .before .before .before .before .before .before .take .ensures .1) (a .pre .holds .node), a .pre .holds .port)
 
 returns : tie.Need-returns
-returns c = 
+returns c =
     let a = c .before .before .before .before .before .before .before .before .before .before .before .before .before .before .before .before .before in
     after-took (world (a .args .st .now) (a .args .mem .now)) _ _ (a .args .slot .0) (a .args .p) (c .before .before .before .before .before .before .before .before .before .before .before .before .take .ensures .1) _ _ (λ s x. closesUnit (withUnit s (a .args .slot .0) (hearsWord (s .units (a .args .slot .0) 0) x)) (a .args .slot .0) (a .args .p) x) (c .before .before .before .before .before .before .before .before .before .before .before .before .take .ensures .0)
     (c .before .before .close-unit .ensures ∙ rw (c .before .before .before .before .before .before .listen .ensures))

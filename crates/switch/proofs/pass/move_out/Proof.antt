@@ -11,7 +11,7 @@ close-out-requires : tie.Need-close-out-requires
 close-out-requires c κs = let a = c .before .before .before .before .before .before .before .before .before .before in (node-after (world (a .args .st .now) (a .args .mem .now)) _ _ (a .args .slot .0) (a .args .p) (c .before .before .before .before .before .take .ensures .1) (a .pre .1 .holds .node), a .pre .1 .holds .port, a .pre .0)
 
 cross-requires : tie.Need-cross-requires
-cross-requires c κs = 
+cross-requires c κs =
     let a = c .before .before .before .before .before .before .before .before .before .before .before .before .before .before .before in
     let e = c .before .before .before .before .before .before .before .before .before .before .take .ensures .1 in
     let l = a .args .l in
@@ -20,7 +20,7 @@ cross-requires c κs =
     (closed-after (world (a .args .st .now) (a .args .mem .now)) _ _ (a .args .slot .0) (a .args .p) e l x (a .pre .1 .holds .node), a .pre .0, room-after (world (a .args .st .now) (a .args .mem .now)) _ _ (a .args .slot .0) (a .args .p) e l x (farOf (view (a .args .st .now) .links (a .args .slot .0) l)) (a .pre .1 .holds) (a .pre .2))
 
 returns : tie.Need-returns
-returns c = 
+returns c =
     let a = c .before .before .before .before .before .before .before .before .before .before .before .before .before .before .before .before .before .before .before .before in
     let t = c .before .before .before .before .before .before .before .before .before .before .before .before .before .before .before .take .ensures in
     moves-gives (world (a .args .st .now) (a .args .mem .now)) _ _ (a .args .slot .0) (a .args .p) (a .args .l) _ (t .0)

@@ -11,20 +11,20 @@ returns : tie.Need-returns
 returns c = rw (← (c .before .before .size-of .ensures ∙ ap sizeOf (c .before .before .before .before .marked-width .ensures ∙ ap markedWidth (c .before .before .before .before .before .word-at .ensures))), ← c .before .before .before .at .ensures, lt-ltb _ _ (c .if1 .taken))
 
 returns-2 : tie.Need-returns-2
-returns-2 c = 
+returns-2 c =
     let v = c .before .before .before .before .before .before .before .marked-width .ensures ∙ ap markedWidth (c .before .before .before .before .before .before .before .before .word-at .ensures) in
     let h = rw (c .before .before .before .before .before .before .at .ensures, c .before .before .before .before .before .size-of .ensures, v) at (c .before .before .before .if1 .left) in
     rw (le-ltb _ _ h, ← v, ← c .before .before .width-at .ensures, ← c .before .same-width .ensures, c .if2 .taken)
 
 target-at-requires : tie.Need-target-at-requires
-target-at-requires c κs = 
+target-at-requires c κs =
     let a = c .before .before .before .before .before .before .before .before .before .before .before in
     let v = c .before .before .before .before .before .before .before .marked-width .ensures ∙ ap markedWidth (c .before .before .before .before .before .before .before .before .word-at .ensures) in
     let h = rw (c .before .before .before .before .before .before .at .ensures, c .before .before .before .before .before .size-of .ensures, v) at (c .before .before .before .if1 .left) in
     holds-whole _ _ _ _ h (a .pre .1)
 
 returns-3 : tie.Need-returns-3
-returns-3 c = 
+returns-3 c =
     let v = c .before .before .before .before .before .before .before .before .before .marked-width .ensures ∙ ap markedWidth (c .before .before .before .before .before .before .before .before .before .before .word-at .ensures) in
     let h = rw (c .before .before .before .before .before .before .before .before .at .ensures, c .before .before .before .before .before .before .before .size-of .ensures, v) at (c .before .before .before .before .before .if1 .left) in
     let q = rw (v, c .before .before .before .before .width-at .ensures) at (c .before .before .before .same-width .ensures) in

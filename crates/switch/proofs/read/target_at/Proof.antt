@@ -18,12 +18,12 @@ word-at-requires-3 : tie.Need-word-at-requires-3
 word-at-requires-3 c κs = let a = c .before .before .before .before .before .before in three-held _ _ _ (a .pre) (sym (c .before .before .is-three .ensures ∙ ap isThree (c .before .before .before .word-at .ensures)) ∙ c .before .if1 .taken)
 
 returns : tie.Need-returns
-returns c = 
+returns c =
     let e = c .before .before .before .before .is-three .ensures ∙ ap isThree (c .before .before .before .before .before .word-at .ensures) in
     rw (← e, c .before .before .before .if1 .taken, c .read-three .ensures, c .before .before .before .before .before .word-at .ensures, c .before .before .word-at2 .ensures, c .before .word-at3 .ensures)
 
 returns-2 : tie.Need-returns-2
-returns-2 c = 
+returns-2 c =
     let e = c .before .before .is-three .ensures ∙ ap isThree (c .before .before .before .word-at .ensures) in
     rw (← e, c .before .if1 .left, c .read-one .ensures, c .before .before .before .word-at .ensures)
 

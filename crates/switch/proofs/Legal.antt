@@ -1,0 +1,149 @@
+-- A header at the front of a sound port is for a channel that is there, or for a control unit. Assumes nothing.
+use Prim.{tt}
+use Prim.Native.Nat.{ℕ, suc, _+_, _-_, _/_, _%_, _<_, _≤_}
+use mathlib.Core.Path.{_≡_, refl, sym, ap, _∙_}
+use mathlib.Core.Bool.{Bool, true, false, _||_}
+use mathlib.Core.List.{List, [], _∷_}
+use mathlib.Core.Logic.{_⊎_, inl, inr, ⊎-elim}
+use native.Mathlib.Omega.{arith}
+use lib.Dec.{eqb, ltb, lit≤}
+use lib.ListN.{getD}
+use borrow.Author.Tests.{ltb-true, ltb-false, eqb-true, lt-ltb, eq-eqb, not-true}
+use Rattle.laws.proofs.All.{either, below, equal}
+use Rattle.laws.proofs.Order.{by-test, clash}
+use Rattle.laws.proofs.Row.{row-at}
+use Rattle.names.specs.Size.{ports, ends, sink}
+use Rattle.circuits.specs.declared.Hop.the-variants.{Shut}
+use Rattle.tokens.specs.Control.{ssctrl}
+use Rattle.tokens.specs.Word.{closes, controlWord, valueOf, isControl, isThree}
+use Rattle.tokens.specs.Shape.{legalChannel, threeShape, shapeOf}
+use Rattle.tokens.specs.Header.{readOne, readThree}
+use Rattle.tokens.specs.declared.word.Shape.{Shape}
+use Rattle.tokens.specs.declared.word.Shape.the-variants as S
+use Rattle.tokens.specs.declared.header.Target.{Target}
+use Rattle.tokens.specs.declared.header.Target.the-variants as T
+use Rattle.ports.specs.Queue.{capacity, ring}
+use Rattle.ports.specs.Memory.{place, stretch}
+use Rattle.ports.proofs.Rings.{ring-start, ring-next}
+use Rattle.grammar.specs.Stage.{step, fromFresh, fromTwoDue, fromLastDue, isBad}
+use Rattle.grammar.specs.Walk.{walk, backOf}
+use Rattle.grammar.specs.declared.stage.Stage.{Stage}
+use Rattle.grammar.specs.declared.stage.Stage.the-variants.{Bad, Fresh, Body, OneDue, ThreeDue, TwoDue, LastDue}
+use Rattle.cells.specs.World.{World, hop, queue}
+use Rattle.acts.specs.Acts.{wordAt}
+use Rattle.sound.specs.Sound.{sound}
+use Rattle.sound.proofs.Facts.{contents-facts}
+use Rattle.switch.specs.Plan.{targetAt}
+use Rattle.switch.specs.Step.{Door}
+
+-- by what a word is
+by-shape : (P : Shape → Type 0) (w : ℕ) → P S.Closing → P S.Body → P S.Wrong → (w < 0x300 → P S.OneByte) → (0x600 ≤ w → P (threeShape (w - 0x600))) → P (shapeOf w)
+unfolding shapeOf
+by-shape P w a b c d e =
+    by-test (closes w) (λ t. rw t a) (λ t. rw t
+    (by-test (ltb w 0x1C2) (λ u. rw u b) (λ u. rw u
+    (by-test (ltb w 0x200) (λ v. rw v c) (λ v. rw v
+    (by-test (ltb w 0x300) (λ x. rw x (d (ltb-true w 0x300 x))) (λ x. rw x
+    (by-test (ltb w 0x600) (λ y. rw y c) (λ y. rw y (e (ltb-false w 0x600 y)))))))))))
+
+by-three : (P : Shape → Type 0) (m : ℕ) → (legalChannel m ≡ true → P S.Channel) → P S.ThreeByte → (m ≡ 0x1C3 → P S.Unit) → P S.Wrong → P (threeShape m)
+unfolding threeShape
+by-three P m a b c d =
+    by-test (legalChannel m) (λ t. rw t (a t)) (λ t. rw t
+    (by-test (ltb m 0x100) (λ u. rw u b) (λ u. rw u
+    (by-test (eqb m (controlWord ssctrl)) (λ v. rw v (c (eqb-true m (controlWord ssctrl) v))) (λ v. rw v d)))))
+
+-- a walk that does not end badly has not been bad
+bad-stays : (q : List ℕ) → isBad (walk Bad q) ≡ true
+bad-stays [] = refl
+bad-stays (w ∷ q) = bad-stays q
+
+good-before : (s : Stage) (q : List ℕ) → isBad (walk s q) ≡ false → isBad s ≡ false
+good-before Bad q e = clash (sym (bad-stays q) ∙ e)
+good-before Fresh q e = refl
+good-before Body q e = refl
+good-before OneDue q e = refl
+good-before ThreeDue q e = refl
+good-before TwoDue q e = refl
+good-before LastDue q e = refl
+
+-- the first of three bytes, the second, the last
+two-due : (w : ℕ) → isThree w ≡ true → isBad (fromFresh (shapeOf w)) ≡ false → fromFresh (shapeOf w) ≡ TwoDue
+two-due w t =
+    by-shape (λ x. isBad (fromFresh x) ≡ false → fromFresh x ≡ TwoDue) w (λ b. clash b) (λ b. clash b) (λ b. clash b)
+    (λ l b. absurd (small l (eqb-true (w / 1024 % 2) 1 t)))
+    (λ g. by-three (λ x. isBad (fromFresh x) ≡ false → fromFresh x ≡ TwoDue) (w - 0x600) (λ l b. refl) (λ b. refl) (λ l b. clash b) (λ b. clash b))
+  where
+    small : {w : ℕ} → w < 0x300 → w / 1024 % 2 ≡ 1 → ⊥
+    small l e = omega arith
+
+last-due : (x : Shape) → isBad (fromTwoDue x) ≡ false → fromTwoDue x ≡ LastDue
+last-due S.Wrong b = clash b
+last-due S.Body b = clash b
+last-due S.Closing b = clash b
+last-due S.OneByte b = clash b
+last-due S.ThreeByte b = refl
+last-due S.Channel b = refl
+last-due S.Unit b = clash b
+
+-- a last byte that is no control is a channel that is there
+last-legal : (w : ℕ) → isControl w ≡ false → isBad (fromLastDue (shapeOf w)) ≡ false → Door (valueOf w)
+last-legal w n =
+    by-shape (λ x. isBad (fromLastDue x) ≡ false → Door (valueOf w)) w (λ b. clash b) (λ b. clash b) (λ b. clash b) (λ l b. clash b)
+    (λ g. by-three (λ x. isBad (fromLastDue x) ≡ false → Door (valueOf w)) (w - 0x600)
+    (λ l b. named g (either (below (w - 0x600) ends) (equal (w - 0x600) sink) .sure l))
+    (λ b. clash b)
+    (λ e b. clash (sym (unit g e) ∙ n))
+    (λ b. clash b))
+  where
+    named : 0x600 ≤ w → ((w - 0x600 < ends) ⊎ (w - 0x600 ≡ sink)) → Door (valueOf w)
+    named g h = ⊎-elim (λ i. inr (omega arith)) (λ i. inl (omega arith)) h
+
+    unit : 0x600 ≤ w → w - 0x600 ≡ 0x1C3 → isControl w ≡ true
+    unit g e = eq-eqb (w / 256 % 2) 1 (omega arith)
+
+third : (a b c : ℕ) (q : List ℕ) → isBad (walk Fresh (a ∷ b ∷ c ∷ q)) ≡ false → isThree a ≡ true → isControl c ≡ false → Door (valueOf c)
+third a b c q e t n =
+    let z = good-before (step (step (step Fresh (shapeOf a)) (shapeOf b)) (shapeOf c)) q e in
+    let y = good-before (step (step Fresh (shapeOf a)) (shapeOf b)) (c ∷ q) e in
+    let x = good-before (step Fresh (shapeOf a)) (b ∷ c ∷ q) e in
+    let p = two-due a t x in
+    let l = last-due (shapeOf b) (rw p at y) in
+    last-legal c n (rw (p, l) at z)
+
+module _ (w : World) (s : sound w ≡ true) (n p : ℕ) (hn : n < w .net .nodes) (hp : p < ports) where
+  abbrev rest : List ℕ
+  rest = ring (stretch (w .memory) (place n p)) (w .net .ports n p .counters .head + 3) (w .net .ports n p .counters .held - 3)
+
+  -- the first three tokens
+  front : 3 ≤ w .net .ports n p .counters .held → queue w n p
+      ≡ (wordAt w n p 0 ∷ wordAt w n p 1 ∷ wordAt w n p 2 ∷ rest)
+  front h =
+      let m = stretch (w .memory) (place n p) in
+      let b = w .net .ports n p .counters .head in
+      let k = w .net .ports n p .counters .held in
+      let at : (i : ℕ) → getD m ((b + i) % capacity) 0 ≡ wordAt w n p i = λ i. row-at capacity (place n p) ((b + i) % capacity) (w .memory) 0 (omega arith) in
+      sym (ring-start m b k)
+      ∙ ring-next m b k 0 (omega arith)
+      ∙ ap (λ (q : List ℕ). getD m ((b + 0) % capacity) 0 ∷ q) (ring-next m b k 1 (omega arith) ∙ ap (λ (q : List ℕ). getD m ((b + 1) % capacity) 0 ∷ q) (ring-next m b k 2 (omega arith)))
+      ∙ rw (at 0, at 1, at 2)
+
+  -- the channel that a whole header names is there
+  named-door : hop (w .net) n p ≡ Shut → isThree (wordAt w n p 0) ≡ true → 3 ≤ w .net .ports n p .counters .held → isControl (wordAt w n p 2) ≡ false → Door (valueOf (wordAt w n p 2))
+  named-door e t h c =
+      let f = contents-facts w s n hn p hp in
+      third (wordAt w n p 0) (wordAt w n p 1) (wordAt w n p 2) (rest) (rw (e, front h) at f) t c
+
+-- a destination whose channel is there, or a control unit
+abbrev pub LegalDoor : Target → Type 0
+LegalDoor (T.Channel m c) = Door c
+LegalDoor (T.Unit m) = ℕ
+
+pub legal-target : (w : World) → sound w ≡ true → (n p : ℕ) → n < w .net .nodes → p < ports → hop (w .net) n p ≡ Shut
+    → (isThree (wordAt w n p 0) ≡ true → 3 ≤ w .net .ports n p .counters .held)
+    → LegalDoor (targetAt w n p)
+unfolding readOne readThree
+legal-target w s n p hn hp e whole =
+    by-test (isThree (wordAt w n p 0))
+    (λ t. rw t (by-test (isControl (wordAt w n p 2)) (λ c. rw c 0) (λ c. rw c (named-door w s n p hn hp e t (whole t) c))))
+    (λ t. rw t (inr (omega arith)))
