@@ -50,26 +50,15 @@ pub fn make(lent: &mut Lent, call: &Call) -> Option<Answer> {
         } => aim(lent, slot, channel_end, destination, network),
         Call::Output {
             slot,
-            channel_end: end,
+            channel_end,
             kind,
             value,
-        } => {
-            let (state, memory) = (&mut lent.state, &mut lent.memory);
-            match kind {
-                Kind::Data => raw::output_data(state, memory, slot, end, value),
-                Kind::Control => raw::output_control(state, memory, slot, end, value),
-            }
-        }
+        } => output(lent, slot, channel_end, kind, value),
         Call::Input {
             slot,
-            channel_end: end,
-            kind: Kind::Data,
-        } => raw::input_data(&mut lent.state, &lent.memory, slot, end),
-        Call::Input {
-            slot,
-            channel_end: end,
-            kind: Kind::Control,
-        } => raw::input_control(&mut lent.state, &lent.memory, slot, end),
+            channel_end,
+            kind,
+        } => input(lent, slot, channel_end, kind),
         Call::Step { .. } => return None,
     };
     Some(of_bench(answer))
@@ -89,6 +78,22 @@ fn aim(
             raw::aim_channel(state, memory, slot, end, number, channel, network)
         }
         Destination::Control { number } => raw::aim_unit(state, memory, slot, end, number, network),
+    }
+}
+
+fn output(lent: &mut Lent, slot: usize, end: usize, kind: Kind, value: u8) -> bench::Answer {
+    let (state, memory) = (&mut lent.state, &mut lent.memory);
+    match kind {
+        Kind::Data => raw::output_data(state, memory, slot, end, value),
+        Kind::Control => raw::output_control(state, memory, slot, end, value),
+    }
+}
+
+fn input(lent: &mut Lent, slot: usize, end: usize, kind: Kind) -> bench::Answer {
+    let (state, memory) = (&mut lent.state, &lent.memory);
+    match kind {
+        Kind::Data => raw::input_data(state, memory, slot, end),
+        Kind::Control => raw::input_control(state, memory, slot, end),
     }
 }
 

@@ -2,10 +2,10 @@
 //! script that still has it.
 
 use compare::calls::Apply;
-use compare::pair::{differing, Differing};
+use compare::pair::{self, differing, Differing};
 use compare::reduce::{reduce, report};
 use compare::soak::{fill, run, Found};
-use model::network::Network;
+use model::network::{Claim, Network};
 use model::set::Setting;
 use model::tokens::{Destination, Kind, Token, PAUSE};
 use model::{Answer, Call, No};
@@ -73,6 +73,21 @@ fn grants_by_credit_alone(state: &mut Option<Network>, call: &Call) -> Answer {
     }
 }
 
+/// A channel that a port's circuit claims is taken for free: the answer alone is wrong.
+fn overlooks_claims_by_ports(state: &mut Option<Network>, call: &Call) -> Answer {
+    let answer = model::apply(state, call);
+    let (Call::Output { slot, .. }, Answer::No(No::Full), Some(network)) = (*call, answer, state)
+    else {
+        return answer;
+    };
+    let node = &network.nodes[slot];
+    let receiver = straight_to(node.number, call, &node.channel_ends);
+    match receiver.and_then(|channel| node.channel_ends[channel].claim) {
+        Some(Claim::ByPort(_)) => Answer::Done,
+        _ => answer,
+    }
+}
+
 /// The first run of some seed that differs, by random runs or by runs that fill.
 fn first_differing(apply: Apply) -> Differing {
     let compared = (0..50).flat_map(|seed| [fill(apply, seed, 300), run(apply, seed, 400)]);
@@ -105,15 +120,27 @@ fn a_short_run_is_left() {
     }
 }
 
-/// Tokens get to the far end by Steps, which the library need not have: the model makes them alone.
+/// Tokens get to a far end, and claims by ports about, by Steps, which the library need not have:
+/// the model makes them alone.
 #[test]
 fn a_run_with_steps_is_reduced_too() {
-    let found = first_differing(grants_by_credit_alone);
-    let before = found.calls.len();
-    let reduced = reduce(grants_by_credit_alone, found);
-    is_as_short_as_can_be(grants_by_credit_alone, &reduced.calls);
-    assert!(reduced.calls.len() < before);
-    assert!(reduced.how.contains("granted 64"), "{}", reduced.how);
+    let wrong = [
+        (grants_by_credit_alone as Apply, "the model granted 64"),
+        (
+            overlooks_claims_by_ports,
+            "the library no 10, the model done",
+        ),
+    ];
+    for (apply, expected) in wrong {
+        let found = first_differing(apply);
+        let before = found.calls.len();
+        let reduced = reduce(apply, found);
+        is_as_short_as_can_be(apply, &reduced.calls);
+        let text = pair::script(apply, &reduced.calls);
+        println!("{before} calls, reduced to\n{text}");
+        assert!(reduced.calls.len() < before);
+        assert!(reduced.how.ends_with(expected), "{}", reduced.how);
+    }
 }
 
 /// The script that is left behind is read by the command, whose check names its last line.

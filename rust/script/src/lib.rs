@@ -16,13 +16,13 @@
 
 mod answer;
 mod call;
+mod host;
 mod parse;
 mod play;
-mod session;
 mod words;
 
 pub use answer::{Answer, Opening};
 pub use call::{Call, FORMS};
+pub use host::{Host, Made, NotBuilt, Outcome};
 pub use parse::{parse, Line};
 pub use play::{check, run, Fault};
-pub use session::{Made, NotBuilt, Outcome, Session};

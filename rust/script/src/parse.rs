@@ -4,7 +4,7 @@ use bench::{Cause, Destination, Kind, LinkEnd, Refusal, Setting};
 
 use crate::answer::{Answer, Opening};
 use crate::call::{Call, FORMS};
-use crate::session::Outcome;
+use crate::host::Outcome;
 use crate::words::{expected, Expected, Words};
 
 /// A line that has a call, with what it states of it.

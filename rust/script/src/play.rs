@@ -4,8 +4,8 @@ use std::fmt;
 use std::io;
 
 use crate::call::Call;
+use crate::host::{Host, Made, NotBuilt, Outcome};
 use crate::parse::{parse, Line};
-use crate::session::{Made, NotBuilt, Outcome, Session};
 use crate::words::Expected;
 
 /// Why a script was not run to its end.
@@ -59,9 +59,9 @@ impl std::error::Error for Fault {}
 /// Makes the calls of a script and tells of each as it is made. A bad line is found before any
 /// call is made.
 pub fn run(text: &str, mut tell: impl FnMut(&Made) -> io::Result<()>) -> Result<(), Fault> {
-    let mut session = Session::default();
+    let mut host = Host::default();
     for line in lines(text)? {
-        let made = make(&mut session, line)?;
+        let made = make(&mut host, line)?;
         tell(&made).map_err(Fault::Untold)?;
     }
     Ok(())
@@ -70,10 +70,10 @@ pub fn run(text: &str, mut tell: impl FnMut(&Made) -> io::Result<()>) -> Result<
 /// Makes the calls of a script and compares with what it states. Answers how many calls were
 /// compared, or the first that differs; a call whose line states nothing is made and not compared.
 pub fn check(text: &str, mut tell: impl FnMut(&Made) -> io::Result<()>) -> Result<usize, Fault> {
-    let mut session = Session::default();
+    let mut host = Host::default();
     let mut compared = 0;
     for line in lines(text)? {
-        let made = make(&mut session, line)?;
+        let made = make(&mut host, line)?;
         tell(&made).map_err(Fault::Untold)?;
         compare(line, &made)?;
         compared += usize::from(line.stated.is_some());
@@ -85,8 +85,8 @@ fn lines(text: &str) -> Result<Vec<Line>, Fault> {
     parse(text).map_err(|(line, expected)| Fault::BadLine { line, expected })
 }
 
-fn make(session: &mut Session, line: Line) -> Result<Made, Fault> {
-    let made = session.make(line.number, line.call);
+fn make(host: &mut Host, line: Line) -> Result<Made, Fault> {
+    let made = host.make(line.number, line.call);
     made.map_err(|NotBuilt(call)| Fault::NotBuilt {
         line: line.number,
         call,

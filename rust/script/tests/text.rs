@@ -35,8 +35,7 @@ fn settings_in_words() {
 }
 
 #[test]
-fn other_calls_in_words() {
-    let (slot, channel_end) = (3, 31);
+fn fresh_wire_and_step_in_words() {
     let fresh = Call::Fresh {
         nodes: 2,
         memory_words: 1664,
@@ -47,37 +46,42 @@ fn other_calls_in_words() {
         other: LinkEnd { slot: 2, link: 3 },
     };
     reads("wire 0 1 2 3", wire);
+    reads("step 3 12", Call::Step { slot: 3, port: 12 });
+}
+
+#[test]
+fn aims_in_words() {
     let aim = |destination| Call::Aim {
-        slot,
-        channel_end,
+        slot: 3,
+        channel_end: 31,
         destination,
         network: 2,
     };
     let (number, channel) = (293, 255);
-    reads(
-        "aim 3 31 channel 293 255 2",
-        aim(Destination::Channel { number, channel }),
-    );
-    reads(
-        "aim 3 31 control 293 0 2",
-        aim(Destination::Control { number }),
-    );
-    let (kind, value) = (Kind::Control, 255);
-    let output = Call::Output {
-        slot,
-        channel_end,
-        kind,
-        value,
-    };
-    reads("output 3 31 control 255", output);
-    let kind = Kind::Data;
-    let input = Call::Input {
-        slot,
-        channel_end,
-        kind,
-    };
-    reads("input 3 31 data", input);
-    reads("step 3 12", Call::Step { slot, port: 12 });
+    let to_channel = Destination::Channel { number, channel };
+    reads("aim 3 31 channel 293 255 2", aim(to_channel));
+    let to_control = Destination::Control { number };
+    reads("aim 3 31 control 293 0 2", aim(to_control));
+}
+
+#[test]
+fn outputs_and_inputs_in_words() {
+    let (slot, channel_end, value) = (3, 31, 255);
+    for (word, kind) in [("data", Kind::Data), ("control", Kind::Control)] {
+        let output = Call::Output {
+            slot,
+            channel_end,
+            kind,
+            value,
+        };
+        reads(&format!("output 3 31 {word} 255"), output);
+        let input = Call::Input {
+            slot,
+            channel_end,
+            kind,
+        };
+        reads(&format!("input 3 31 {word}"), input);
+    }
 }
 
 #[test]

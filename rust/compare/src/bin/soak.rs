@@ -20,9 +20,10 @@ stated. The same seed gives the same run.
 Exit status: 0 no difference, 1 a difference, 2 words that are not understood.
 ";
 
-/// Calls of each random run, and of each run that fills buffers.
-const CALLS: usize = 400;
-const FILLING: usize = 800;
+/// Calls of each random run, most of them behind the setting up of its network, and of each run that
+/// fills buffers.
+const CALLS: usize = 1500;
+const FILLING: usize = 1500;
 
 /// How often it says how far it is.
 const EVERY: Duration = Duration::from_secs(10);

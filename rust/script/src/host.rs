@@ -55,14 +55,14 @@ impl Lent {
     }
 }
 
-/// A network under way: none before the first Fresh that succeeds, which is Unsound to every other
-/// call.
+/// The host of a network: it lends its memories to each call. Before the first Fresh that succeeds
+/// they are empty, which is Unsound to every other call.
 #[derive(Clone, Debug, Default)]
-pub struct Session {
+pub struct Host {
     lent: Lent,
 }
 
-impl Session {
+impl Host {
     /// The state, to be looked at.
     pub fn looks(&self) -> Looks<'_> {
         self.lent.looks()
@@ -140,17 +140,10 @@ fn made_on(lent: &mut Lent, call: Call) -> Option<bench::Answer> {
         Call::Hello { slot, link } => raw::hello(state, memory, slot, link),
         Call::Aim {
             slot,
-            channel_end: end,
+            channel_end,
             destination,
             network,
-        } => match destination {
-            Destination::Channel { number, channel } => {
-                raw::aim_channel(state, memory, slot, end, number, channel, network)
-            }
-            Destination::Control { number } => {
-                raw::aim_unit(state, memory, slot, end, number, network)
-            }
-        },
+        } => aim(lent, slot, channel_end, destination, network),
         Call::Output {
             slot,
             channel_end: end,
@@ -170,6 +163,22 @@ fn made_on(lent: &mut Lent, call: Call) -> Option<bench::Answer> {
         },
         Call::Fresh { .. } | Call::Step { .. } => return None,
     })
+}
+
+fn aim(
+    lent: &mut Lent,
+    slot: usize,
+    end: usize,
+    destination: Destination,
+    network: u32,
+) -> bench::Answer {
+    let (state, memory) = (&mut lent.state, &lent.memory);
+    match destination {
+        Destination::Channel { number, channel } => {
+            raw::aim_channel(state, memory, slot, end, number, channel, network)
+        }
+        Destination::Control { number } => raw::aim_unit(state, memory, slot, end, number, network),
+    }
 }
 
 fn set(state: &mut [u32], memory: &[u16], slot: usize, setting: Setting) -> bench::Answer {
