@@ -1,6 +1,6 @@
 //! What a call answers.
 
-use crate::refusal::Refusal;
+use crate::refusal::{Cause, Refusal};
 
 /// An answer of any call. `crates/host/specs/Crossed.antt` says which number stands for it across
 /// C.
@@ -13,6 +13,32 @@ pub enum Answer {
     Granted(u32),
     /// The value of the token that Input took.
     Token(u8),
+    Step(Stepped),
+}
+
+/// What came of a Step.
+#[derive(Clone, Copy, Debug, PartialEq, Eq, Hash)]
+pub enum Stepped {
+    /// The port holds nothing.
+    Idle,
+    /// Nothing can be done now, and nothing is changed.
+    Waiting,
+    /// One token was moved, handed or heard.
+    Moved,
+    Opened(Opening),
+    /// The circuit is refused: its tokens are dropped in later Steps.
+    Refused(Cause),
+    /// One token of a refused circuit was dropped.
+    Dropped(Cause),
+}
+
+/// What a circuit was opened to.
+#[derive(Clone, Copy, Debug, PartialEq, Eq, Hash)]
+pub enum Opening {
+    /// Outward, by this link.
+    Link(usize),
+    Channel,
+    Control,
 }
 
 impl Answer {
@@ -20,11 +46,12 @@ impl Answer {
     /// carries in the lower. None where no answer crosses so.
     ///
     /// ```
-    /// use bench::{Answer, Refusal};
+    /// use bench::{Answer, Refusal, Stepped};
     ///
     /// assert_eq!(Answer::from_crossed(4), Some(Answer::No(Refusal::Busy)));
     /// assert_eq!(Answer::from_crossed(2 << 32 | 64), Some(Answer::Granted(64)));
     /// assert_eq!(Answer::from_crossed(3 << 32 | 255), Some(Answer::Token(255)));
+    /// assert_eq!(Answer::from_crossed(4 << 32), Some(Answer::Step(Stepped::Idle)));
     /// assert_eq!(Answer::from_crossed(0), None);
     /// ```
     pub fn from_crossed(crossed: u64) -> Option<Answer> {
@@ -33,6 +60,22 @@ impl Answer {
             (1, 0) => Some(Answer::Done),
             (2, credit) => Some(Answer::Granted(credit)),
             (3, value) => u8::try_from(value).ok().map(Answer::Token),
+            (case, value) => Stepped::from_parts(case, value).map(Answer::Step),
+        }
+    }
+}
+
+impl Stepped {
+    fn from_parts(case: u32, value: u32) -> Option<Stepped> {
+        match (case, value) {
+            (4, 0) => Some(Stepped::Idle),
+            (5, 0) => Some(Stepped::Waiting),
+            (6, 0) => Some(Stepped::Moved),
+            (7, link) => Some(Stepped::Opened(Opening::Link(link as usize))),
+            (8, 0) => Some(Stepped::Opened(Opening::Channel)),
+            (9, 0) => Some(Stepped::Opened(Opening::Control)),
+            (10, cause) => Cause::from_number(cause).map(Stepped::Refused),
+            (11, cause) => Cause::from_number(cause).map(Stepped::Dropped),
             _ => None,
         }
     }

@@ -22,7 +22,7 @@ mod refusal;
 pub mod sizes;
 mod token;
 
-pub use answer::Answer;
+pub use answer::{Answer, Opening, Stepped};
 pub use clause::Clause;
 pub use looks::Looks;
 pub use network::{Bench, LinkEnd, Setting};

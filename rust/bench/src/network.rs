@@ -1,6 +1,6 @@
 //! A network that owns its two memories.
 
-use crate::answer::Answer;
+use crate::answer::{Answer, Stepped};
 use crate::looks::Looks;
 use crate::raw;
 use crate::records::Destination;
@@ -238,6 +238,31 @@ impl Bench {
             Answer::No(refusal) => Err(refusal),
             Answer::Token(value) => Ok(value),
             other => unreachable!("Input answers with a token, not {other:?}"),
+        }
+    }
+
+    /// One Step of a port: its circuit is opened, refused or made to wait, or one token passes.
+    ///
+    /// ```
+    /// use bench::{Bench, Destination, Kind, Opening, Refusal, Setting, Stepped};
+    ///
+    /// let mut bench = Bench::fresh(1).unwrap();
+    /// bench.set(0, Setting::Number { value: 5 }).unwrap();
+    /// bench.aim(0, 2, Destination::Channel { number: 9, channel: 7 }, 0).unwrap();
+    /// bench.output(0, 2, Kind::Data, 1).unwrap();
+    /// // The header waits in port 8; the node takes the number for which it was made.
+    /// bench.set(0, Setting::Number { value: 9 }).unwrap();
+    /// assert_eq!(bench.step(0, 8), Ok(Stepped::Opened(Opening::Channel)));
+    /// assert_eq!(bench.step(0, 8), Ok(Stepped::Moved));
+    /// assert_eq!(bench.input(0, 7, Kind::Data), Ok(1));
+    /// assert_eq!(bench.step(0, 8), Ok(Stepped::Idle));
+    /// assert_eq!(bench.step(0, 13), Err(Refusal::NoSuch));
+    /// ```
+    pub fn step(&mut self, slot: usize, port: usize) -> Result<Stepped, Refusal> {
+        match raw::step(&mut self.state, &mut self.memory, slot, port) {
+            Answer::No(refusal) => Err(refusal),
+            Answer::Step(stepped) => Ok(stepped),
+            other => unreachable!("Step answers what came of it, not {other:?}"),
         }
     }
 

@@ -118,6 +118,14 @@ extern "C" {
         channel_end: usize,
         value: u8,
     ) -> u64;
+    pub fn tarvelgyo_step(
+        state: *mut u32,
+        words: usize,
+        memory: *mut u16,
+        tokens: usize,
+        slot: usize,
+        port: usize,
+    ) -> u64;
     pub fn tarvelgyo_input_data(
         state: *mut u32,
         words: usize,

@@ -297,6 +297,21 @@ pub fn output_control(
     })
 }
 
+/// Step: one of a port.
+pub fn step(state: &mut [u32], memory: &mut [u16], slot: usize, port: usize) -> Answer {
+    // SAFETY: as said above.
+    answered(unsafe {
+        proved::tarvelgyo_step(
+            state.as_mut_ptr(),
+            state.len(),
+            memory.as_mut_ptr(),
+            memory.len(),
+            slot,
+            port,
+        )
+    })
+}
+
 /// Input: the next token, as data.
 pub fn input_data(state: &mut [u32], memory: &[u16], slot: usize, channel_end: usize) -> Answer {
     // SAFETY: as said above.

@@ -89,3 +89,14 @@ pub enum Cause {
     Split,
     NoRoute,
 }
+
+impl Cause {
+    /// The cause that crossed as this number.
+    pub(crate) fn from_number(number: u32) -> Option<Cause> {
+        match number {
+            0 => Some(Cause::Split),
+            1 => Some(Cause::NoRoute),
+            _ => None,
+        }
+    }
+}

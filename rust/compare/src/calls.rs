@@ -2,10 +2,11 @@
 
 use bench::raw;
 use model::calls::Call;
-use model::network::Network;
+use model::network::{Hop, Network};
 use model::random::Random;
 use model::set::Setting;
 use model::tokens::{Destination, Kind};
+use model::answers::{Cause, Opening};
 use model::{Answer, No};
 
 use crate::difference;
@@ -59,7 +60,8 @@ pub fn make(lent: &mut Lent, call: &Call) -> Option<Answer> {
             channel_end,
             kind,
         } => input(lent, slot, channel_end, kind),
-        Call::Step { .. } => return None,
+        Call::Step { slot, port } if ends_message(lent, slot, port) => return None,
+        Call::Step { slot, port } => raw::step(&mut lent.state, &mut lent.memory, slot, port),
     };
     Some(of_bench(answer))
 }
@@ -143,7 +145,40 @@ fn of_bench(answer: bench::Answer) -> Answer {
         bench::Answer::Done => Answer::Done,
         bench::Answer::Granted(credit) => Answer::Granted(credit as usize),
         bench::Answer::Token(value) => Answer::Token(value),
+        bench::Answer::Step(stepped) => of_step(stepped),
     }
+}
+
+fn of_step(stepped: bench::Stepped) -> Answer {
+    match stepped {
+        bench::Stepped::Idle => Answer::Idle,
+        bench::Stepped::Waiting => Answer::Waiting,
+        bench::Stepped::Moved => Answer::Moved,
+        bench::Stepped::Opened(bench::Opening::Link(link)) => Answer::Opened(Opening::Link(link)),
+        bench::Stepped::Opened(bench::Opening::Channel) => Answer::Opened(Opening::Channel),
+        bench::Stepped::Opened(bench::Opening::Control) => Answer::Opened(Opening::Control),
+        bench::Stepped::Refused(cause) => Answer::Refused(of_cause(cause)),
+        bench::Stepped::Dropped(cause) => Answer::Dropped(of_cause(cause)),
+    }
+}
+
+fn of_cause(cause: bench::Cause) -> Cause {
+    match cause {
+        bench::Cause::Split => Cause::Split,
+        bench::Cause::NoRoute => Cause::NoRoute,
+    }
+}
+
+/// The Step would hand a control unit the END or PAUSE of a message, which the proved bench does
+/// not obey yet.
+fn ends_message(lent: &Lent, slot: usize, port: usize) -> bool {
+    let network = match read(&lent.state, &lent.memory) {
+        Ok(network) => network,
+        Err(_) => return false,
+    };
+    network.port(slot, port).is_ok_and(|port| {
+        port.hop == Some(Hop::Control) && port.tokens.front().is_some_and(|token| token.ends_circuit())
+    })
 }
 
 /// Makes a call on both sides, whose states are the same before it. Says how the answers or the

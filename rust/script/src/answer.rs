@@ -36,6 +36,24 @@ impl From<bench::Answer> for Answer {
             bench::Answer::Done => Answer::Done,
             bench::Answer::Granted(credit) => Answer::Granted(credit),
             bench::Answer::Token(value) => Answer::Token(value),
+            bench::Answer::Step(stepped) => stepped.into(),
+        }
+    }
+}
+
+impl From<bench::Stepped> for Answer {
+    fn from(stepped: bench::Stepped) -> Answer {
+        match stepped {
+            bench::Stepped::Idle => Answer::Idle,
+            bench::Stepped::Waiting => Answer::Waiting,
+            bench::Stepped::Moved => Answer::Moved,
+            bench::Stepped::Opened(bench::Opening::Link(link)) => {
+                Answer::Opened(Opening::Link(link))
+            }
+            bench::Stepped::Opened(bench::Opening::Channel) => Answer::Opened(Opening::Channel),
+            bench::Stepped::Opened(bench::Opening::Control) => Answer::Opened(Opening::Control),
+            bench::Stepped::Refused(cause) => Answer::Refused(cause),
+            bench::Stepped::Dropped(cause) => Answer::Dropped(cause),
         }
     }
 }

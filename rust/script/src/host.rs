@@ -161,7 +161,8 @@ fn made_on(lent: &mut Lent, call: Call) -> Option<bench::Answer> {
             Kind::Data => raw::input_data(state, memory, slot, end),
             Kind::Control => raw::input_control(state, memory, slot, end),
         },
-        Call::Fresh { .. } | Call::Step { .. } => return None,
+        Call::Step { slot, port } => raw::step(state, memory, slot, port),
+        Call::Fresh { .. } => return None,
     })
 }
 
