@@ -1,12 +1,12 @@
 //! The same call made on both sides, and what came of it compared.
 
 use bench::raw;
+use model::answers::{Cause, Opening};
 use model::calls::Call;
 use model::network::{Hop, Network};
 use model::random::Random;
 use model::set::Setting;
 use model::tokens::{Destination, Kind};
-use model::answers::{Cause, Opening};
 use model::{Answer, No};
 
 use crate::difference;
@@ -177,7 +177,11 @@ fn ends_message(lent: &Lent, slot: usize, port: usize) -> bool {
         Err(_) => return false,
     };
     network.port(slot, port).is_ok_and(|port| {
-        port.hop == Some(Hop::Control) && port.tokens.front().is_some_and(|token| token.ends_circuit())
+        port.hop == Some(Hop::Control)
+            && port
+                .tokens
+                .front()
+                .is_some_and(|token| token.ends_circuit())
     })
 }
 
