@@ -247,11 +247,11 @@ impl Bench {
     /// use bench::{Bench, Destination, Kind, Opening, Refusal, Setting, Stepped};
     ///
     /// let mut bench = Bench::fresh(1).unwrap();
-    /// bench.set(0, Setting::Number { value: 5 }).unwrap();
+    /// bench.set(0, Setting::Number(5)).unwrap();
     /// bench.aim(0, 2, Destination::Channel { number: 9, channel: 7 }, 0).unwrap();
     /// bench.output(0, 2, Kind::Data, 1).unwrap();
     /// // The header waits in port 8; the node takes the number for which it was made.
-    /// bench.set(0, Setting::Number { value: 9 }).unwrap();
+    /// bench.set(0, Setting::Number(9)).unwrap();
     /// assert_eq!(bench.step(0, 8), Ok(Stepped::Opened(Opening::Channel)));
     /// assert_eq!(bench.step(0, 8), Ok(Stepped::Moved));
     /// assert_eq!(bench.input(0, 7, Kind::Data), Ok(1));

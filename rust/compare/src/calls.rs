@@ -1,9 +1,9 @@
 //! The same call made on both sides, and what came of it compared.
 
-use bench::raw;
+use bench::{raw, Looks};
 use model::answers::{Cause, Opening};
 use model::calls::Call;
-use model::network::{Hop, Network};
+use model::network::Network;
 use model::random::Random;
 use model::set::Setting;
 use model::tokens::{Destination, Kind};
@@ -60,7 +60,11 @@ pub fn make(lent: &mut Lent, call: &Call) -> Option<Answer> {
             channel_end,
             kind,
         } => input(lent, slot, channel_end, kind),
-        Call::Step { slot, port } if ends_message(lent, slot, port) => return None,
+        Call::Step { slot, port }
+            if Looks::over(&lent.state, &lent.memory).ends_message(slot, port) =>
+        {
+            return None;
+        }
         Call::Step { slot, port } => raw::step(&mut lent.state, &mut lent.memory, slot, port),
     };
     Some(of_bench(answer))
@@ -167,22 +171,6 @@ fn of_cause(cause: bench::Cause) -> Cause {
         bench::Cause::Split => Cause::Split,
         bench::Cause::NoRoute => Cause::NoRoute,
     }
-}
-
-/// The Step would hand a control unit the END or PAUSE of a message, which the proved bench does
-/// not obey yet.
-fn ends_message(lent: &Lent, slot: usize, port: usize) -> bool {
-    let network = match read(&lent.state, &lent.memory) {
-        Ok(network) => network,
-        Err(_) => return false,
-    };
-    network.port(slot, port).is_ok_and(|port| {
-        port.hop == Some(Hop::Control)
-            && port
-                .tokens
-                .front()
-                .is_some_and(|token| token.ends_circuit())
-    })
 }
 
 /// Makes a call on both sides, whose states are the same before it. Says how the answers or the

@@ -12,7 +12,7 @@ pub enum Opening {
     Control,
 }
 
-/// Every answer that the format has words for, those of calls that are not built yet too.
+/// Every answer that the format has words for, those of switch messages too, which are not obeyed yet.
 #[derive(Clone, Copy, Debug, PartialEq, Eq)]
 pub enum Answer {
     No(Refusal),

@@ -161,7 +161,8 @@ fn made_on(lent: &mut Lent, call: Call) -> Option<bench::Answer> {
             Kind::Data => raw::input_data(state, memory, slot, end),
             Kind::Control => raw::input_control(state, memory, slot, end),
         },
-        Call::Step { slot, port } => raw::step(state, memory, slot, port),
+        Call::Step { slot, port } if lent.looks().ends_message(slot, port) => return None,
+        Call::Step { slot, port } => raw::step(&mut lent.state, &mut lent.memory, slot, port),
         Call::Fresh { .. } => return None,
     })
 }

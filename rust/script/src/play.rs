@@ -41,7 +41,10 @@ impl fmt::Display for Fault {
         match self {
             Fault::BadLine { line, expected } => write!(f, "line {line}: {expected}"),
             Fault::NotBuilt { line, call } => {
-                write!(f, "line {line}: {call}: this call is not built yet")
+                write!(
+                    f,
+                    "line {line}: {call}: what a switch message does at its end is not built yet"
+                )
             }
             Fault::Differs {
                 line,
