@@ -1,2 +1,3 @@
 -- Laws of the acts.
 pub mod Pushes
+pub mod Queues

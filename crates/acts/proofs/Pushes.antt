@@ -9,7 +9,7 @@ use Rattle.laws.proofs.Order.{clash}
 use Rattle.laws.proofs.Table.{upd-same}
 use Rattle.names.specs.Size.{endBuffer}
 use Rattle.tokens.specs.Word.{isPause}
-use Rattle.ports.specs.Queue.{capacity, Fair, putCounters}
+use Rattle.ports.specs.Queue.{capacity, Fair, putCounters, takeCounters}
 use Rattle.ports.specs.Memory.{place}
 use Rattle.ports.specs.declared.Counters.{Counters}
 use Rattle.cells.specs.View.{Net}
@@ -17,7 +17,7 @@ use Rattle.cells.specs.World.{World}
 use Rattle.cells.specs.Changes.{countersAs}
 use Rattle.cells.specs.declared.port.Port.{Port}
 use Rattle.cells.specs.declared.end.End.{End}
-use Rattle.acts.specs.Acts.{Room, pushed, Keeps}
+use Rattle.acts.specs.Acts.{Room, pushed, popped, Keeps}
 
 -- room for k is room for less
 pub less : {w : World} {n p : ℕ} (k j : ℕ) → j ≤ k → Room w n p k → Room w n p j
@@ -38,6 +38,10 @@ module _ (w : World) (n p t : ℕ) where
         room = rw (pushed-counters) (omega (arith, r .room));
         reaches = rw (length-set (w .memory) (place n p + (w .net .ports n p .counters .head + w .net .ports n p .counters .held) % capacity) t) (r .reaches);
       }
+
+pub popped-counters : (w : World) (n p : ℕ) → popped w n p .net .ports n p .counters ≡ takeCounters (w .net .ports n p .counters)
+unfolding popped
+popped-counters w n p = ap (λ (k : Port). k .counters) (upd-same (w .net .ports) n p _)
 
 -- .. where the world after the push is known by an equation
 pub room-after : (w z : World) (n p t k : ℕ) → z ≡ pushed w n p t → Room w n p (k + 1) → Room z n p k

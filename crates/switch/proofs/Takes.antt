@@ -8,21 +8,21 @@ use native.Mathlib.Omega.{arith}
 use lib.Dec.{ltb, lit≤}
 use lib.ListN.{length, set, length-set}
 use Rattle.laws.proofs.Order.{by-test}
-use Rattle.laws.proofs.Table.{upd-same, upd-all}
+use Rattle.laws.proofs.Table.{upd-all}
 use Rattle.names.specs.Size.{links}
 use Rattle.tokens.specs.Word.{isThree}
 use Rattle.tokens.specs.declared.header.Width.{Width}
 use Rattle.tokens.specs.declared.header.Width.the-variants.{One, Three}
-use Rattle.ports.specs.Queue.{capacity, Fair, takeCounters}
+use Rattle.ports.specs.Queue.{capacity, Fair}
 use Rattle.ports.specs.Memory.{place}
 use Rattle.cells.specs.View.{Net}
 use Rattle.cells.specs.World.{World, farOf}
 use Rattle.cells.specs.Changes.{creditAs}
-use Rattle.cells.specs.declared.port.Port.{Port}
 use Rattle.cells.specs.declared.link.Link.{Link}
 use Rattle.cells.specs.declared.link.Far.{Far}
 use Rattle.cells.specs.declared.link.Far.the-variants.{Nowhere, At}
 use Rattle.acts.specs.Acts.{Holds, popped, withNet, wordAt}
+use Rattle.acts.proofs.Pushes.{popped-counters}
 use Rattle.grants.specs.Grants.{considered, granted, Leads, Cabled}
 use Rattle.switch.specs.Plan.{sizeOf, markedWidth}
 use Rattle.switch.specs.Step.{consideredAt, grantsUp, Up, took, Takes}
@@ -67,18 +67,14 @@ module _ (s : Net) where
   up-far n p m l = by-test (ltb p links) (λ e. rw e (at-far (farOf (s .links n p)) m l)) (λ e. rw e)
 
 module _ (w : World) (n p : ℕ) where
-  popped-counters : popped w n p .net .ports n p .counters ≡ takeCounters (w .net .ports n p .counters)
-  unfolding popped
-  popped-counters = ap (λ (k : Port). k .counters) (upd-same (w .net .ports) n p _)
-
   popped-holds : (k : ℕ) → Holds w n p (k + 1) → Holds (popped w n p) n p k
   unfolding popped
   popped-holds k r =
       record {
         node = r .node;
         port = r .port;
-        fair = rw (popped-counters) (record { head-in = omega arith; held-in = omega (arith, r .fair .held-in) });
-        held = rw (popped-counters) (omega (arith, r .held));
+        fair = rw (popped-counters w n p) (record { head-in = omega arith; held-in = omega (arith, r .fair .held-in) });
+        held = rw (popped-counters w n p) (omega (arith, r .held));
         reaches = rw (length-set (w .memory) (place n p + w .net .ports n p .counters .head) 0) (r .reaches);
       }
 
