@@ -95,7 +95,7 @@ module _ (s : Net) (n p l x : ℕ) where
   shut-counters m j =
       upd-all (λ a b q. q .counters ≡ s .ports a b .counters) (s .ports) n p (shutPort (s .ports n p)) m j (λ d e. rw (d, e)) (λ o. refl)
 
-  closed-counters : (m j : ℕ) → closesOut s n p l x .ports m j .counters ≡ s .ports m j .counters
+  pub closed-counters : (m j : ℕ) → closesOut s n p l x .ports m j .counters ≡ s .ports m j .counters
   closed-counters m j = by-test (closes x) (λ e. rw e (shut-counters m j)) (λ e. rw e)
 
   closed-room : (v : List ℕ) (m j k : ℕ) → Room (record { net = s; memory = v }) m j k → Room (record { net = closesOut s n p l x; memory = v }) m j k

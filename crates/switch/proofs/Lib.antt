@@ -7,3 +7,4 @@ pub mod Possibles
 pub mod Stepped
 pub mod Routes
 pub mod Frees
+pub mod Moves
