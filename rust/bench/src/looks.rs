@@ -112,6 +112,7 @@ impl<'a> Looks<'a> {
         let is_end = |word| word == END_WORD || word == PAUSE_WORD;
         self.port(slot, port).hop() == Some(Hop::Control)
             && self.port_tokens(slot, port).next().is_some_and(is_end)
+            && self.is_sound()
     }
 
     /// The words of the tokens that a channel-end holds, oldest first.

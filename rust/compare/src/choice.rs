@@ -5,11 +5,11 @@ mod ends;
 pub use ends::any_token;
 
 use model::calls::Call;
-use model::network::{LinkEnd, Network, BITS, LINKS};
+use model::network::{LinkEnd, Network, BITS, LINKS, PORTS};
 use model::random::Random;
 use model::set::Setting;
 
-/// Any call but Step, often of a link or channel-end whose circuits make a difference.
+/// Any call, often of a link or channel-end whose circuits make a difference.
 pub fn any(random: &mut Random, network: Option<&Network>) -> Call {
     let nodes = network.map_or(3, |network| network.nodes.len());
     match random.below(40) {
@@ -22,6 +22,10 @@ pub fn any(random: &mut Random, network: Option<&Network>) -> Call {
             other: any_end(random, nodes),
         },
         3..=14 => any_set(random, network, nodes),
+        15..=20 => Call::Step {
+            slot: below_or_beyond(random, nodes),
+            port: below_or_beyond(random, PORTS),
+        },
         _ => ends::any(random, network),
     }
 }
