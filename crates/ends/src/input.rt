@@ -15,7 +15,7 @@ ghost use Rattle.answers.specs.Out.{out};
 ghost use Rattle.cells.specs.View.{view};
 ghost use Rattle.ends.specs.Input.{isWanted, firstHeld, inputRows, inputValue, tookFirst, input};
 
-// A control token was asked for.
+// The token is of the kind that was asked for.
 fn is_wanted(word: u32, wanted: Wanted) -> bool
     ensures { λ r. ⌜ r ≡ isWanted word wanted ⌝ }
 {

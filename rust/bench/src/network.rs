@@ -243,6 +243,9 @@ impl Bench {
 
     /// One Step of a port: its circuit is opened, refused or made to wait, or one token passes.
     ///
+    /// A switch message is heard and not obeyed yet: where [`Looks::ends_message`] says so, this Step
+    /// answers Moved and frees the control unit, and the paper says more.
+    ///
     /// ```
     /// use bench::{Bench, Destination, Kind, Opening, Refusal, Setting, Stepped};
     ///

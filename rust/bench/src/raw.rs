@@ -297,7 +297,7 @@ pub fn output_control(
     })
 }
 
-/// Step: one of a port.
+/// Step: one of a port. A switch message is heard and not obeyed yet (`Looks::ends_message`).
 pub fn step(state: &mut [u32], memory: &mut [u16], slot: usize, port: usize) -> Answer {
     // SAFETY: as said above.
     answered(unsafe {
