@@ -1,7 +1,8 @@
 -- Room before and after an act. Assumes nothing.
-use Prim.Native.Nat.{ℕ, _+_, _%_, _<_, _≤_}
+use Prim.Native.Nat.{ℕ, suc, _+_, _%_, _<_, _≤_}
 use mathlib.Core.Path.{_≡_, refl, sym, ap, _∙_}
 use mathlib.Core.Bool.{Bool, true, false}
+use mathlib.Core.List.{List, [], _∷_}
 use mathlib.Core.Logic.{⊎-elim}
 use native.Mathlib.Omega.{arith}
 use lib.ListN.{length, set, length-set}
@@ -17,7 +18,7 @@ use Rattle.cells.specs.World.{World}
 use Rattle.cells.specs.Changes.{countersAs}
 use Rattle.cells.specs.declared.port.Port.{Port}
 use Rattle.cells.specs.declared.end.End.{End}
-use Rattle.acts.specs.Acts.{Room, pushed, popped, Keeps}
+use Rattle.acts.specs.Acts.{Room, pushed, pushedAll, popped, Keeps}
 
 -- room for k is room for less
 pub less : {w : World} {n p : ℕ} (k j : ℕ) → j ≤ k → Room w n p k → Room w n p j
@@ -38,6 +39,12 @@ module _ (w : World) (n p t : ℕ) where
         room = rw (pushed-counters) (omega (arith, r .room));
         reaches = rw (length-set (w .memory) (place n p + (w .net .ports n p .counters .head + w .net .ports n p .counters .held) % capacity) t) (r .reaches);
       }
+
+-- .. and after several
+pub room-all : (ts : List ℕ) (w : World) (n p k : ℕ) → Room w n p (length ts + k) → Room (pushedAll w n p ts) n p k
+room-all [] w n p k r = less (0 + k) k (omega arith) r
+room-all (t ∷ ts) w n p k r =
+    room-all ts (pushed w n p t) n p k (room-left w n p t (length ts + k) (less (suc (length ts) + k) (length ts + k + 1) (omega arith) r))
 
 pub popped-counters : (w : World) (n p : ℕ) → popped w n p .net .ports n p .counters ≡ takeCounters (w .net .ports n p .counters)
 unfolding popped

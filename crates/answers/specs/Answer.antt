@@ -4,7 +4,7 @@ use Rattle.names.specs.No.{passes}
 use Rattle.circuits.specs.declared.Cause.{Cause}
 use Rattle.circuits.specs.declared.Cause.the-variants.{Split, NoRoute}
 use Rattle.answers.specs.declared.Answer.{Answer}
-use Rattle.answers.specs.declared.Answer.the-variants.{No, Done, Granted, Token, Idle, Waiting, Moved, OpenedLink, OpenedChannel, OpenedUnit, Refused, Dropped}
+use Rattle.answers.specs.declared.Answer.the-variants.{No, Done, Granted, Token, Idle, Waiting, Moved, OpenedLink, OpenedChannel, OpenedUnit, Refused, Dropped, Malformed, Unheard}
 
 -- "A refused call returns its number": the number for no, and none for every other answer
 abbrev pub numberOf : Answer → ℕ
@@ -20,6 +20,8 @@ numberOf OpenedChannel = passes
 numberOf OpenedUnit = passes
 numberOf (Refused c) = passes
 numberOf (Dropped c) = passes
+numberOf Malformed = passes
+numberOf Unheard = passes
 
 -- which case it is, in the order in which they are listed
 abbrev pub caseOf : Answer → ℕ
@@ -35,6 +37,8 @@ caseOf OpenedChannel = 8
 caseOf OpenedUnit = 9
 caseOf (Refused c) = 10
 caseOf (Dropped c) = 11
+caseOf Malformed = 12
+caseOf Unheard = 13
 
 -- "it has a cause and no number"
 abbrev pub causeOf : Cause → ℕ
@@ -56,3 +60,5 @@ valueOf OpenedChannel = 0
 valueOf OpenedUnit = 0
 valueOf (Refused c) = causeOf c
 valueOf (Dropped c) = causeOf c
+valueOf Malformed = 0
+valueOf Unheard = 0

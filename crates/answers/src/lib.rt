@@ -29,6 +29,10 @@ pub enum Answer {
     Refused(Cause),
     // one token of a refused circuit was dropped
     Dropped(Cause),
+    // a message ended that has no known reply address, or by PAUSE: it is not replied to
+    Malformed,
+    // a message was obeyed, and the node's width can't carry its reply
+    Unheard,
 }
 
 // The paper's number of a refusal, 0 for none.
@@ -48,6 +52,8 @@ pub fn number(a: Answer) -> u8
         Answer::OpenedUnit => 0,
         Answer::Refused(_) => 0,
         Answer::Dropped(_) => 0,
+        Answer::Malformed => 0,
+        Answer::Unheard => 0,
     }
 }
 
@@ -68,6 +74,8 @@ pub fn case_of(a: Answer) -> u32
         Answer::OpenedUnit => 9,
         Answer::Refused(_) => 10,
         Answer::Dropped(_) => 11,
+        Answer::Malformed => 12,
+        Answer::Unheard => 13,
     }
 }
 
@@ -97,5 +105,7 @@ pub fn value_of(a: Answer) -> u32
         Answer::OpenedUnit => 0,
         Answer::Refused(c) => cause_of(c),
         Answer::Dropped(c) => cause_of(c),
+        Answer::Malformed => 0,
+        Answer::Unheard => 0,
     }
 }

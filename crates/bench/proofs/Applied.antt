@@ -17,9 +17,10 @@ use Rattle.cells.proofs.Whole.{whole-state}
 use Rattle.settings.specs.declared.Setting.{Setting}
 use Rattle.settings.specs.declared.Setting.the-variants.{Number, Width, Direction, LinkDirection, Network, Enable, Hello}
 use Rattle.switch.specs.Plan.{planOf}
-use Rattle.switch.specs.Step.{answerOf, performed}
+use Rattle.switch.specs.Step.{performed}
 use Rattle.switch.specs.declared.plan.Plan.{Plan}
 use Rattle.switch.specs.declared.plan.Plan.the-variants.{Idle, Wait, OpenOut, OpenChannel, OpenUnit, Refuse, MoveOut, Hand, Hear, Drop}
+use Rattle.switch.proofs.Stepped.{heard-answers}
 use Rattle.bench.specs.Calls.{Call, Fresh, Wire, Set, Aim, Output, Input, Step, rows, made, apply}
 
 -- "show that two results meeting it are equal": answer, every word of the state, every word of token memory
@@ -32,17 +33,17 @@ one-result w c r q st zt mem nem a b =
     (ap (λ (o : Out World). o .answer) e, whole-state st zt (ap (λ (o : Out World). o .next .net) e), ap (λ (o : Out World). o .next .memory) e)
 
 -- a Step's answer is no refusal of the call
-no-refusal : (x : Plan) → numberOf (answerOf x) ≡ Names.passes
-no-refusal Idle = refl
-no-refusal Wait = refl
-no-refusal (OpenOut l) = refl
-no-refusal (OpenChannel c t) = refl
-no-refusal OpenUnit = refl
-no-refusal (Refuse x) = refl
-no-refusal (MoveOut l) = refl
-no-refusal (Hand c t) = refl
-no-refusal Hear = refl
-no-refusal (Drop x) = refl
+no-refusal : (w : World) (n p : ℕ) (x : Plan) → numberOf (performed w n p x .answer) ≡ Names.passes
+no-refusal w n p Idle = refl
+no-refusal w n p Wait = refl
+no-refusal w n p (OpenOut l) = refl
+no-refusal w n p (OpenChannel c t) = refl
+no-refusal w n p OpenUnit = refl
+no-refusal w n p (Refuse x) = refl
+no-refusal w n p (MoveOut l) = refl
+no-refusal w n p (Hand c t) = refl
+no-refusal w n p Hear = heard-answers (λ a. numberOf a ≡ Names.passes) refl refl refl w n p
+no-refusal w n p (Drop x) = refl
 
 -- what a call makes is no refusal
 passing : (w : World) (c : Call) → numberOf (made w c .answer) ≡ Names.passes
@@ -58,7 +59,7 @@ passing w (Set a (Hello l)) = refl
 passing w (Aim a c g v) = refl
 passing w (Output a c x) = refl
 passing w (Input a c k) = refl
-passing w (Step a p) = no-refusal (planOf w (a .0) p)
+passing w (Step a p) = no-refusal w (a .0) p (planOf w (a .0) p)
 
 -- no call has two rows of one number
 once : (w : World) (c : Call) → distinct (rows w c) ≡ true

@@ -12,9 +12,10 @@ use Rattle.answers.specs.declared.Answer.{Answer}
 use Rattle.answers.specs.declared.Answer.the-variants as A
 use Rattle.cells.specs.World.{World}
 use Rattle.switch.specs.Plan.{planOf}
-use Rattle.switch.specs.Step.{answerOf, performed}
+use Rattle.switch.specs.Step.{performed}
 use Rattle.switch.specs.declared.plan.Plan.{Plan}
 use Rattle.switch.specs.declared.plan.Plan.the-variants.{Idle, Wait, OpenOut, OpenChannel, OpenUnit, Refuse, MoveOut, Hand, Hear, Drop}
+use Rattle.switch.proofs.Stepped.{heard-answers}
 use Rattle.bench.specs.Calls.{Step, rows, made, apply}
 
 -- Idle and Waiting, of all answers
@@ -31,9 +32,11 @@ still A.OpenedChannel = false
 still A.OpenedUnit = false
 still (A.Refused c) = false
 still (A.Dropped c) = false
+still A.Malformed = false
+still A.Unheard = false
 
 module _ (w : World) (n p : ℕ) where
-  plan-still : (x : Plan) → still (answerOf x) ≡ true → performed w n p x ≡ w
+  plan-still : (x : Plan) → still (performed w n p x .answer) ≡ true → performed w n p x .next ≡ w
   plan-still Idle e = refl
   plan-still Wait e = refl
   plan-still (OpenOut l) e = clash (sym e)
@@ -42,7 +45,7 @@ module _ (w : World) (n p : ℕ) where
   plan-still (Refuse x) e = clash (sym e)
   plan-still (MoveOut l) e = clash (sym e)
   plan-still (Hand c t) e = clash (sym e)
-  plan-still Hear e = clash (sym e)
+  plan-still Hear e = clash (sym e ∙ heard-answers (λ a. still a ≡ false) refl refl refl w n p)
   plan-still (Drop x) e = clash (sym e)
 
 pub waits-change-nothing : (w : World) (a : Slot) (p : ℕ) → still (apply w (Step a p) .answer) ≡ true → apply w (Step a p) .next ≡ w

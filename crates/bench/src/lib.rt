@@ -71,7 +71,7 @@ pub fn input(st: &mut [u32], mem: &[u16], slot: Slot, c: usize, wanted: Wanted) 
     ends::input::input(st, slot, c, wanted)
 }
 
-// One Step of a node's port. A control unit hears a switch message and does not obey it yet.
+// One Step of a node's port. A control unit obeys a switch message, and replies to it, at its end.
 pub fn step(st: &mut [u32], mem: &mut [u16], slot: Slot, p: usize) -> Answer
     ensures { λ r. ⌜ out r (world (now (st .exit)) (now (mem .exit))) ≡ apply (world (now (st .entry)) (now (mem .entry))) (Step slot p) ⌝ }
 {

@@ -3,6 +3,7 @@ use Prim.Native.Nat.{ℕ, _+_}
 use mathlib.Core.List.{List, [], _∷_}
 use lib.ListN.{getD}
 use Rattle.laws.specs.Row.{tab}
+use Rattle.names.specs.Size.{unitBuffer}
 use Rattle.cells.specs.declared.node.Node.{Node}
 use Rattle.cells.specs.declared.link.Link.{Link}
 use Rattle.cells.specs.declared.port.Port.{Port}
@@ -87,8 +88,8 @@ toUnit r =
     record {
       serves = record { kind = getD r 0 0; index = getD r 1 0 };
       heard = getD r 2 0;
-      tokens = tab 11 (λ i. getD r (3 + i) 0);
+      tokens = tab unitBuffer (λ i. getD r (3 + i) 0);
     }
 
 abbrev pub fromUnit : Unit → List ℕ
-fromUnit k = k .serves .kind ∷ k .serves .index ∷ k .heard ∷ tab 11 (λ i. getD (k .tokens) i 0)
+fromUnit k = k .serves .kind ∷ k .serves .index ∷ k .heard ∷ tab unitBuffer (λ i. getD (k .tokens) i 0)

@@ -16,7 +16,7 @@ pub struct Unit {
     // the port that it listens to
     pub serves: Circuit,
     pub heard: u32,
-    // what it has heard of a message; eleven tokens decide every one
+    // what it has heard of a message, as far as it keeps it
     pub tokens: [u32; 11],
 }
 

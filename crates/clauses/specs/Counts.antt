@@ -4,7 +4,7 @@
 use Prim.Native.Nat.{ℕ}
 use mathlib.Core.Bool.{Bool, not, _&&_, _||_}
 use lib.Dec.{eqb, ltb, leb}
-use Rattle.names.specs.Size.{links, replyPort, endBuffer, networks, directions}
+use Rattle.names.specs.Size.{links, replyPort, endBuffer, unitBuffer, networks, directions}
 use Rattle.circuits.specs.Circuit.{legalPeer, legalHopKind}
 use Rattle.circuits.specs.declared.Circuit.{Circuit}
 use Rattle.ports.specs.Queue.{capacity}
@@ -72,6 +72,6 @@ aimCounts k =
 abbrev pub endCounts : End → Bool
 endCounts k = aimCounts k && (legalPeer (k .sending) && (legalPeer (k .claim) && leb (k .held) endBuffer))
 
--- what a control unit has heard of a message, while it listens: eleven tokens decide what becomes of it
+-- what a control unit has kept of a message, while it listens
 abbrev pub unitCounts : Unit → Bool
-unitCounts k = byPort (k .serves) && (eqb (k .serves .kind) 0 || leb (k .heard) 11)
+unitCounts k = byPort (k .serves) && (eqb (k .serves .kind) 0 || leb (k .heard) unitBuffer)

@@ -12,6 +12,7 @@ use names::size::LINKS;
 use names::size::NETWORKS;
 use names::size::REPLY_PORT;
 use names::size::SINK;
+use names::size::UNIT_BUFFER;
 use ports::Counters;
 ghost use mathlib.Core.Path.{_≡_};
 ghost use Rattle.clauses.specs.Counts.{nodeCounts, linkCounts, portNetwork, portCounts, tileCounts, endCounts, unitCounts, aimCounts};
@@ -78,5 +79,5 @@ pub fn end_counts(k: End) -> bool
 pub fn unit_counts(k: Unit) -> bool
     ensures { λ r. ⌜ r ≡ unitCounts k ⌝ }
 {
-    (k.serves.kind <= 1) & ((k.serves.kind == 0) | (k.heard <= 11))
+    (k.serves.kind <= 1) & ((k.serves.kind == 0) | (k.heard <= UNIT_BUFFER))
 }

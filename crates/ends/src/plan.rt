@@ -14,13 +14,12 @@ use names::size::SINK;
 use ports::Counters;
 use routing::way::Way;
 use routing::way::way_to;
-use tokens::header::Header;
 use tokens::header::Target;
+use tokens::header::is_narrow;
 use tokens::header::make_header;
 use tokens::word::is_pause;
 ghost use mathlib.Core.Path.{_≡_};
 ghost use Prim.Native.Nat.{_<_};
-ghost use Rattle.tokens.specs.Header.{isNarrow};
 ghost use Rattle.cells.specs.View.{view};
 ghost use Rattle.ends.specs.Plan.{lowestFree, straightPlan, channelPlan, portPlan, targetPlan, openPlan, behindPlan, onPlan, planOf};
 
@@ -102,16 +101,6 @@ fn target_plan(st: &[u32], slot: Slot, g: Target, word: u16) -> Plan
             Way::OtherNode(_) => port_plan(st, slot),
         },
         Target::Unit(_) => port_plan(st, slot),
-    }
-}
-
-fn is_narrow(h: Header) -> bool
-    ensures { λ r. ⌜ r ≡ isNarrow h ⌝ }
-{
-    match h {
-        Header::Narrow => true,
-        Header::One(_) => false,
-        Header::Three(_, _, _) => false,
     }
 }
 

@@ -28,6 +28,10 @@ ends = 32
 abbrev pub endBuffer : ℕ
 endBuffer = 8
 
+-- what a control unit keeps of a message (bench): a whole write has ten tokens before its END, so one more is one too many
+abbrev pub unitBuffer : ℕ
+unitBuffer = 11
+
 -- "Channel 255 is the sink: it takes and forgets"
 abbrev pub sink : ℕ
 sink = 255

@@ -22,6 +22,9 @@ pub const ENDS: usize = 32;
 // Tokens that a channel-end holds, at most.
 pub const END_BUFFER: usize = 8;
 
+// Tokens of a message that a control unit keeps, at most: one more than any whole message has.
+pub const UNIT_BUFFER: u32 = 11;
+
 // The channel that takes and forgets.
 pub const SINK: u32 = 255;
 

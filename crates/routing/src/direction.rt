@@ -11,7 +11,7 @@ pub struct Directions {
 }
 
 // Four bits of a register, from bit 4i on.
-fn field(reg: u32, i: u32) -> u32
+pub fn field(reg: u32, i: u32) -> u32
     requires { ⌜ i < 8 ⌝ }
     ensures { λ r. ⌜ r ≡ field reg i ⌝ }
 {

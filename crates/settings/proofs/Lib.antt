@@ -1,2 +1,3 @@
 -- Laws of Wire and Set.
 pub mod Passed
+pub mod Leaves

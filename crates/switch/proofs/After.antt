@@ -12,7 +12,7 @@ use lib.ListN.{length, set, length-set}
 use Rattle.laws.specs.Table.{upd}
 use Rattle.laws.proofs.Order.{by-test}
 use Rattle.laws.proofs.Table.{upd-same, upd-all}
-use Rattle.names.specs.Size.{links, ports, sink, ends}
+use Rattle.names.specs.Size.{links, ports, replyPort, sink, ends}
 use Rattle.circuits.specs.Circuit.{ofPeer, ofHop, tileOf}
 use Rattle.circuits.specs.declared.Hop.{Hop}
 use Rattle.circuits.specs.declared.Hop.the-variants as Hops
@@ -30,7 +30,11 @@ use Rattle.cells.specs.declared.link.Far.{Far}
 use Rattle.cells.specs.declared.link.Far.the-variants.{Nowhere, At}
 use Rattle.acts.specs.Acts.{Room, Holds, pushed, popped, withNet, firstAt, hopped, shutPort, shut, Keeps}
 use Rattle.grants.specs.Grants.{considered}
-use Rattle.switch.specs.Step.{consideredAt, grantsUp, took, closesOut, paid, arrives, crosses, movesOut, gives, Given, Door, FarRoom, Takes, opensChannel, opensUnit}
+use Rattle.answers.specs.Out.{Out, out}
+use Rattle.answers.specs.declared.Answer.the-variants.{Moved}
+use Rattle.messages.specs.Heard.{listens}
+use Rattle.messages.specs.Ended.{longest, Ready, ended}
+use Rattle.switch.specs.Step.{consideredAt, grantsUp, took, closesOut, closesUnit, paid, arrives, crosses, movesOut, gives, Given, hears, Door, FarRoom, Takes, opensChannel, opensUnit}
 use Rattle.switch.proofs.Takes.{up-nodes, up-ports, up-far}
 
 -- counters of a port that can take k more tokens
@@ -79,6 +83,10 @@ module _ (w : World) (n p : ℕ) where
         reaches = rw (length-set (w .memory) (place n p + w .net .ports n p .counters .head) 0) (r .reaches);
       }
 
+shut-counters : (s : Net) (n p m j : ℕ) → shut s n p .ports m j .counters ≡ s .ports m j .counters
+shut-counters s n p m j =
+    upd-all (λ a b q. q .counters ≡ s .ports a b .counters) (s .ports) n p (shutPort (s .ports n p)) m j (λ d e. rw (d, e)) (λ o. refl)
+
 -- A hop that closes leaves the number of nodes, where cables lead and what ports hold
 module _ (s : Net) (n p l x : ℕ) where
   closed-nodes : closesOut s n p l x .nodes ≡ s .nodes
@@ -91,12 +99,8 @@ module _ (s : Net) (n p l x : ℕ) where
   closed-far : (m j : ℕ) → farOf (closesOut s n p l x .links m j) ≡ farOf (s .links m j)
   closed-far m j = by-test (closes x) (λ e. rw e (freed-far m j)) (λ e. rw e)
 
-  shut-counters : (m j : ℕ) → shut s n p .ports m j .counters ≡ s .ports m j .counters
-  shut-counters m j =
-      upd-all (λ a b q. q .counters ≡ s .ports a b .counters) (s .ports) n p (shutPort (s .ports n p)) m j (λ d e. rw (d, e)) (λ o. refl)
-
   pub closed-counters : (m j : ℕ) → closesOut s n p l x .ports m j .counters ≡ s .ports m j .counters
-  closed-counters m j = by-test (closes x) (λ e. rw e (shut-counters m j)) (λ e. rw e)
+  closed-counters m j = by-test (closes x) (λ e. rw e (shut-counters s n p m j)) (λ e. rw e)
 
   closed-room : (v : List ℕ) (m j k : ℕ) → Room (record { net = s; memory = v }) m j k → Room (record { net = closesOut s n p l x; memory = v }) m j k
   closed-room v m j k r =
@@ -134,6 +138,32 @@ module _ (w : World) (s : Net) (m : List ℕ) (n p : ℕ) (e : record { net = s;
 
   pub closed-after : (l x : ℕ) → n < w .net .nodes → n < closesOut s n p l x .nodes
   closed-after l x h = rw (closed-nodes s n p l x) (node-after h)
+
+  -- what a message's end asks for is there before its last token is taken
+  pub ready-after : (z : Net) → z ≡ closesUnit s n p → Holds w n p 1 → Ready w n → Ready (record { net = z; memory = m }) n
+  ready-after z q h r =
+      let x : Room (record { net = s; memory = m }) n replyPort longest = rw e (took-room w n p n replyPort longest h (r .room)) in
+      rw q (
+      record {
+        room =
+            record {
+              node = x .node;
+              port = x .port;
+              fair = rw (shut-counters s n p n replyPort) (x .fair);
+              room = rw (shut-counters s n p n replyPort) (x .room);
+              reaches = x .reaches;
+            };
+        cabled = λ a l ha hl. rw (net-is, took-nodes w n p, took-far w n p a l) (r .cabled a l (rw (net-is, took-nodes w n p) at ha) hl);
+      }
+      )
+
+  -- a token that a control unit hears: the last of a message, and any other
+  pub hears-end : (z : Net) (o : Out World) (x : ℕ) → x ≡ firstAt w n p → closes x ≡ true → z ≡ closesUnit s n p → o ≡ ended (record { net = z; memory = m }) n x → o ≡ hears w n p
+  hears-end z o x q f h g =
+      rw (ap closes (sym q) ∙ f) (g ∙ ap (λ (v : World). ended v n x) (after-took z x (λ y t. closesUnit y n p) q h) ∙ ap (ended (withNet (took w n p) (closesUnit (took w n p .net) n p)) n) q)
+
+  pub hears-more : (z : Net) (x : ℕ) → x ≡ firstAt w n p → closes x ≡ false → z ≡ listens s n x → out Moved (record { net = z; memory = m }) ≡ hears w n p
+  hears-more z x q f h = rw (ap closes (sym q) ∙ f) (ap (out Moved) (after-took z x (λ y t. listens y n t) q h))
 
 -- A token that crosses
 arrival-nodes : (w : World) (f : Far) (x : ℕ) → arrives w f x .net .nodes ≡ w .net .nodes

@@ -19,20 +19,21 @@ use Rattle.cells.specs.declared.unit.Unit.{Unit}
 use Rattle.acts.specs.Acts.{shut}
 use Rattle.switch.specs.Step.{closesOut, closesChannel, closesUnit, closesDropped}
 
-module _ (s : Net) (n p x : ℕ) (e : closes x ≡ true) where
+module _ (s : Net) (n p : ℕ) where
   shut-hop : hop (shut s n p) n p ≡ Shut
   shut-hop = ap (λ (k : Port). hopOf (k .circuit) (k .tile)) (upd-same (s .ports) n p _)
 
+  pub unit-frees : (hop (closesUnit s n p) n p ≡ Shut) × (closesUnit s n p .units n 0 .serves ≡ ofPeer Nobody)
+  unit-frees = (shut-hop, ap (λ (k : Unit). k .serves) (upd-same (s .units) n 0 _))
+
+module _ (s : Net) (n p x : ℕ) (e : closes x ≡ true) where
   pub out-frees : (l : ℕ) → (hop (closesOut s n p l x) n p ≡ Shut) × (closesOut s n p l x .links n l .user ≡ ofPeer Nobody)
-  out-frees l = (rw e shut-hop, rw e (ap (λ (k : Link). k .user) (upd-same (s .links) n l _)))
+  out-frees l = (rw e (shut-hop s n p), rw e (ap (λ (k : Link). k .user) (upd-same (s .links) n l _)))
 
   pub channel-frees : (c t : ℕ) → eqb c sink ≡ false
       → (hop (closesChannel s n p c t x) n p ≡ Shut) × (closesChannel s n p c t x .tiles n t .user ≡ ofPeer Nobody) × (closesChannel s n p c t x .ends n c .claim ≡ ofPeer Nobody)
   channel-frees c t q =
-      (rw (e, q) shut-hop, rw (e, q) (ap (λ (k : Tile). k .user) (upd-same (s .tiles) n t _)), rw (e, q) (ap (λ (k : End). k .claim) (upd-same (s .ends) n c _)))
-
-  pub unit-frees : (hop (closesUnit s n p x) n p ≡ Shut) × (closesUnit s n p x .units n 0 .serves ≡ ofPeer Nobody)
-  unit-frees = (rw e shut-hop, rw e (ap (λ (k : Unit). k .serves) (upd-same (s .units) n 0 _)))
+      (rw (e, q) (shut-hop s n p), rw (e, q) (ap (λ (k : Tile). k .user) (upd-same (s .tiles) n t _)), rw (e, q) (ap (λ (k : End). k .claim) (upd-same (s .ends) n c _)))
 
   pub dropped-frees : hop (closesDropped s n p x) n p ≡ Shut
-  dropped-frees = rw e shut-hop
+  dropped-frees = rw e (shut-hop s n p)

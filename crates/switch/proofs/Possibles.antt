@@ -10,15 +10,17 @@ use lib.ListN.{getD}
 use borrow.Author.Tests.{eqb-true, eqb-false, eq-eqb, ltb-true, ltb-false, leb-false, not-true, not-false}
 use Rattle.laws.specs.Pick.{pick}
 use Rattle.laws.proofs.All.{Sought, fails, passes, seek}
-use Rattle.laws.proofs.Order.{by-test, clash}
+use Rattle.laws.proofs.Order.{by-test, clash, never}
 use Rattle.names.specs.Size.{links, ports, replyPort, tileLinks, ends, endBuffer, sink}
 use Rattle.names.specs.declared.Slot.{Slot}
+use Rattle.circuits.specs.Circuit.{peerOf}
+use Rattle.circuits.specs.declared.Circuit.{Circuit}
 use Rattle.circuits.specs.declared.Cause.{Cause}
 use Rattle.circuits.specs.declared.Hop.{Hop}
 use Rattle.circuits.specs.declared.Hop.the-variants as Hops
 use Rattle.tokens.specs.Word.{isThree, isPause}
 use Rattle.tokens.specs.declared.header.Width.{Width}
-use Rattle.tokens.specs.declared.header.Width.the-variants.{One, Three}
+use Rattle.tokens.specs.declared.header.Width.the-variants as Widths
 use Rattle.tokens.specs.declared.header.Target.{Target}
 use Rattle.tokens.specs.declared.header.Target.the-variants.{Channel, Unit}
 use Rattle.routing.specs.Way.{wayTo}
@@ -30,10 +32,13 @@ use Rattle.ports.specs.Memory.{place}
 use Rattle.cells.specs.World.{World, farOf, hop}
 use Rattle.cells.specs.declared.link.Far.{Far}
 use Rattle.cells.specs.declared.link.Far.the-variants.{Nowhere, At}
-use Rattle.clauses.specs.declared.pairs.Role.the-variants.{PortLink, PortTile, PortClaim}
+use Rattle.clauses.specs.declared.pairs.Role.the-variants.{PortLink, PortTile, PortUnit, PortClaim}
+use Rattle.clauses.specs.declared.pairs.Named.the-variants.{Nothing, One}
+use Rattle.clauses.specs.Pairs.{portOf}
 use Rattle.acts.specs.Acts.{widthAt, numberAt, wordAt, firstAt, Room, Holds, Keeps}
+use Rattle.messages.specs.Ended.{Ready}
 use Rattle.sound.specs.Sound.{sound}
-use Rattle.sound.proofs.Facts.{fair, reaches, cable-facts, room-facts, pair-facts}
+use Rattle.sound.proofs.Facts.{fair, reaches, cable-facts, room-facts, pair-facts, silent-facts}
 use Rattle.switch.specs.Plan.{markedWidth, sizeOf, sameWidth, targetAt, networkAt, lowestLink, routePlan, lowestTile, tileUsed, channelPlan, unitPlan, herePlan, numberIn, byWay, wayPlan, headerPlan, outPlan, handPlan, byHop, planOf}
 use Rattle.switch.specs.Step.{Takes, Door, Given, FarRoom, Possible}
 use Rattle.switch.proofs.Takes.{holds-whole}
@@ -41,10 +46,10 @@ use Rattle.switch.proofs.Legal.{LegalDoor, legal-target}
 use Rattle.switch.proofs.Cabled.{cabled}
 
 same-size : (a b : Width) → sameWidth a b ≡ true → a ≡ b
-same-size One One e = refl
-same-size One Three e = clash (sym e)
-same-size Three One e = clash (sym e)
-same-size Three Three e = refl
+same-size Widths.One Widths.One e = refl
+same-size Widths.One Widths.Three e = clash (sym e)
+same-size Widths.Three Widths.One e = clash (sym e)
+same-size Widths.Three Widths.Three e = refl
 
 module _ (w : World) (s : sound w ≡ true) (n p : ℕ) (hn : n < w .net .nodes) (hp : p < ports) where
   pub holds : (k : ℕ) → k ≤ w .net .ports n p .counters .held → Holds w n p k
@@ -152,11 +157,34 @@ module _ (w : World) (s : sound w ≡ true) (n p : ℕ) (hn : n < w .net .nodes)
       given : (not (eqb c sink) && (leb endBuffer (w .net .ends n c .held) && not (isPause (wordAt w n p 0)))) ≡ false → Given (w .net) n c (wordAt w n p 0)
       given f = by-test (eqb c sink) (λ k. inl (eqb-true c sink k)) (λ k. keeps k (rw k at f))
 
+  -- to the control unit: port 12 is empty
+  no-reply : hop (w .net) n p ≡ Hops.Unit → w .net .ports n replyPort .counters .held ≡ 0
+  no-reply e =
+      let named = pair-facts w s n hn PortUnit p hp 0 (rw e) .1 in
+      ⊎-elim (λ k. absurd (served (w .net .units n 0 .serves) k named)) (λ h. h) (silent-facts w s n hn)
+    where
+      served : (k : Circuit) → k .kind ≡ 0 → portOf (peerOf k) ≡ One p → ⊥
+      served k q h = let z : Nothing ≡ One p = rw q at h in never (cc)
+
+  message-ready : hop (w .net) n p ≡ Hops.Unit → Ready w n
+  message-ready e =
+      record {
+        room =
+            record {
+              node = hn;
+              port = lit≤ tt;
+              fair = fair w s n hn replyPort (lit≤ tt);
+              room = rw (no-reply e) (lit≤ tt);
+              reaches = reaches w s n hn replyPort (lit≤ tt);
+            };
+        cabled = cabled w s;
+      }
+
   hop-possible : (h : Hop) → hop (w .net) n p ≡ h → 1 ≤ w .net .ports n p .counters .held → Possible w n p (byHop w n p h)
   hop-possible Hops.Shut e k = header-possible e
   hop-possible (Hops.Out l) e k = out-possible l k e
   hop-possible (Hops.Channel c t) e k = hand-possible c t k e
-  hop-possible Hops.Unit e k = takes 1 k
+  hop-possible Hops.Unit e k = (takes 1 k, message-ready e)
   hop-possible (Hops.Dropped x) e k = takes 1 k
 
   pub plan-possible : Possible w n p (planOf w n p)

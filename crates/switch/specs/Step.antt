@@ -10,6 +10,7 @@ use lib.ListN.{length, set}
 use Rattle.laws.specs.Pick.{pick}
 use Rattle.names.specs.Size.{links, ports, tileLinks, ends, sink}
 use Rattle.circuits.specs.Circuit.{ofPeer}
+use Rattle.circuits.specs.declared.Peer.{Peer}
 use Rattle.circuits.specs.declared.Peer.the-variants as Peers
 use Rattle.circuits.specs.declared.Hop.the-variants as Hops
 use Rattle.tokens.specs.Word.{closes}
@@ -22,13 +23,13 @@ use Rattle.cells.specs.World.{World, farOf}
 use Rattle.cells.specs.Changes.{creditAs, servesAs, heardAs}
 use Rattle.cells.specs.declared.link.Far.{Far}
 use Rattle.cells.specs.declared.link.Far.the-variants.{Nowhere, At}
-use Rattle.cells.specs.declared.unit.Unit as Units
 use Rattle.acts.specs.Acts.{withNet, widthAt, Room, pushed, Holds, firstAt, popped, hopped, shut, linkedTo, tiledTo, claimedBy, kept, Keeps}
 use Rattle.grants.specs.Grants.{considered, Cabled}
+use Rattle.messages.specs.Heard.{listens}
+use Rattle.messages.specs.Ended.{ended, Ready}
 use Rattle.names.specs.No.{NoSuch}
 use Rattle.answers.specs.Rows.{Row, row}
 use Rattle.answers.specs.Out.{Out, out, attempt}
-use Rattle.answers.specs.declared.Answer.{Answer}
 use Rattle.answers.specs.declared.Answer.the-variants as Answers
 use Rattle.switch.specs.Plan.{sizeOf, planOf}
 use Rattle.switch.specs.declared.plan.Plan.{Plan}
@@ -59,12 +60,13 @@ stripped w n p Three = took (took (took w n p) n p) n p
 abbrev pub opensOut : Net → ℕ → ℕ → ℕ → Net
 opensOut s n p l = linkedTo (hopped s n p (Hops.Out l)) n l (Peers.Port p)
 
--- "the channel is claimed (the sink never is)"
-abbrev pub claims : Net → ℕ → ℕ → ℕ → Net
-claims s n c p = pick (eqb c sink) s (claimedBy s n c (Peers.Port p))
+-- who a channel is claimed by: "the sink never is"
+abbrev pub claimedFor : Net → ℕ → ℕ → Peer → Net
+claimedFor s n c x = pick (eqb c sink) s (claimedBy s n c x)
 
 abbrev pub opensChannel : Net → ℕ → ℕ → ℕ → ℕ → Net
-opensChannel s n p c t = claims (tiledTo (hopped s n p (Hops.Channel c t)) n t (Peers.Port p)) n c p
+opensChannel s n p c t =
+    claimedFor (tiledTo (hopped s n p (Hops.Channel c t)) n t (Peers.Port p)) n c (Peers.Port p)
 
 -- the control unit serves this port, and has heard nothing of its message
 abbrev pub serves : Net → ℕ → ℕ → Net
@@ -77,17 +79,14 @@ opensUnit s n p = serves (hopped s n p Hops.Unit) n p
 abbrev pub closesOut : Net → ℕ → ℕ → ℕ → ℕ → Net
 closesOut s n p l x = pick (closes x) (linkedTo (shut s n p) n l Peers.Nobody) s
 
-abbrev pub freesClaim : Net → ℕ → ℕ → Net
-freesClaim s n c = pick (eqb c sink) s (claimedBy s n c Peers.Nobody)
-
 abbrev pub closesChannel : Net → ℕ → ℕ → ℕ → ℕ → ℕ → Net
-closesChannel s n p c t x = pick (closes x) (freesClaim (tiledTo (shut s n p) n t Peers.Nobody) n c) s
+closesChannel s n p c t x = pick (closes x) (claimedFor (tiledTo (shut s n p) n t Peers.Nobody) n c Peers.Nobody) s
 
 abbrev pub idle : Net → ℕ → Net
 idle s n = withUnit s n (servesAs (s .units n 0) (ofPeer Peers.Nobody))
 
-abbrev pub closesUnit : Net → ℕ → ℕ → ℕ → Net
-closesUnit s n p x = pick (closes x) (idle (shut s n p) n) s
+abbrev pub closesUnit : Net → ℕ → ℕ → Net
+closesUnit s n p = idle (shut s n p) n
 
 abbrev pub closesDropped : Net → ℕ → ℕ → ℕ → Net
 closesDropped s n p x = pick (closes x) (shut s n p) s
@@ -119,30 +118,32 @@ abbrev pub hands : World → ℕ → ℕ → ℕ → ℕ → World
 hands w n p c t =
     withNet (took w n p) (closesChannel (gives (took w n p .net) n c (firstAt w n p)) n p c t (firstAt w n p))
 
--- a control unit hears a token: eleven decide what becomes of a message, and no more are kept
-abbrev pub hearsWord : Units.Unit → ℕ → Units.Unit
-hearsWord k x = pick (ltb (k .heard) 11) (heardAs k (k .heard + 1) (set (k .tokens) (k .heard) x)) k
-
-abbrev pub hears : World → ℕ → ℕ → World
+-- "To the control unit: Moved, but for the two end answers": "The hop closes first, with any grant that the taking of its last token brings",
+-- and then the message is at its end
+abbrev pub hears : World → ℕ → ℕ → Out World
 hears w n p =
-    withNet (took w n p)
-    (closesUnit (withUnit (took w n p .net) n (hearsWord (took w n p .net .units n 0) (firstAt w n p))) n p (firstAt w n p))
+    pick (closes (firstAt w n p))
+    (ended (withNet (took w n p) (closesUnit (took w n p .net) n p)) n (firstAt w n p))
+    (out Answers.Moved (withNet (took w n p) (listens (took w n p .net) n (firstAt w n p))))
 
 -- "Refused circuits: Dropped, with the cause."
 abbrev pub drops : World → ℕ → ℕ → World
 drops w n p = withNet (took w n p) (closesDropped (took w n p .net) n p (firstAt w n p))
 
-abbrev pub performed : World → ℕ → ℕ → Plan → World
-performed w n p Idle = w
-performed w n p Wait = w
-performed w n p (OpenOut l) = withNet w (opensOut (w .net) n p l)
-performed w n p (OpenChannel c t) = stripped (withNet w (opensChannel (w .net) n p c t)) n p (widthAt (w .net) n)
-performed w n p OpenUnit = stripped (withNet w (opensUnit (w .net) n p)) n p (widthAt (w .net) n)
-performed w n p (Refuse x) = withNet w (hopped (w .net) n p (Hops.Dropped x))
-performed w n p (MoveOut l) = movesOut w n p l
-performed w n p (Hand c t) = hands w n p c t
+-- a plan carried out, and its answer: "answering Opened with the link, Waiting, or Refused, NoRoute .. Moved .. Dropped, with the cause"
+abbrev pub performed : World → ℕ → ℕ → Plan → Out World
+performed w n p Idle = out Answers.Idle w
+performed w n p Wait = out Answers.Waiting w
+performed w n p (OpenOut l) = out (Answers.OpenedLink l) (withNet w (opensOut (w .net) n p l))
+performed w n p (OpenChannel c t) =
+    out Answers.OpenedChannel (stripped (withNet w (opensChannel (w .net) n p c t)) n p (widthAt (w .net) n))
+performed w n p OpenUnit =
+    out Answers.OpenedUnit (stripped (withNet w (opensUnit (w .net) n p)) n p (widthAt (w .net) n))
+performed w n p (Refuse x) = out (Answers.Refused x) (withNet w (hopped (w .net) n p (Hops.Dropped x)))
+performed w n p (MoveOut l) = out Answers.Moved (movesOut w n p l)
+performed w n p (Hand c t) = out Answers.Moved (hands w n p c t)
 performed w n p Hear = hears w n p
-performed w n p (Drop x) = drops w n p
+performed w n p (Drop x) = out (Answers.Dropped x) (drops w n p)
 
 -- What the code has on its way: k tokens to take, and a cable that leads somewhere
 pub record Takes (w : World) (n p k : ℕ) : Type 0 where
@@ -171,21 +172,8 @@ Possible w n p OpenUnit = Takes w n p (sizeOf (widthAt (w .net) n))
 Possible w n p (Refuse x) = Unit
 Possible w n p (MoveOut l) = (l < links) × Takes w n p 1 × FarRoom w (farOf (w .net .links n l))
 Possible w n p (Hand c t) = (t < tileLinks) × Given (w .net) n c (firstAt w n p) × Takes w n p 1
-Possible w n p Hear = Takes w n p 1
+Possible w n p Hear = Takes w n p 1 × Ready w n
 Possible w n p (Drop x) = Takes w n p 1
-
--- "answering Opened with the link, Waiting, or Refused, NoRoute .. Moved .. Dropped, with the cause"
-abbrev pub answerOf : Plan → Answer
-answerOf Idle = Answers.Idle
-answerOf Wait = Answers.Waiting
-answerOf (OpenOut l) = Answers.OpenedLink l
-answerOf (OpenChannel c t) = Answers.OpenedChannel
-answerOf OpenUnit = Answers.OpenedUnit
-answerOf (Refuse x) = Answers.Refused x
-answerOf (MoveOut l) = Answers.Moved
-answerOf (Hand c t) = Answers.Moved
-answerOf Hear = Answers.Moved
-answerOf (Drop x) = Answers.Dropped x
 
 -- "port not present" is NoSuch
 abbrev pub portAt : Net → ℕ → ℕ → Bool
@@ -194,22 +182,9 @@ portAt s n p = ltb n (s .nodes) && ltb p ports
 abbrev pub stepRows : Net → ℕ → ℕ → List Row
 stepRows s n p = row (not (portAt s n p)) NoSuch ∷ []
 
--- what a Step makes: its plan's answer, and the plan carried out
+-- what a Step makes: its plan, carried out
 abbrev pub stepMade : World → ℕ → ℕ → Out World
-stepMade w n p = out (answerOf (planOf w n p)) (performed w n p (planOf w n p))
+stepMade w n p = performed w n p (planOf w n p)
 
 unfoldable pub step : World → ℕ → ℕ → Out World
 step w n p = attempt (stepRows (w .net) n p) w (stepMade w n p)
-
--- a link that is named in an answer is there
-abbrev pub LinkNamed : Plan → Type 0
-LinkNamed Idle = Unit
-LinkNamed Wait = Unit
-LinkNamed (OpenOut l) = l < links
-LinkNamed (OpenChannel c t) = Unit
-LinkNamed OpenUnit = Unit
-LinkNamed (Refuse x) = Unit
-LinkNamed (MoveOut l) = Unit
-LinkNamed (Hand c t) = Unit
-LinkNamed Hear = Unit
-LinkNamed (Drop x) = Unit

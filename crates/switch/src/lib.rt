@@ -8,7 +8,6 @@ pub mod read;
 pub mod take;
 
 use crate::perform::perform;
-use crate::plan::Plan;
 use crate::plan::plan_of;
 use answers::Answer;
 use cells::node;
@@ -21,26 +20,7 @@ ghost use Rattle.answers.specs.Out.{out};
 ghost use Rattle.cells.specs.View.{view};
 ghost use Rattle.cells.specs.World.{world};
 ghost use Rattle.sound.specs.Sound.{sound};
-ghost use Rattle.switch.specs.Step.{answerOf, LinkNamed, portAt, step};
-
-// What a Step answers that has carried out a plan.
-fn answer_of(plan: Plan) -> Answer
-    requires { ⌜ LinkNamed plan ⌝ }
-    ensures { λ r. ⌜ r ≡ answerOf plan ⌝ }
-{
-    match plan {
-        Plan::Idle => Answer::Idle,
-        Plan::Wait => Answer::Waiting,
-        Plan::OpenOut(l) => Answer::OpenedLink(l as u32),
-        Plan::OpenChannel(_, _) => Answer::OpenedChannel,
-        Plan::OpenUnit => Answer::OpenedUnit,
-        Plan::Refuse(x) => Answer::Refused(x),
-        Plan::MoveOut(_) => Answer::Moved,
-        Plan::Hand(_, _) => Answer::Moved,
-        Plan::Hear => Answer::Moved,
-        Plan::Drop(x) => Answer::Dropped(x),
-    }
-}
+ghost use Rattle.switch.specs.Step.{portAt, step};
 
 // The port is there.
 fn port_at(st: &[u32], slot: Slot, p: usize) -> bool
@@ -58,6 +38,5 @@ pub fn step(st: &mut [u32], mem: &mut [u16], slot: Slot, p: usize) -> Answer
         return Answer::No(NO_SUCH);
     }
     let plan = plan_of(st, mem, slot, p);
-    perform(st, mem, slot, p, plan);
-    answer_of(plan)
+    perform(st, mem, slot, p, plan)
 }

@@ -15,7 +15,7 @@ ghost use mathlib.Core.Path.{_≡_};
 ghost use Prim.Native.Nat.{_<_};
 ghost use Rattle.names.specs.Size.{links, ports, tileLinks};
 ghost use Rattle.cells.specs.View.{view};
-ghost use Rattle.switch.specs.Step.{opensOut, claims, opensChannel, serves, opensUnit, closesOut, freesClaim, closesChannel, idle, closesUnit, closesDropped, Door};
+ghost use Rattle.switch.specs.Step.{opensOut, claimedFor, opensChannel, serves, opensUnit, closesOut, closesChannel, idle, closesUnit, closesDropped, Door};
 
 // Outward by a link.
 pub fn open_out(st: &mut [u32], slot: Slot, p: usize, l: usize)
@@ -26,15 +26,15 @@ pub fn open_out(st: &mut [u32], slot: Slot, p: usize, l: usize)
     set_user(st, slot, l, Peer::Port(p as u32));
 }
 
-// A channel is claimed for a port's circuit, the sink never.
-fn claim(st: &mut [u32], slot: Slot, c: usize, p: usize)
-    requires { ⌜ (slot .0 < view (now st) .nodes) × Door c × (p < ports) ⌝ }
-    ensures { λ r. ⌜ view (now (st .exit)) ≡ claims (view (now (st .entry))) (slot .0) c p ⌝ }
+// Who a channel is claimed by: the sink never is.
+fn claim(st: &mut [u32], slot: Slot, c: usize, x: Peer)
+    requires { ⌜ (slot .0 < view (now st) .nodes) × Door c ⌝ }
+    ensures { λ r. ⌜ view (now (st .exit)) ≡ claimedFor (view (now (st .entry))) (slot .0) c x ⌝ }
 {
     if c == SINK as usize {
         return;
     }
-    set_claim(st, slot, c, Peer::Port(p as u32));
+    set_claim(st, slot, c, x);
 }
 
 // To a channel by a tile link.
@@ -44,7 +44,7 @@ pub fn open_channel(st: &mut [u32], slot: Slot, p: usize, c: usize, t: usize)
 {
     set_hop(st, slot, p, Hop::Channel(c as u32, t as u32));
     set_tile_user(st, slot, t, Peer::Port(p as u32));
-    claim(st, slot, c, p);
+    claim(st, slot, c, Peer::Port(p as u32));
 }
 
 // The control unit serves a port, and has heard nothing of its message.
@@ -78,16 +78,6 @@ pub fn close_out(st: &mut [u32], slot: Slot, p: usize, l: usize, word: u16)
     }
 }
 
-fn free_claim(st: &mut [u32], slot: Slot, c: usize)
-    requires { ⌜ (slot .0 < view (now st) .nodes) × Door c ⌝ }
-    ensures { λ r. ⌜ view (now (st .exit)) ≡ freesClaim (view (now (st .entry))) (slot .0) c ⌝ }
-{
-    if c == SINK as usize {
-        return;
-    }
-    set_claim(st, slot, c, Peer::Nobody);
-}
-
 // .. to a channel: its tile link and its claim are free.
 pub fn close_channel(st: &mut [u32], slot: Slot, p: usize, c: usize, t: usize, word: u16)
     requires { ⌜ (slot .0 < view (now st) .nodes) × (p < ports) × Door c × (t < tileLinks) ⌝ }
@@ -96,7 +86,7 @@ pub fn close_channel(st: &mut [u32], slot: Slot, p: usize, c: usize, t: usize, w
     if closes(word) {
         shut(st, slot, p);
         set_tile_user(st, slot, t, Peer::Nobody);
-        free_claim(st, slot, c);
+        claim(st, slot, c, Peer::Nobody);
     }
 }
 
@@ -110,14 +100,12 @@ fn idle(st: &mut [u32], slot: Slot)
 }
 
 // .. to the control unit: it serves nobody.
-pub fn close_unit(st: &mut [u32], slot: Slot, p: usize, word: u16)
+pub fn close_unit(st: &mut [u32], slot: Slot, p: usize)
     requires { ⌜ (slot .0 < view (now st) .nodes) × (p < ports) ⌝ }
-    ensures { λ r. ⌜ view (now (st .exit)) ≡ closesUnit (view (now (st .entry))) (slot .0) p word ⌝ }
+    ensures { λ r. ⌜ view (now (st .exit)) ≡ closesUnit (view (now (st .entry))) (slot .0) p ⌝ }
 {
-    if closes(word) {
-        shut(st, slot, p);
-        idle(st, slot);
-    }
+    shut(st, slot, p);
+    idle(st, slot);
 }
 
 // .. of a refused circuit.

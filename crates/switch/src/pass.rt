@@ -6,22 +6,26 @@ use crate::open::close_unit;
 use crate::take::take;
 use acts::keep;
 use acts::push;
+use answers::Answer;
 use cells::end;
 use cells::link;
 use cells::link::Far;
 use cells::link::far_of;
-use cells::unit;
-use cells::unit::Unit;
 use grants::consider;
+use messages::end_message;
+use messages::heard::listen;
 use names::Slot;
 use names::size::SINK;
+use tokens::word::closes;
 ghost use mathlib.Core.Path.{_≡_};
 ghost use Prim.Native.Nat.{_-_, _<_};
 ghost use Rattle.names.specs.Size.{links, ports, tileLinks};
-ghost use Rattle.cells.specs.View.{view, withUnit};
+ghost use Rattle.cells.specs.View.{view};
 ghost use Rattle.cells.specs.World.{world, farOf};
 ghost use Rattle.acts.specs.Acts.{firstAt};
-ghost use Rattle.switch.specs.Step.{paid, arrives, pays, crosses, movesOut, gives, Given, hands, hearsWord, hears, drops, Takes, Door, FarRoom};
+ghost use Rattle.answers.specs.Out.{out};
+ghost use Rattle.messages.specs.Ended.{Ready};
+ghost use Rattle.switch.specs.Step.{paid, arrives, pays, crosses, movesOut, gives, Given, hands, hears, drops, Takes, Door, FarRoom};
 
 // The token is put at the far end of the cable.
 fn arrive(st: &mut [u32], mem: &mut [u16], f: Far, word: u16)
@@ -96,37 +100,18 @@ pub fn hand(st: &mut [u32], mem: &mut [u16], slot: Slot, p: usize, c: usize, t: 
     close_channel(st, slot, p, c, t, word);
 }
 
-// A control unit that hears a token: eleven decide what becomes of a message, and no more are kept.
-fn hears_word(k: Unit, word: u16) -> Unit
-    ensures { λ r. ⌜ r ≡ hearsWord k word ⌝ }
-{
-    let mut j = k;
-    if k.heard < 11 {
-        let mut t = k.tokens;
-        let i = k.heard as usize;
-        t[i] = word as u32;
-        j.tokens = t;
-        j.heard = k.heard + 1;
-    }
-    j
-}
-
-fn listen(st: &mut [u32], slot: Slot, word: u16)
-    requires { ⌜ slot .0 < view (now st) .nodes ⌝ }
-    ensures { λ r. ⌜ view (now (st .exit)) ≡ withUnit (view (now (st .entry))) (slot .0) (hearsWord (view (now (st .entry)) .units (slot .0) 0) word) ⌝ }
-{
-    let k = hears_word(unit::at(st, slot), word);
-    unit::put(st, slot, k);
-}
-
-// "To the control unit: Moved."
-pub fn hear(st: &mut [u32], mem: &mut [u16], slot: Slot, p: usize)
-    requires { ⌜ Takes (world (now st) (now mem)) (slot .0) p 1 ⌝ }
-    ensures { λ r. ⌜ world (now (st .exit)) (now (mem .exit)) ≡ hears (world (now (st .entry)) (now (mem .entry))) (slot .0) p ⌝ }
+// "To the control unit: Moved", or what becomes of a message at its end, the hop being closed first.
+pub fn hear(st: &mut [u32], mem: &mut [u16], slot: Slot, p: usize) -> Answer
+    requires { ⌜ Takes (world (now st) (now mem)) (slot .0) p 1 × Ready (world (now st) (now mem)) (slot .0) ⌝ }
+    ensures { λ r. ⌜ out r (world (now (st .exit)) (now (mem .exit))) ≡ hears (world (now (st .entry)) (now (mem .entry))) (slot .0) p ⌝ }
 {
     let word = take(st, mem, slot, p);
+    if closes(word) {
+        close_unit(st, slot, p);
+        return end_message(st, mem, slot, word);
+    }
     listen(st, slot, word);
-    close_unit(st, slot, p, word);
+    Answer::Moved
 }
 
 // "Refused circuits: Dropped."

@@ -1,4 +1,4 @@
-// A plan carried out.
+// A plan carried out, and what the Step answers.
 use crate::open::open_channel;
 use crate::open::open_out;
 use crate::open::open_unit;
@@ -10,11 +10,13 @@ use crate::plan::Plan;
 use crate::take::strip;
 use acts::circuit::set_hop;
 use acts::width_at;
+use answers::Answer;
 use circuits::Hop;
 use names::Slot;
 ghost use mathlib.Core.Path.{_≡_};
 ghost use Prim.Native.Nat.{_<_};
 ghost use Rattle.names.specs.Size.{ports, tileLinks};
+ghost use Rattle.answers.specs.Out.{out};
 ghost use Rattle.acts.specs.Acts.{withNet, widthAt};
 ghost use Rattle.cells.specs.View.{view};
 ghost use Rattle.cells.specs.World.{world};
@@ -41,20 +43,41 @@ fn land_unit(st: &mut [u32], mem: &mut [u16], slot: Slot, p: usize)
     strip(st, mem, slot, p, width);
 }
 
-pub fn perform(st: &mut [u32], mem: &mut [u16], slot: Slot, p: usize, plan: Plan)
+pub fn perform(st: &mut [u32], mem: &mut [u16], slot: Slot, p: usize, plan: Plan) -> Answer
     requires { ⌜ (slot .0 < view (now st) .nodes) × (p < ports) × Possible (world (now st) (now mem)) (slot .0) p plan ⌝ }
-    ensures { λ r. ⌜ world (now (st .exit)) (now (mem .exit)) ≡ performed (world (now (st .entry)) (now (mem .entry))) (slot .0) p plan ⌝ }
+    ensures { λ r. ⌜ out r (world (now (st .exit)) (now (mem .exit))) ≡ performed (world (now (st .entry)) (now (mem .entry))) (slot .0) p plan ⌝ }
 {
     match plan {
-        Plan::Idle => {}
-        Plan::Wait => {}
-        Plan::OpenOut(l) => open_out(st, slot, p, l),
-        Plan::OpenChannel(c, t) => land_channel(st, mem, slot, p, c, t),
-        Plan::OpenUnit => land_unit(st, mem, slot, p),
-        Plan::Refuse(x) => set_hop(st, slot, p, Hop::Dropped(x)),
-        Plan::MoveOut(l) => move_out(st, mem, slot, p, l),
-        Plan::Hand(c, t) => hand(st, mem, slot, p, c, t),
+        Plan::Idle => Answer::Idle,
+        Plan::Wait => Answer::Waiting,
+        Plan::OpenOut(l) => {
+            open_out(st, slot, p, l);
+            Answer::OpenedLink(l as u32)
+        }
+        Plan::OpenChannel(c, t) => {
+            land_channel(st, mem, slot, p, c, t);
+            Answer::OpenedChannel
+        }
+        Plan::OpenUnit => {
+            land_unit(st, mem, slot, p);
+            Answer::OpenedUnit
+        }
+        Plan::Refuse(x) => {
+            set_hop(st, slot, p, Hop::Dropped(x));
+            Answer::Refused(x)
+        }
+        Plan::MoveOut(l) => {
+            move_out(st, mem, slot, p, l);
+            Answer::Moved
+        }
+        Plan::Hand(c, t) => {
+            hand(st, mem, slot, p, c, t);
+            Answer::Moved
+        }
         Plan::Hear => hear(st, mem, slot, p),
-        Plan::Drop(_) => drop_one(st, mem, slot, p),
+        Plan::Drop(x) => {
+            drop_one(st, mem, slot, p);
+            Answer::Dropped(x)
+        }
     }
 }

@@ -16,6 +16,12 @@ end = 0x01
 abbrev pub pause : ℕ
 pause = 0x02
 
+abbrev pub ack : ℕ
+ack = 0x03
+
+abbrev pub nack : ℕ
+nack = 0x04
+
 abbrev pub writec : ℕ
 writec = 0xC0
 

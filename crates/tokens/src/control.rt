@@ -8,6 +8,10 @@ pub const END: u8 = 0x01;
 
 pub const PAUSE: u8 = 0x02;
 
+pub const ACK: u8 = 0x03;
+
+pub const NACK: u8 = 0x04;
+
 pub const WRITEC: u8 = 0xC0;
 
 pub const READC: u8 = 0xC1;

@@ -5,7 +5,7 @@ use crate::word::of_unit;
 use crate::word::value;
 use names::NodeNumber;
 ghost use mathlib.Core.Path.{_≡_};
-ghost use Rattle.tokens.specs.Header.{compared, headerOf, threeOf, readOne, readThree};
+ghost use Rattle.tokens.specs.Header.{compared, headerOf, threeOf, isNarrow, readOne, readThree};
 ghost use Rattle.tokens.specs.declared.header.Width.{Width};
 
 // The width of a node's headers.
@@ -70,6 +70,17 @@ pub fn make_header(t: Target, w: Width) -> Header
             Width::One => Header::Narrow,
             Width::Three => three_byte(n, of_unit()),
         },
+    }
+}
+
+// A width can't carry the target.
+pub fn is_narrow(h: Header) -> bool
+    ensures { λ r. ⌜ r ≡ isNarrow h ⌝ }
+{
+    match h {
+        Header::Narrow => true,
+        Header::One(_) => false,
+        Header::Three(_, _, _) => false,
     }
 }
 

@@ -1,7 +1,7 @@
 -- `switch::open::claim` meets its contract. Assumes nothing.
+use borrow.Author.Tests.{eq-eqb, ne-eqb}
 use mathlib.Core.Logic.{⊎-elim}
 use borrow.Author.Needs.{needs}
-use borrow.Author.Tests.{eq-eqb, ne-eqb}
 use Rattle.switch.proofs.open.claim.Statement.{statement}
 use Rattle.switch.proofs.open.claim.Tie as tie
 
@@ -15,5 +15,4 @@ returns-2 : tie.Need-returns-2
 returns-2 c = rw (ne-eqb _ _ (c .before .before .before .before .if1 .left)) (c .before .before .set-claim .ensures)
 
 pub claim-spec : {M : Type 1} → statement M
-claim-spec =
-    tie.close (tie.spec (λ c. search needs) returns (λ c. search needs) set-claim-requires (λ c. search needs) returns-2)
+claim-spec = tie.close (tie.spec (λ c. search needs) returns set-claim-requires (λ c. search needs) returns-2)

@@ -13,7 +13,7 @@ set-tile-user-requires : tie.Need-set-tile-user-requires
 set-tile-user-requires c κs = rw (c .before .before .before .set-hop .ensures) (c .before .before .before .before .before .before .pre .0, c .before .before .before .before .before .before .pre .3)
 
 claim-requires : tie.Need-claim-requires
-claim-requires c κs = rw (c .before .before .before .set-tile-user .ensures, c .before .before .before .before .before .before .before .set-hop .ensures) (c .before .before .before .before .before .before .before .before .before .before .pre .0, c .before .before .before .before .before .before .before .before .before .before .pre .2, c .before .before .before .before .before .before .before .before .before .before .pre .1)
+claim-requires c κs = rw (c .before .before .before .set-tile-user .ensures, c .before .before .before .before .before .before .before .set-hop .ensures) (c .before .before .before .before .before .before .before .before .before .before .pre .0, c .before .before .before .before .before .before .before .before .before .before .pre .2)
 
 returns : tie.Need-returns
 returns c = rw (c .before .before .claim .ensures, c .before .before .before .before .before .before .set-tile-user .ensures, c .before .before .before .before .before .before .before .before .before .before .set-hop .ensures)
@@ -27,6 +27,7 @@ open-channel-spec =
     (λ c κs. search needs)
     (λ c. search needs)
     set-tile-user-requires
+    (λ c. search needs)
     claim-requires
     (λ c. search needs)
     returns)

@@ -1,7 +1,7 @@
--- `switch::pass::listen` meets its contract. Assumes nothing.
+-- `messages::heard::listen` meets its contract. Assumes nothing.
 use borrow.Author.Needs.{needs}
-use Rattle.switch.proofs.pass.listen.Statement.{statement}
-use Rattle.switch.proofs.pass.listen.Tie as tie
+use Rattle.messages.proofs.heard.listen.Statement.{statement}
+use Rattle.messages.proofs.heard.listen.Tie as tie
 
 returns : tie.Need-returns
 returns c = rw (c .before .before .put .ensures, c .before .before .before .before .hears-word .ensures, c .before .before .before .before .before .at .ensures)

@@ -1,8 +1,8 @@
--- `switch::pass::hears_word` meets its contract. Assumes nothing.
-use borrow.Author.Needs.{needs}
+-- `messages::heard::hears_word` meets its contract. Assumes nothing.
 use borrow.Author.Tests.{lt-ltb, le-ltb}
-use Rattle.switch.proofs.pass.hears_word.Statement.{statement}
-use Rattle.switch.proofs.pass.hears_word.Tie as tie
+use borrow.Author.Needs.{needs}
+use Rattle.messages.proofs.heard.hears_word.Statement.{statement}
+use Rattle.messages.proofs.heard.hears_word.Tie as tie
 
 returns : tie.Need-returns
 returns c = rw (lt-ltb _ _ (c .before .before .before .if1 .taken))

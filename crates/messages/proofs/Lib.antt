@@ -1,0 +1,5 @@
+-- Laws of switch messages.
+pub mod Writes
+pub mod Registers
+pub mod Replies
+pub mod Answers
