@@ -181,7 +181,7 @@ fn a_hello_at_every_number_of_tokens_held() {
         let mut pair = Pair::at(model::apply, Some(&network), Random::new(held as u64));
         let setting = Setting::Hello { link: 0 };
         let call = Call::Set { slot: 0, setting };
-        assert_eq!(pair.call(&call), Ok(true), "{held} held");
+        assert_eq!(pair.call(&call), Ok(()), "{held} held");
     }
 }
 
