@@ -76,8 +76,8 @@ fn any_address(random: &mut Random) -> u32 {
     ];
     let known = registers::known_addresses();
     match random.below(10) {
-        0 => random.pick(&odd).unwrap_or(0),
-        1 | 2 => 0x04,
+        0 | 1 => random.pick(&odd).unwrap_or(0),
+        2 | 3 => 0x04,
         _ => random.pick(&known).unwrap_or(0),
     }
 }
@@ -116,7 +116,10 @@ fn damage(random: &mut Random, tokens: &mut Vec<Token>) {
         9 => tokens[0] = other_command(random, tokens[0]),
         _ => {
             let extra = random.pick(&[1, 2, 3, 4, 5, 40, 90]).unwrap_or(1);
-            tokens.splice(last..last, (0..extra).map(Token::data));
+            let closing = random.pick(&[END, END, END, PAUSE]).unwrap_or(END);
+            tokens.truncate(last);
+            tokens.extend((0..extra).map(Token::data));
+            tokens.push(Token::control(closing));
         }
     }
     if !tokens.last().is_some_and(Token::ends_circuit) {
