@@ -8,6 +8,7 @@ use model::calls::Call;
 use model::random::Random;
 use model::runs::Runner;
 
+use crate::asking;
 use crate::calls::Apply;
 use crate::choice::any;
 use crate::damaged;
@@ -108,8 +109,16 @@ fn damage(pair: &Pair, behind: usize, random: &mut Random) -> Result<usize, Foun
 
 /// A run without a Step that fills ports and channel-ends.
 pub fn fill(apply: Apply, seed: u64, count: usize) -> Result<Figures, Found> {
-    let calls = filling::calls(seed, count);
-    match differing(apply, &calls) {
+    all(apply, &filling::calls(seed, count))
+}
+
+/// A run that asks control units.
+pub fn ask(apply: Apply, seed: u64, count: usize) -> Result<Figures, Found> {
+    all(apply, &asking::calls(seed, count))
+}
+
+fn all(apply: Apply, calls: &[Call]) -> Result<Figures, Found> {
+    match differing(apply, calls) {
         Some(differing) => Err(Found::Run(differing)),
         None => Ok(Figures {
             runs: 1,

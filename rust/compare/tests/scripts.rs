@@ -1,7 +1,7 @@
 //! The same script on both sides, as text: the product has a reader of its own, and so has the
 //! model. What they print is the same, and a line that one does not take the other does not take.
 
-use compare::filling;
+use compare::{asking, filling};
 use model::random::Random;
 use model::{runs, Call};
 
@@ -38,7 +38,10 @@ fn the_same_text_from_both_sides() {
     let filling: usize = (0..20)
         .map(|seed| same_text(&filling::calls(seed, 600)))
         .sum();
-    println!("{} lines", random + filling);
+    let asking: usize = (0..10)
+        .map(|seed| same_text(&asking::calls(seed, 2000)))
+        .sum();
+    println!("{} lines", random + filling + asking);
 }
 
 /// The scripts that stand beside the command state what the model says too.
