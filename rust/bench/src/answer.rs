@@ -23,13 +23,20 @@ pub enum Stepped {
     Idle,
     /// Nothing can be done now, and nothing is changed.
     Waiting,
-    /// One token was moved, handed or heard.
+    /// One token was moved, handed or heard. The end of a switch message too, if there is a reply:
+    /// ACK or NACK then stands in port 12.
     Moved,
     Opened(Opening),
     /// The circuit is refused: its tokens are dropped in later Steps.
     Refused(Cause),
     /// One token of a refused circuit was dropped.
     Dropped(Cause),
+    /// The end of a switch message that has no known reply address, or that PAUSE ended: nothing is
+    /// written, and there is no reply.
+    Malformed,
+    /// The end of a switch message whose reply channel the node's width, as it is after the write,
+    /// cannot carry: there is no reply, and what was written stays.
+    Unheard,
 }
 
 /// What a circuit was opened to.
@@ -52,6 +59,8 @@ impl Answer {
     /// assert_eq!(Answer::from_crossed(2 << 32 | 64), Some(Answer::Granted(64)));
     /// assert_eq!(Answer::from_crossed(3 << 32 | 255), Some(Answer::Token(255)));
     /// assert_eq!(Answer::from_crossed(4 << 32), Some(Answer::Step(Stepped::Idle)));
+    /// assert_eq!(Answer::from_crossed(12 << 32), Some(Answer::Step(Stepped::Malformed)));
+    /// assert_eq!(Answer::from_crossed(13 << 32), Some(Answer::Step(Stepped::Unheard)));
     /// assert_eq!(Answer::from_crossed(0), None);
     /// ```
     pub fn from_crossed(crossed: u64) -> Option<Answer> {
@@ -76,6 +85,8 @@ impl Stepped {
             (9, 0) => Some(Stepped::Opened(Opening::Control)),
             (10, cause) => Cause::from_number(cause).map(Stepped::Refused),
             (11, cause) => Cause::from_number(cause).map(Stepped::Dropped),
+            (12, 0) => Some(Stepped::Malformed),
+            (13, 0) => Some(Stepped::Unheard),
             _ => None,
         }
     }

@@ -3,11 +3,7 @@
 use crate::clause::Clause;
 use crate::digest;
 use crate::raw;
-use crate::records::{ChannelEnd, ControlUnit, Hop, Link, Node, Port, Record, TileLink};
-
-/// The words of the control tokens END and PAUSE.
-const END_WORD: u32 = 0x0101;
-const PAUSE_WORD: u32 = 0x0102;
+use crate::records::{ChannelEnd, ControlUnit, Link, Node, Port, Record, TileLink};
 
 /// A view of two lent memories, which may be of any length and hold anything.
 ///
@@ -104,15 +100,6 @@ impl<'a> Looks<'a> {
     /// [`Token::from_word`](crate::Token::from_word) reads them.
     pub fn port_tokens(self, slot: usize, port: usize) -> impl Iterator<Item = u32> + use<'a> {
         (0..).map_while(move |place| raw::port_token(self.state, self.memory, slot, port, place))
-    }
-
-    /// The next Step of this port would hand a control unit the END or PAUSE of a switch message.
-    /// The bench frees the unit then and does not obey the message yet.
-    pub fn ends_message(self, slot: usize, port: usize) -> bool {
-        let is_end = |word| word == END_WORD || word == PAUSE_WORD;
-        self.port(slot, port).hop() == Some(Hop::Control)
-            && self.port_tokens(slot, port).next().is_some_and(is_end)
-            && self.is_sound()
     }
 
     /// The words of the tokens that a channel-end holds, oldest first.

@@ -243,8 +243,8 @@ impl Bench {
 
     /// One Step of a port: its circuit is opened, refused or made to wait, or one token passes.
     ///
-    /// A switch message is heard and not obeyed yet: where [`Looks::ends_message`] says so, this Step
-    /// answers Moved and frees the control unit, and the paper says more.
+    /// The Step that takes the END of a switch message has the control unit obey it: the write is
+    /// made, whole or not at all, and the reply is put into port 12.
     ///
     /// ```
     /// use bench::{Bench, Destination, Kind, Opening, Refusal, Setting, Stepped};
@@ -260,6 +260,31 @@ impl Bench {
     /// assert_eq!(bench.input(0, 7, Kind::Data), Ok(1));
     /// assert_eq!(bench.step(0, 8), Ok(Stepped::Idle));
     /// assert_eq!(bench.step(0, 13), Err(Refusal::NoSuch));
+    /// ```
+    ///
+    /// A message that writes the number of its own node, with channel 7 of that node for the reply:
+    ///
+    /// ```
+    /// use bench::{Bench, Destination, Kind, Opening, Stepped};
+    ///
+    /// let mut bench = Bench::fresh(1).unwrap();
+    /// bench.aim(0, 2, Destination::Control { number: 0 }, 0).unwrap();
+    /// bench.output(0, 2, Kind::Control, 0xC0).unwrap(); // WRITEC
+    /// // Number and channel for the reply, address, data: the node will have the number 0x0125.
+    /// for byte in [0x01, 0x25, 7, 0x00, 0x05, 0x00, 0x00, 0x01, 0x25] {
+    ///     bench.output(0, 2, Kind::Data, byte).unwrap();
+    /// }
+    /// bench.output(0, 2, Kind::Control, 1).unwrap(); // END
+    /// assert_eq!(bench.step(0, 8), Ok(Stepped::Opened(Opening::Control)));
+    /// for _ in 0..10 {
+    ///     assert_eq!(bench.step(0, 8), Ok(Stepped::Moved));
+    /// }
+    /// assert_eq!(bench.looks().node(0).number, 0);
+    /// assert_eq!(bench.step(0, 8), Ok(Stepped::Moved)); // END: the write is made
+    /// assert_eq!(bench.looks().node(0).number, 0x0125);
+    /// assert_eq!(bench.step(0, 12), Ok(Stepped::Opened(Opening::Channel)));
+    /// assert_eq!(bench.step(0, 12), Ok(Stepped::Moved));
+    /// assert_eq!(bench.input(0, 7, Kind::Control), Ok(0x03)); // ACK
     /// ```
     pub fn step(&mut self, slot: usize, port: usize) -> Result<Stepped, Refusal> {
         match raw::step(&mut self.state, &mut self.memory, slot, port) {

@@ -297,7 +297,7 @@ pub fn output_control(
     })
 }
 
-/// Step: one of a port. A switch message is heard and not obeyed yet (`Looks::ends_message`).
+/// Step: one of a port. The Step that takes the end of a switch message has it obeyed.
 pub fn step(state: &mut [u32], memory: &mut [u16], slot: usize, port: usize) -> Answer {
     // SAFETY: as said above.
     answered(unsafe {

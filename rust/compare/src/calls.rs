@@ -1,6 +1,6 @@
 //! The same call made on both sides, and what came of it compared.
 
-use bench::{raw, Looks};
+use bench::raw;
 use model::answers::{Cause, Opening};
 use model::calls::Call;
 use model::network::Network;
@@ -31,8 +31,8 @@ impl Lent {
 /// How the model makes a call: [`model::apply`], or another where it is to be wrong on purpose.
 pub type Apply = fn(&mut Option<Network>, &Call) -> Answer;
 
-/// Makes a call on lent words; none where the proved bench has no such call yet.
-pub fn make(lent: &mut Lent, call: &Call) -> Option<Answer> {
+/// Makes a call on lent words.
+pub fn make(lent: &mut Lent, call: &Call) -> Answer {
     let answer = match *call {
         Call::Fresh {
             nodes,
@@ -60,14 +60,9 @@ pub fn make(lent: &mut Lent, call: &Call) -> Option<Answer> {
             channel_end,
             kind,
         } => input(lent, slot, channel_end, kind),
-        Call::Step { slot, port }
-            if Looks::over(&lent.state, &lent.memory).ends_message(slot, port) =>
-        {
-            return None;
-        }
         Call::Step { slot, port } => raw::step(&mut lent.state, &mut lent.memory, slot, port),
     };
-    Some(of_bench(answer))
+    of_bench(answer)
 }
 
 fn aim(
@@ -163,6 +158,8 @@ fn of_step(stepped: bench::Stepped) -> Answer {
         bench::Stepped::Opened(bench::Opening::Control) => Answer::Opened(Opening::Control),
         bench::Stepped::Refused(cause) => Answer::Refused(of_cause(cause)),
         bench::Stepped::Dropped(cause) => Answer::Dropped(of_cause(cause)),
+        bench::Stepped::Malformed => Answer::Malformed,
+        bench::Stepped::Unheard => Answer::Unheard,
     }
 }
 
@@ -174,18 +171,15 @@ fn of_cause(cause: bench::Cause) -> Cause {
 }
 
 /// Makes a call on both sides, whose states are the same before it. Says how the answers or the
-/// states behind it differ, or that a refused call has changed a word. False where the proved bench
-/// has no such call, and nothing was done.
+/// states behind it differ, or that a refused call has changed a word.
 pub fn compare(
     apply: Apply,
     network: &mut Option<Network>,
     lent: &mut Lent,
     call: &Call,
-) -> Result<bool, String> {
+) -> Result<(), String> {
     let before = lent.clone();
-    let Some(found) = make(lent, call) else {
-        return Ok(false);
-    };
+    let found = make(lent, call);
     let expected = apply(network, call);
     if found != expected {
         return Err(format!("{call}: the library {found}, the model {expected}"));
@@ -194,11 +188,11 @@ pub fn compare(
         return Err(format!("{call}: refused, and a word has changed"));
     }
     let Some(network) = network else {
-        return Ok(true);
+        return Ok(());
     };
     let read = read(&lent.state, &lent.memory).map_err(|why| format!("{call}: {}", why.0))?;
     match difference::first(&read, network) {
         Some(difference) => Err(format!("{call}: {difference}")),
-        None => Ok(true),
+        None => Ok(()),
     }
 }

@@ -22,12 +22,34 @@ pub fn any(random: &mut Random, network: Option<&Network>) -> Call {
             other: any_end(random, nodes),
         },
         3..=14 => any_set(random, network, nodes),
-        15..=20 => Call::Step {
-            slot: below_or_beyond(random, nodes),
-            port: below_or_beyond(random, PORTS),
-        },
+        15..=20 => any_step(random, network, nodes),
         _ => ends::any(random, network),
     }
+}
+
+/// Often of a port that holds a token, such as the end of a message.
+fn any_step(random: &mut Random, network: Option<&Network>, nodes: usize) -> Call {
+    let busy = network.map(busy_ports).unwrap_or_default();
+    let any = (
+        below_or_beyond(random, nodes),
+        below_or_beyond(random, PORTS),
+    );
+    let (slot, port) = match random.pick(&busy) {
+        Some(place) if random.chance(70) => place,
+        _ => any,
+    };
+    Call::Step { slot, port }
+}
+
+/// The ports that hold a token, by slot and place.
+pub(crate) fn busy_ports(network: &Network) -> Vec<(usize, usize)> {
+    let nodes = network.nodes.iter().enumerate();
+    let ports = nodes.flat_map(|(slot, node)| {
+        let ports = node.ports.iter().enumerate();
+        ports.map(move |(place, port)| ((slot, place), port))
+    });
+    let busy = ports.filter(|(_, port)| !port.tokens.is_empty());
+    busy.map(|(place, _)| place).collect()
 }
 
 fn any_set(random: &mut Random, network: Option<&Network>, nodes: usize) -> Call {

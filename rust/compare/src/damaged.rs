@@ -63,12 +63,12 @@ fn call_on(
     call: &Call,
 ) -> Result<(), String> {
     if verdict == Verdict::Sound || matches!(call, Call::Fresh { .. }) {
-        return compare(model::apply, &mut network, &mut lent, call).map(|_| ());
+        return compare(model::apply, &mut network, &mut lent, call);
     }
     let before = lent.clone();
     match make(&mut lent, call) {
-        Some(Answer::No(No::Unsound)) if lent == before => Ok(()),
-        Some(Answer::No(No::Unsound)) => Err(format!("{call}: refused, and a word has changed")),
+        Answer::No(No::Unsound) if lent == before => Ok(()),
+        Answer::No(No::Unsound) => Err(format!("{call}: refused, and a word has changed")),
         found => Err(format!("{call} on an unsound memory: {found:?}")),
     }
 }

@@ -4,11 +4,12 @@
 //! as queues and options. [`layout`] writes a model's state as words, [`reading`] reads words,
 //! through the looks alone, as a model's state, and [`difference`] names the first thing in which
 //! two states differ. [`calls`] makes the same call on both sides, [`pair`] a run of them. What is
-//! called is made up by the model's own random runs, by [`choice`] from any state on, and by
-//! [`filling`] where buffers are to fill. [`damage`] changes words at random, [`verdict`] asks both
+//! called is made up by the model's own random runs, by [`choice`] from any state on, by [`filling`]
+//! where buffers are to fill, and by [`asking`] for switch messages. [`damage`] changes words at random, [`verdict`] asks both
 //! sides whether the same words are sound, and [`damaged`] all that can be asked of them. [`soak`]
 //! does all of it for one seed, and [`reduce`] makes a run that differs as short as it can be.
 
+pub mod asking;
 pub mod calls;
 pub mod choice;
 pub mod damage;

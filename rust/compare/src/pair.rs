@@ -13,7 +13,6 @@ pub struct Pair {
     apply: Apply,
     network: Option<Network>,
     lent: Lent,
-    random: Random,
 }
 
 impl Pair {
@@ -28,7 +27,6 @@ impl Pair {
             apply,
             network: network.cloned(),
             lent: Lent::of(network, &mut random),
-            random,
         }
     }
 
@@ -37,15 +35,9 @@ impl Pair {
         self.network.as_ref()
     }
 
-    /// Makes a call on both sides and says how they differ behind it. False where the library has
-    /// no such call: the model makes it alone, and the words are written anew from its state.
-    pub fn call(&mut self, call: &Call) -> Result<bool, String> {
-        let compared = compare(self.apply, &mut self.network, &mut self.lent, call)?;
-        if !compared {
-            (self.apply)(&mut self.network, call);
-            self.lent = Lent::of(self.network.as_ref(), &mut self.random);
-        }
-        Ok(compared)
+    /// Makes a call on both sides and says how they differ behind it.
+    pub fn call(&mut self, call: &Call) -> Result<(), String> {
+        compare(self.apply, &mut self.network, &mut self.lent, call)
     }
 }
 

@@ -8,6 +8,7 @@ use model::calls::Call;
 use model::random::Random;
 use model::runs::Runner;
 
+use crate::asking;
 use crate::calls::Apply;
 use crate::choice::any;
 use crate::damaged;
@@ -21,9 +22,8 @@ const ASIDE: usize = 4;
 #[derive(Clone, Copy, Debug, Default, PartialEq, Eq)]
 pub struct Figures {
     pub runs: usize,
-    /// Calls of runs that both sides made, and those that the model made alone.
+    /// Calls of runs.
     pub calls: usize,
-    pub alone: usize,
     /// Calls made aside from a run.
     pub aside: usize,
     /// Memories that were damaged.
@@ -34,7 +34,6 @@ impl AddAssign for Figures {
     fn add_assign(&mut self, more: Figures) {
         self.runs += more.runs;
         self.calls += more.calls;
-        self.alone += more.alone;
         self.aside += more.aside;
         self.damaged += more.damaged;
     }
@@ -45,8 +44,7 @@ impl fmt::Display for Figures {
         let compared = self.calls + self.aside + damaged::CALLS * self.damaged;
         write!(f, "{} runs, {compared} calls compared ", self.runs)?;
         write!(f, "({} of runs, {} aside, ", self.calls, self.aside)?;
-        write!(f, "the rest on {} damaged memories), ", self.damaged)?;
-        write!(f, "{} calls made by the model alone", self.alone)
+        write!(f, "the rest on {} damaged memories)", self.damaged)
     }
 }
 
@@ -75,8 +73,7 @@ pub fn run(apply: Apply, seed: u64, count: usize) -> Result<Figures, Found> {
         let (call, _) = runner.call();
         made.push(call);
         match pair.call(&call) {
-            Ok(true) => figures.calls += 1,
-            Ok(false) => figures.alone += 1,
+            Ok(()) => figures.calls += 1,
             Err(how) => return Err(found(apply, made, how)),
         }
     }
@@ -112,8 +109,16 @@ fn damage(pair: &Pair, behind: usize, random: &mut Random) -> Result<usize, Foun
 
 /// A run without a Step that fills ports and channel-ends.
 pub fn fill(apply: Apply, seed: u64, count: usize) -> Result<Figures, Found> {
-    let calls = filling::calls(seed, count);
-    match differing(apply, &calls) {
+    all(apply, &filling::calls(seed, count))
+}
+
+/// A run that asks control units.
+pub fn ask(apply: Apply, seed: u64, count: usize) -> Result<Figures, Found> {
+    all(apply, &asking::calls(seed, count))
+}
+
+fn all(apply: Apply, calls: &[Call]) -> Result<Figures, Found> {
+    match differing(apply, calls) {
         Some(differing) => Err(Found::Run(differing)),
         None => Ok(Figures {
             runs: 1,

@@ -6,7 +6,7 @@ use std::collections::BTreeSet;
 use compare::calls::{compare, Lent};
 use compare::pair::Pair;
 use compare::reduce::report;
-use compare::soak::{fill, run, Figures, Found};
+use compare::soak::{ask, fill, run, Figures, Found};
 use compare::{choice, filling, layout, reading};
 use model::calls::Call;
 use model::network::{LinkEnd, Network};
@@ -19,6 +19,7 @@ use model::{Answer, No};
 const RUNS: u64 = 100;
 const CALLS: usize = 400;
 const FILLING: usize = 1000;
+const ASKING: usize = 2000;
 
 /// Adds what one seed compared, or ends the test with the reduced run that differs.
 fn add(figures: &mut Figures, seed: u64, compared: Result<Figures, Found>) {
@@ -48,6 +49,15 @@ fn runs_that_fill_ports_and_channel_ends() {
     let mut figures = Figures::default();
     for seed in 0..RUNS {
         add(&mut figures, seed, fill(model::apply, seed, FILLING));
+    }
+    println!("{figures}");
+}
+
+#[test]
+fn runs_that_ask_control_units() {
+    let mut figures = Figures::default();
+    for seed in 0..RUNS {
+        add(&mut figures, seed, ask(model::apply, seed, ASKING));
     }
     println!("{figures}");
 }
@@ -181,7 +191,7 @@ fn a_hello_at_every_number_of_tokens_held() {
         let mut pair = Pair::at(model::apply, Some(&network), Random::new(held as u64));
         let setting = Setting::Hello { link: 0 };
         let call = Call::Set { slot: 0, setting };
-        assert_eq!(pair.call(&call), Ok(true), "{held} held");
+        assert_eq!(pair.call(&call), Ok(()), "{held} held");
     }
 }
 

@@ -120,8 +120,7 @@ fn a_short_run_is_left() {
     }
 }
 
-/// Tokens get to a far end, and claims by ports about, by Steps, which the library need not have:
-/// the model makes them alone.
+/// Tokens get to a far end, and claims by ports about, by Steps.
 #[test]
 fn a_run_with_steps_is_reduced_too() {
     let wrong = [

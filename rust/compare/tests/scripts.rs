@@ -1,7 +1,7 @@
 //! The same script on both sides, as text: the product has a reader of its own, and so has the
 //! model. What they print is the same, and a line that one does not take the other does not take.
 
-use compare::filling;
+use compare::{asking, filling};
 use model::random::Random;
 use model::{runs, Call};
 
@@ -19,14 +19,6 @@ fn as_script(calls: &[Call]) -> String {
     calls.iter().map(|call| format!("{call}\n")).collect()
 }
 
-/// The calls of a random run, but for those that the library has not.
-fn without_steps(seed: u64) -> Vec<Call> {
-    let calls = runs::calls(seed, 400).into_iter();
-    calls
-        .filter(|call| !matches!(call, Call::Step { .. }))
-        .collect()
-}
-
 fn same_text(calls: &[Call]) -> usize {
     let text = as_script(calls);
     let library = run_library(&text).unwrap_or_else(|fault| panic!("{fault}"));
@@ -42,11 +34,14 @@ fn same_text(calls: &[Call]) -> usize {
 
 #[test]
 fn the_same_text_from_both_sides() {
-    let random: usize = (0..60).map(|seed| same_text(&without_steps(seed))).sum();
+    let random: usize = (0..60).map(|seed| same_text(&runs::calls(seed, 400))).sum();
     let filling: usize = (0..20)
         .map(|seed| same_text(&filling::calls(seed, 600)))
         .sum();
-    println!("{} lines", random + filling);
+    let asking: usize = (0..10)
+        .map(|seed| same_text(&asking::calls(seed, 2000)))
+        .sum();
+    println!("{} lines", random + filling + asking);
 }
 
 /// The scripts that stand beside the command state what the model says too.
@@ -139,8 +134,8 @@ fn both_take_the_same_lines_and_no_others() {
 fn both_name_the_same_line() {
     let mut random = Random::new(7);
     for seed in 0..200 {
-        let calls = without_steps(seed % 20);
-        let mut lines: Vec<String> = calls.iter().take(40).map(Call::to_string).collect();
+        let calls = runs::calls(seed % 20, 40);
+        let mut lines: Vec<String> = calls.iter().map(Call::to_string).collect();
         let place = random.below(lines.len());
         lines[place] = damaged(&mut random, &lines[place]);
         let text = lines.join("\n");

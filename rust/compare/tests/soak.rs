@@ -11,7 +11,9 @@ fn soak(words: &[&str]) -> Output {
 
 #[test]
 fn a_short_soak() {
-    let output = soak(&["--seed", "3", "--minutes", "0"]);
+    // A script of what differs, if something does, is no part of the source.
+    let into = env!("CARGO_TARGET_TMPDIR");
+    let output = soak(&["--seed", "3", "--minutes", "0", "--into", into]);
     let text = String::from_utf8_lossy(&output.stdout);
     assert!(output.status.success(), "{text}");
     assert!(text.starts_with("from seed 3\nup to seed 3, "), "{text}");

@@ -12,7 +12,7 @@ pub enum Opening {
     Control,
 }
 
-/// Every answer that the format has words for, those of switch messages too, which are not obeyed yet.
+/// Every answer that the format has words for.
 #[derive(Clone, Copy, Debug, PartialEq, Eq)]
 pub enum Answer {
     No(Refusal),
@@ -54,6 +54,8 @@ impl From<bench::Stepped> for Answer {
             bench::Stepped::Opened(bench::Opening::Control) => Answer::Opened(Opening::Control),
             bench::Stepped::Refused(cause) => Answer::Refused(cause),
             bench::Stepped::Dropped(cause) => Answer::Dropped(cause),
+            bench::Stepped::Malformed => Answer::Malformed,
+            bench::Stepped::Unheard => Answer::Unheard,
         }
     }
 }

@@ -38,10 +38,6 @@ impl fmt::Display for Made {
     }
 }
 
-/// A call that document 01 has and the proved library has not yet.
-#[derive(Clone, Copy, Debug, PartialEq, Eq)]
-pub struct NotBuilt(pub Call);
-
 /// The two memories that a host lends.
 #[derive(Clone, Debug, Default)]
 struct Lent {
@@ -77,26 +73,53 @@ impl Host {
     }
 
     /// Makes a call.
-    pub fn make(&mut self, line: usize, call: Call) -> Result<Made, NotBuilt> {
-        let (answer, failing) = match call {
-            Call::Fresh {
-                nodes,
-                memory_words,
-            } => self.fresh(nodes, memory_words),
-            _ => {
-                let answer = made_on(&mut self.lent, call).ok_or(NotBuilt(call))?;
-                (answer, failing_clause(answer, &self.lent))
-            }
-        };
+    pub fn make(&mut self, line: usize, call: Call) -> Made {
+        let (answer, failing) = self.answer(call);
         let answer = Answer::from(answer);
         let digest = self.digest();
         let found = Outcome { answer, digest };
-        Ok(Made {
+        Made {
             line,
             call,
             found,
             failing,
-        })
+        }
+    }
+
+    /// What the proved library answers, and the clause that fails where it says Unsound.
+    fn answer(&mut self, call: Call) -> (bench::Answer, Option<Clause>) {
+        let lent = &mut self.lent;
+        let (state, memory) = (&mut lent.state, &mut lent.memory);
+        let answer = match call {
+            Call::Fresh {
+                nodes,
+                memory_words,
+            } => return self.fresh(nodes, memory_words),
+            Call::Wire { one, other } => {
+                raw::wire(state, memory, one.slot, one.link, other.slot, other.link)
+            }
+            Call::Set { slot, setting } => set(state, memory, slot, setting),
+            Call::Hello { slot, link } => raw::hello(state, memory, slot, link),
+            Call::Aim {
+                slot,
+                channel_end,
+                destination,
+                network,
+            } => aim(lent, slot, channel_end, destination, network),
+            Call::Output {
+                slot,
+                channel_end,
+                kind,
+                value,
+            } => output(lent, slot, channel_end, kind, value),
+            Call::Input {
+                slot,
+                channel_end,
+                kind,
+            } => input(lent, slot, channel_end, kind),
+            Call::Step { slot, port } => raw::step(state, memory, slot, port),
+        };
+        (answer, failing_clause(answer, lent))
     }
 
     /// Fresh on two memories of its own: "a later Fresh that succeeds replaces the network".
@@ -129,44 +152,6 @@ fn failing_clause(answer: bench::Answer, lent: &Lent) -> Option<Clause> {
     }
 }
 
-/// Makes any call but Fresh; none where the proved library has no such call.
-fn made_on(lent: &mut Lent, call: Call) -> Option<bench::Answer> {
-    let (state, memory) = (&mut lent.state, &mut lent.memory);
-    Some(match call {
-        Call::Wire { one, other } => {
-            raw::wire(state, memory, one.slot, one.link, other.slot, other.link)
-        }
-        Call::Set { slot, setting } => set(state, memory, slot, setting),
-        Call::Hello { slot, link } => raw::hello(state, memory, slot, link),
-        Call::Aim {
-            slot,
-            channel_end,
-            destination,
-            network,
-        } => aim(lent, slot, channel_end, destination, network),
-        Call::Output {
-            slot,
-            channel_end: end,
-            kind,
-            value,
-        } => match kind {
-            Kind::Data => raw::output_data(state, memory, slot, end, value),
-            Kind::Control => raw::output_control(state, memory, slot, end, value),
-        },
-        Call::Input {
-            slot,
-            channel_end: end,
-            kind,
-        } => match kind {
-            Kind::Data => raw::input_data(state, memory, slot, end),
-            Kind::Control => raw::input_control(state, memory, slot, end),
-        },
-        Call::Step { slot, port } if lent.looks().ends_message(slot, port) => return None,
-        Call::Step { slot, port } => raw::step(&mut lent.state, &mut lent.memory, slot, port),
-        Call::Fresh { .. } => return None,
-    })
-}
-
 fn aim(
     lent: &mut Lent,
     slot: usize,
@@ -180,6 +165,22 @@ fn aim(
             raw::aim_channel(state, memory, slot, end, number, channel, network)
         }
         Destination::Control { number } => raw::aim_unit(state, memory, slot, end, number, network),
+    }
+}
+
+fn output(lent: &mut Lent, slot: usize, end: usize, kind: Kind, value: u8) -> bench::Answer {
+    let (state, memory) = (&mut lent.state, &mut lent.memory);
+    match kind {
+        Kind::Data => raw::output_data(state, memory, slot, end, value),
+        Kind::Control => raw::output_control(state, memory, slot, end, value),
+    }
+}
+
+fn input(lent: &mut Lent, slot: usize, end: usize, kind: Kind) -> bench::Answer {
+    let (state, memory) = (&mut lent.state, &lent.memory);
+    match kind {
+        Kind::Data => raw::input_data(state, memory, slot, end),
+        Kind::Control => raw::input_control(state, memory, slot, end),
     }
 }
 

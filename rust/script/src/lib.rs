@@ -23,6 +23,6 @@ mod words;
 
 pub use answer::{Answer, Opening};
 pub use call::{Call, FORMS};
-pub use host::{Host, Made, NotBuilt, Outcome};
+pub use host::{Host, Made, Outcome};
 pub use parse::{parse, Line};
 pub use play::{check, run, Fault};

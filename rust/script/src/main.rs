@@ -26,7 +26,7 @@ SETTING INDEX VALUE is number 0 VALUE, width 0 VALUE, direction BIT VALUE, linkd
 network LINK VALUE, enable LINK VALUE or hello LINK 0.
 
 Exit status: 0 all calls made, and all that is stated agrees; 1 a line differs; 2 a line that is no
-call, the end of a switch message (not built yet), or a file that cannot be read.
+call, or a file that cannot be read.
 ";
 
 /// Why the command ends with another exit status than 0.

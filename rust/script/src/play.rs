@@ -4,7 +4,7 @@ use std::fmt;
 use std::io;
 
 use crate::call::Call;
-use crate::host::{Host, Made, NotBuilt, Outcome};
+use crate::host::{Host, Made, Outcome};
 use crate::parse::{parse, Line};
 use crate::words::Expected;
 
@@ -13,8 +13,6 @@ use crate::words::Expected;
 pub enum Fault {
     /// A line that is no call, or names a value that no call can take.
     BadLine { line: usize, expected: Expected },
-    /// A call that the proved library has not yet.
-    NotBuilt { line: usize, call: Call },
     /// A line that states another outcome than the one found.
     Differs {
         line: usize,
@@ -40,12 +38,6 @@ impl fmt::Display for Fault {
     fn fmt(&self, f: &mut fmt::Formatter<'_>) -> fmt::Result {
         match self {
             Fault::BadLine { line, expected } => write!(f, "line {line}: {expected}"),
-            Fault::NotBuilt { line, call } => {
-                write!(
-                    f,
-                    "line {line}: {call}: what a switch message does at its end is not built yet"
-                )
-            }
             Fault::Differs {
                 line,
                 call,
@@ -64,7 +56,7 @@ impl std::error::Error for Fault {}
 pub fn run(text: &str, mut tell: impl FnMut(&Made) -> io::Result<()>) -> Result<(), Fault> {
     let mut host = Host::default();
     for line in lines(text)? {
-        let made = make(&mut host, line)?;
+        let made = host.make(line.number, line.call);
         tell(&made).map_err(Fault::Untold)?;
     }
     Ok(())
@@ -76,7 +68,7 @@ pub fn check(text: &str, mut tell: impl FnMut(&Made) -> io::Result<()>) -> Resul
     let mut host = Host::default();
     let mut compared = 0;
     for line in lines(text)? {
-        let made = make(&mut host, line)?;
+        let made = host.make(line.number, line.call);
         tell(&made).map_err(Fault::Untold)?;
         compare(line, &made)?;
         compared += usize::from(line.stated.is_some());
@@ -86,14 +78,6 @@ pub fn check(text: &str, mut tell: impl FnMut(&Made) -> io::Result<()>) -> Resul
 
 fn lines(text: &str) -> Result<Vec<Line>, Fault> {
     parse(text).map_err(|(line, expected)| Fault::BadLine { line, expected })
-}
-
-fn make(host: &mut Host, line: Line) -> Result<Made, Fault> {
-    let made = host.make(line.number, line.call);
-    made.map_err(|NotBuilt(call)| Fault::NotBuilt {
-        line: line.number,
-        call,
-    })
 }
 
 fn compare(line: Line, made: &Made) -> Result<(), Fault> {

@@ -50,7 +50,14 @@ fn the_scripts_beside_it_agree() {
     }
 }
 
-/// Every number for no is met in them, and every answer of a call that stands.
+#[rustfmt::skip]
+const ANSWERS: [&str; 18] = [
+    "done", "granted 0", "granted 8", "granted 16", "granted 64", "token 77", "idle", "waiting",
+    "moved", "opened link 0", "opened channel", "opened control", "refused split",
+    "refused noroute", "dropped split", "dropped noroute", "malformed", "unheard",
+];
+
+/// Every number for no is met in them, every answer of a Step, and a success of each other call.
 #[test]
 fn the_scripts_beside_it_have_every_answer() {
     let all = scripts().into_iter().map(std::fs::read_to_string);
@@ -58,7 +65,7 @@ fn the_scripts_beside_it_have_every_answer() {
     for number in 1..=12 {
         assert!(all.contains(&format!("-> no {number} #")), "no {number}");
     }
-    for answer in ["done", "granted 0", "granted 64", "token 77"] {
+    for answer in ANSWERS {
         assert!(all.contains(&format!("-> {answer} #")), "{answer}");
     }
 }
@@ -131,7 +138,7 @@ fn a_bad_line_is_named() {
     }
 }
 
-/// A board's message to its own control unit, up to the END that would have it obeyed.
+/// A board's message to its own control unit; nobody is named for the reply.
 const MESSAGE: &str = "fresh 1 832\n\
                        aim 0 0 control 0 0 0\n\
                        output 0 0 control 0xC1\n\
@@ -141,16 +148,13 @@ const MESSAGE: &str = "fresh 1 832\n\
                        step 0 8\n";
 
 #[test]
-fn a_message_that_is_not_obeyed_yet_is_named() {
+fn the_end_of_a_message_is_answered() {
     let path = file("message.txt", MESSAGE);
-    for verb in ["run", "check"] {
-        let output = bench(&[verb, &path]);
-        assert_eq!(output.status.code(), Some(2));
-        let complaint = text(&output.stderr);
-        let expected = format!("{path}: line 7: step 0 8: ");
-        assert!(complaint.starts_with(&expected), "{complaint}");
-        assert!(complaint.ends_with("not built yet\n"), "{complaint}");
-    }
+    let output = bench(&["run", &path]);
+    assert!(output.status.success(), "{}", text(&output.stderr));
+    let printed = text(&output.stdout);
+    let last = printed.lines().last().unwrap_or_default();
+    assert!(last.starts_with("step 0 8 -> malformed # "), "{printed}");
 }
 
 #[test]

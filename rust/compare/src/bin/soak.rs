@@ -5,7 +5,7 @@ use std::process::ExitCode;
 use std::time::{Duration, Instant, SystemTime, UNIX_EPOCH};
 
 use compare::reduce::report;
-use compare::soak::{fill, run, Figures, Found};
+use compare::soak::{ask, fill, run, Figures, Found};
 
 const ABOUT: &str = "\
 soak: compares the proved bench with the model on random runs and damaged memories
@@ -20,10 +20,11 @@ stated. The same seed gives the same run.
 Exit status: 0 no difference, 1 a difference, 2 words that are not understood.
 ";
 
-/// Calls of each random run, most of them behind the setting up of its network, and of each run that
-/// fills buffers.
+/// Calls of each random run, most of them behind the setting up of its network, of each run that
+/// fills buffers, and of each that asks control units.
 const CALLS: usize = 1500;
 const FILLING: usize = 1500;
+const ASKING: usize = 3000;
 
 /// How often it says how far it is.
 const EVERY: Duration = Duration::from_secs(10);
@@ -97,6 +98,7 @@ fn soak(asked: &Asked) -> ExitCode {
 fn compare_with(seed: u64) -> Result<Figures, Found> {
     let mut figures = run(model::apply, seed, CALLS)?;
     figures += fill(model::apply, seed, FILLING)?;
+    figures += ask(model::apply, seed, ASKING)?;
     Ok(figures)
 }
 

@@ -1,0 +1,354 @@
+//! Runs that ask control units: switch messages good and damaged, one after the other, to a board's
+//! own unit and to the other's, with settings that change under way, links in use, and HELLO over a
+//! cable between two links of one board.
+
+mod boards;
+
+use model::calls::Call;
+use model::network::{Network, Node, CHANNEL_ENDS};
+use model::random::Random;
+use model::set::Setting;
+use model::speech;
+use model::tokens::{Destination, Kind, Token, END, SINK};
+use model::{Answer, No};
+
+use crate::choice::busy_ports;
+use boards::{NODES, OWN, OWN_BIT, OWN_START};
+
+/// A run of that many calls on two boards. The same seed gives the same run.
+pub fn calls(seed: u64, count: usize) -> Vec<Call> {
+    let mut asking = Asking::new(seed);
+    while asking.calls.len() < count {
+        asking.scene();
+    }
+    asking.calls.truncate(count);
+    asking.calls
+}
+
+/// How many channel-ends of a board ask.
+const ASKERS: usize = 5;
+/// The channel-end that keeps a circuit open, and the channel that it sends to.
+const KEEPER: usize = 7;
+const KEPT: usize = 9;
+/// After so many Steps in a row what still moves goes in a circle.
+const PATIENCE: usize = 200;
+
+const HELLO: u32 = 1 << 24;
+const ENABLE: u32 = 1 << 31;
+
+/// A channel-end by slot and place.
+#[derive(Clone, Copy)]
+struct End {
+    slot: usize,
+    end: usize,
+}
+
+/// Makes up one scene after the other, with an eye on the state.
+struct Asking {
+    random: Random,
+    /// The settings that the boards are meant to have.
+    settings: Vec<Call>,
+    network: Option<Network>,
+    calls: Vec<Call>,
+}
+
+impl Asking {
+    fn new(seed: u64) -> Asking {
+        let mut asking = Asking {
+            random: Random::new(seed),
+            settings: Vec::new(),
+            network: None,
+            calls: Vec::new(),
+        };
+        asking.start_anew();
+        asking
+    }
+
+    /// The boards as they are meant to be, with nothing under way.
+    fn start_anew(&mut self) {
+        let number = self.random.pick(&[0, 0, 0x0120, 0xFF00]).unwrap_or(0);
+        self.settings = boards::settings(number);
+        for call in boards::cabling() {
+            self.make(call);
+        }
+        self.mend();
+    }
+
+    fn scene(&mut self) {
+        match self.random.below(40) {
+            0 => self.start_anew(),
+            1..=8 => self.ask_while_it_changes(),
+            9..=11 => self.greet_over_own_cable(),
+            12..=15 => self.ask_to_disable_a_link_in_use(),
+            _ => self.ask_at_once(),
+        }
+        if self.random.chance(85) {
+            self.take_replies();
+        }
+        if self.random.chance(70) {
+            self.mend();
+        }
+    }
+
+    fn make(&mut self, call: Call) -> Answer {
+        self.calls.push(call);
+        model::apply(&mut self.network, &call)
+    }
+
+    fn set(&mut self, slot: usize, setting: Setting) {
+        self.make(Call::Set { slot, setting });
+    }
+
+    /// Makes the settings again that are not as they are meant to be.
+    fn mend(&mut self) {
+        for call in self.settings.clone() {
+            if boards::is_undone(&self.network, &call) {
+                self.make(call);
+            }
+        }
+    }
+
+    fn nodes(&self) -> &[Node] {
+        self.network.as_ref().map_or(&[], |network| &network.nodes)
+    }
+
+    fn number(&self, slot: usize) -> u32 {
+        self.nodes().get(slot).map_or(0, |node| node.number)
+    }
+
+    // Scenes.
+
+    /// A message that is said, carried and heard out, mostly with nothing in between.
+    fn ask_at_once(&mut self) {
+        let (from, goal) = (self.asker(), self.random.below(NODES));
+        let tokens = self.message(from, goal);
+        let number = self.number(goal);
+        if !self.aim(from, Destination::Control { number }) {
+            return;
+        }
+        for token in tokens {
+            self.say(from, token);
+            if self.random.chance(40) {
+                self.step_any();
+            }
+            if self.random.chance(1) {
+                self.change(goal);
+            }
+        }
+        self.settle();
+    }
+
+    /// A message during which a setting of the node changes that hears it, mostly its width.
+    fn ask_while_it_changes(&mut self) {
+        let (from, goal) = (self.asker(), self.random.below(NODES));
+        let tokens = self.message(from, goal);
+        let number = self.number(goal);
+        if !self.aim(from, Destination::Control { number }) {
+            return;
+        }
+        for token in tokens {
+            self.say(from, token);
+        }
+        for _ in 0..40 {
+            let serves = |node: &Node| node.control_unit.serves.is_some();
+            if self.nodes().get(goal).is_some_and(serves) {
+                self.change(goal);
+                break;
+            }
+            self.step_any();
+        }
+        self.settle();
+    }
+
+    /// A message that leaves by a board's own cable, is the board's own once its number has changed,
+    /// and says HELLO on the link that it left by, with tokens of another circuit behind it.
+    fn greet_over_own_cable(&mut self) {
+        self.take_replies();
+        self.settle();
+        self.mend();
+        let slot = self.random.below(NODES);
+        let (from, behind) = (End { slot, end: 0 }, End { slot, end: 1 });
+        let number = self.number(slot) ^ OWN_BIT;
+        let tokens = speech::write(number, from.end, OWN_START, ENABLE | HELLO);
+        self.send_all(from, Destination::Control { number }, tokens);
+        let channel = SINK;
+        let held = 40 + self.random.below(17);
+        let filling = vec![Token::data(7); held];
+        self.send_all(behind, Destination::Channel { number, channel }, filling);
+        self.set(slot, Setting::Number { value: number });
+        for _ in 0..16 {
+            self.make(Call::Step { slot, port: OWN[1] });
+            self.send_on(behind);
+        }
+        self.say(behind, Token::control(END));
+        self.settle();
+    }
+
+    /// A write that would disable a link by which a circuit goes that stays open.
+    fn ask_to_disable_a_link_in_use(&mut self) {
+        let slot = self.random.below(NODES);
+        let keeper = End { slot, end: KEEPER };
+        let (number, channel) = (self.number(1 - slot), KEPT);
+        self.send_all(
+            keeper,
+            Destination::Channel { number, channel },
+            vec![Token::data(1), Token::data(2)],
+        );
+        let (from, goal) = (self.asker(), self.random.below(NODES));
+        let address = self.random.pick(&[0x82, 0x82, 0x83]).unwrap_or(0x82);
+        let data = self.random.pick(&[0, HELLO, ENABLE | HELLO]).unwrap_or(0);
+        let tokens = speech::write(self.number(from.slot), from.end, address, data);
+        let number = self.number(goal);
+        self.send_all(from, Destination::Control { number }, tokens);
+        self.settle();
+        if self.random.chance(60) {
+            self.say(keeper, Token::control(END));
+            self.settle();
+        }
+    }
+
+    /// The width of a node, most often, or its number or a link.
+    fn change(&mut self, slot: usize) {
+        let link = self.random.pick(&[0, 1, OWN[0]]).unwrap_or(0);
+        let number = self.number(slot) ^ OWN_BIT;
+        let setting = match self.random.below(8) {
+            0 => Setting::Number { value: number },
+            1 => Setting::Hello { link },
+            2 => Setting::Enable { link, value: 0 },
+            3 => Setting::Width { value: 3 },
+            _ => Setting::Width { value: 1 },
+        };
+        self.set(slot, setting);
+    }
+
+    // What is said.
+
+    fn asker(&mut self) -> End {
+        End {
+            slot: self.random.below(NODES),
+            end: self.random.below(ASKERS),
+        }
+    }
+
+    /// A message to a node's control unit. The reply is to go to the asker, to the asked node
+    /// itself, to the sink, or to a channel that is none.
+    fn message(&mut self, from: End, goal: usize) -> Vec<Token> {
+        let channel = match self.random.below(10) {
+            0..=4 => from.end,
+            5 => self.random.below(CHANNEL_ENDS),
+            6..=8 => SINK,
+            _ => self.random.pick(&[32, 254]).unwrap_or(32),
+        };
+        let own = self.random.chance(25);
+        let number = self.number(if own { goal } else { from.slot });
+        let node = self.network.as_ref().map(|network| &network.nodes[goal]);
+        let message = |node| speech::message(&mut self.random, node, number, channel);
+        node.map(message).unwrap_or_default().into()
+    }
+
+    /// Aims a channel-end, whose circuit is closed before if one was left open.
+    fn aim(&mut self, from: End, destination: Destination) -> bool {
+        let ends = self.nodes().get(from.slot).map(|node| &node.channel_ends);
+        if ends.is_some_and(|ends| ends[from.end].sending.is_some()) {
+            self.say(from, Token::control(END));
+        }
+        let aimed = self.make(Call::Aim {
+            slot: from.slot,
+            channel_end: from.end,
+            destination,
+            network: 0,
+        });
+        aimed == Answer::Done
+    }
+
+    /// Puts a token out, if need be after what is in its way has moved.
+    fn say(&mut self, from: End, token: Token) {
+        let call = Call::Output {
+            slot: from.slot,
+            channel_end: from.end,
+            kind: token.kind,
+            value: token.value,
+        };
+        if self.make(call) == Answer::No(No::Full) {
+            self.take_replies();
+            self.settle();
+            self.make(call);
+        }
+    }
+
+    /// Puts tokens out and sends them as far as the first cable.
+    fn send_all(&mut self, from: End, destination: Destination, tokens: Vec<Token>) {
+        if self.aim(from, destination) {
+            for token in tokens {
+                self.say(from, token);
+            }
+            self.send_on(from);
+        }
+    }
+
+    // What is carried.
+
+    /// Steps the ports 8..11 of a channel-end's board until they wait.
+    fn send_on(&mut self, from: End) {
+        for port in 8..12 {
+            let call = Call::Step {
+                slot: from.slot,
+                port,
+            };
+            let mut left = PATIENCE;
+            while left > 0 && !matches!(self.make(call), Answer::Waiting | Answer::Idle) {
+                left -= 1;
+            }
+        }
+    }
+
+    /// Steps ports that hold a token until all of them wait.
+    fn settle(&mut self) {
+        let mut waiting = Vec::new();
+        for _ in 0..PATIENCE {
+            let mut busy = self.busy_ports();
+            busy.retain(|place| !waiting.contains(place));
+            let Some(place) = self.random.pick(&busy) else {
+                return;
+            };
+            match self.step(place) {
+                Answer::Waiting => waiting.push(place),
+                _ => waiting.clear(),
+            }
+        }
+    }
+
+    fn step_any(&mut self) {
+        let busy = self.busy_ports();
+        if let Some(place) = self.random.pick(&busy) {
+            self.step(place);
+        }
+    }
+
+    fn step(&mut self, (slot, port): (usize, usize)) -> Answer {
+        self.make(Call::Step { slot, port })
+    }
+
+    fn busy_ports(&self) -> Vec<(usize, usize)> {
+        self.network.as_ref().map(busy_ports).unwrap_or_default()
+    }
+
+    /// Takes all that channel-ends hold.
+    fn take_replies(&mut self) {
+        while let Some((at, kind)) = self.first_held() {
+            self.make(Call::Input {
+                slot: at.slot,
+                channel_end: at.end,
+                kind,
+            });
+        }
+    }
+
+    fn first_held(&self) -> Option<(End, Kind)> {
+        let mut nodes = self.nodes().iter().enumerate();
+        nodes.find_map(|(slot, node)| {
+            let mut ends = node.channel_ends.iter().enumerate();
+            ends.find_map(|(end, state)| Some((End { slot, end }, state.tokens.front()?.kind)))
+        })
+    }
+}
