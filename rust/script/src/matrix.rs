@@ -17,7 +17,7 @@ not given, on NETWORK, 0 if not given. A row is a board that sends, a column a b
   arrived      the board that is meant got it
   Elsewhere    another board got it
   Split        a switch of the other width read its header
-  NoRoute      a switch has no enabled link for it
+  NoRoute      a switch has no enabled link of that direction and network
   Waiting      a whole round of steps changed nothing
   Steps        it is still on its way after 65536 steps
   no N         Aim or Output was refused, by this number

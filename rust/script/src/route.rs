@@ -19,7 +19,7 @@ it comes to is a line, with the link that it takes there; the last line says how
   arrived      a board of that number got it
   Elsewhere    a board of another number got it
   Split        a switch of the other width read its header
-  NoRoute      a switch has no enabled link for it
+  NoRoute      a switch has no enabled link of that direction and network
   Waiting      a whole round of steps changed nothing; what it waits for is said
   Steps        it is still on its way after 65536 steps
   refused      Aim or Output said no, by this number
@@ -121,7 +121,7 @@ fn got(looks: Looks, slot: usize, by: Option<u32>, number: u32) -> (String, bool
 
 fn refused(looks: Looks, slot: usize, cause: Cause) -> String {
     let why = match (cause, looks.node(slot).width) {
-        (Cause::NoRoute, _) => "no enabled link of it leads there",
+        (Cause::NoRoute, _) => "no enabled link of that network leads there",
         (Cause::Split, 1) => "a header of three bytes, read at one byte",
         (Cause::Split, _) => "a header of one byte, read at three bytes",
     };
