@@ -1,8 +1,6 @@
 //! The same script on both sides, as text: the product has a reader of its own, and so has the
 //! model. What they print is the same, and a line that one does not take the other does not take.
 
-use std::path::Path;
-
 use compare::filling;
 use model::random::Random;
 use model::{runs, Call};
@@ -53,7 +51,7 @@ fn the_same_text_from_both_sides() {
 
 /// The model agrees with what every script of a folder states.
 fn model_agrees(folder: &str) {
-    let folder = Path::new(env!("CARGO_MANIFEST_DIR")).join(folder);
+    let folder = format!("{}/{folder}", env!("CARGO_MANIFEST_DIR"));
     let entries = std::fs::read_dir(folder).expect("a folder of scripts");
     let paths = entries.map(|entry| entry.expect("a file").path());
     for path in paths.filter(|path| path.extension().is_some_and(|end| end == "txt")) {
