@@ -89,6 +89,19 @@ impl Bench {
         Ok(bench)
     }
 
+    /// A network over these memories, whatever they hold: a call on memories that are not sound is
+    /// refused with 1.
+    ///
+    /// ```
+    /// use bench::{raw, Bench, Refusal, Setting};
+    ///
+    /// let mut bench = Bench::over(vec![0; raw::state_words()], Vec::new());
+    /// assert_eq!(bench.set(0, Setting::Number(1)), Err(Refusal::Unsound));
+    /// ```
+    pub fn over(state: Vec<u32>, memory: Vec<u16>) -> Bench {
+        Bench { state, memory }
+    }
+
     /// Wire: join two different link ends, both unwired and disabled.
     ///
     /// ```

@@ -44,16 +44,28 @@ fn the_same_text_from_both_sides() {
     println!("{} lines", random + filling + asking);
 }
 
-/// The scripts that stand beside the command state what the model says too.
-#[test]
-fn the_model_agrees_with_the_scripts_beside_the_command() {
-    let folder = concat!(env!("CARGO_MANIFEST_DIR"), "/../script/scripts");
-    for entry in std::fs::read_dir(folder).expect("the folder scripts") {
-        let path = entry.expect("a file").path();
+/// The model agrees with what every script of a folder states.
+fn model_agrees(folder: &str) {
+    let folder = format!("{}/{folder}", env!("CARGO_MANIFEST_DIR"));
+    let entries = std::fs::read_dir(folder).expect("a folder of scripts");
+    let paths = entries.map(|entry| entry.expect("a file").path());
+    for path in paths.filter(|path| path.extension().is_some_and(|end| end == "txt")) {
         let text = std::fs::read_to_string(&path).expect("a script");
         let agree = model::script::check(&text);
         assert!(agree.is_ok_and(|calls| calls > 10), "{}", path.display());
     }
+}
+
+/// The scripts that stand beside the command state what the model says too.
+#[test]
+fn the_model_agrees_with_the_scripts_beside_the_command() {
+    model_agrees("../script/scripts");
+}
+
+/// So do the examples, the one with a switch message too.
+#[test]
+fn the_model_agrees_with_the_examples() {
+    model_agrees("../../examples");
 }
 
 /// Words to be put into lines.

@@ -3,7 +3,7 @@
 use std::fmt;
 
 use bench::sizes::MOST_NODES;
-use bench::{raw, Clause, Destination, Kind, Looks, Refusal, Setting};
+use bench::{raw, Bench, Clause, Destination, Kind, Looks, Refusal, Setting};
 
 use crate::answer::Answer;
 use crate::call::Call;
@@ -62,6 +62,11 @@ impl Host {
     /// The state, to be looked at.
     pub fn looks(&self) -> Looks<'_> {
         self.lent.looks()
+    }
+
+    /// A copy of the network, to try calls on.
+    pub fn copy(&self) -> Bench {
+        Bench::over(self.lent.state.clone(), self.lent.memory.clone())
     }
 
     /// The digest of the state, "0 while there is no network".

@@ -2,8 +2,9 @@
 //!
 //! One call a line, `CALL`, or with what came of it, `CALL -> ANSWER # DIGEST`. Empty lines and
 //! lines that begin with `//` are passed over. Numbers are decimal, or hexadecimal with `0x`.
-//! [`FORMS`] lists the calls. The command `bench` runs and checks scripts; this is what it is made
-//! of.
+//! [`FORMS`] lists the calls. The command `bench` runs and checks scripts, and says what the network
+//! is like that a script leaves: in words ([`show`]), by an END that is sent on a copy ([`route`],
+//! [`matrix`]) and as a picture ([`draw`]). This is what it is made of.
 //!
 //! ```
 //! let mut lines = Vec::new();
@@ -16,9 +17,19 @@
 
 mod answer;
 mod call;
+pub mod draw;
+mod facts;
 mod host;
+pub mod matrix;
+mod names;
 mod parse;
 mod play;
+pub mod question;
+pub mod route;
+pub mod show;
+mod waits;
+mod walk;
+mod ways;
 mod words;
 
 pub use answer::{Answer, Opening};

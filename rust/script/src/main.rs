@@ -1,12 +1,23 @@
-//! The command `bench`: runs and checks scripts of calls on the proved bench.
+//! The command `bench`: runs and checks scripts of calls on the proved bench, and says what the
+//! network is like that they leave.
 
 use std::fmt::Write as _;
 use std::io::{self, Write};
 use std::process::ExitCode;
 
-use script::{Made, FORMS};
+use bench::Bench;
+use script::matrix::{self, Matrix};
+use script::question::{read_door, Door, Question};
+use script::{draw, route, show, Made, FORMS};
 
-const USAGE: &str = "usage: bench run FILE | bench check FILE | bench --help";
+const USAGE: &str = "\
+usage: bench run FILE
+       bench check FILE
+       bench show FILE
+       bench route FILE SLOT NUMBER CHANNEL [NETWORK]
+       bench matrix [--csv] FILE [CHANNEL [NETWORK]]
+       bench draw FILE
+       bench help [VERB]";
 
 const ABOUT: &str = "\
 bench: makes the calls of a script on the proved bench
@@ -14,7 +25,13 @@ bench: makes the calls of a script on the proved bench
   bench run FILE      makes the calls and prints each with its answer and digest
   bench check FILE    makes the calls and compares with the answers and digests that FILE states;
                       names the first line that differs
-  bench --help        prints this
+  bench show FILE     makes the calls and prints the state that they leave, in words
+  bench route FILE SLOT NUMBER CHANNEL [NETWORK]
+                      sends an END from a board and prints each switch on its way
+  bench matrix [--csv] FILE [CHANNEL [NETWORK]]
+                      sends an END from every board to every board's number
+  bench draw FILE     prints the network as Graphviz DOT
+  bench --help        prints this; bench VERB --help, or bench help VERB, says more of a verb
 
 A script has one call a line, CALL, or with what came of it, CALL -> ANSWER # DIGEST. Empty lines
 and lines that begin with // are passed over. Numbers are decimal, or hexadecimal with 0x.
@@ -29,27 +46,60 @@ Exit status: 0 all calls made, and all that is stated agrees; 1 a line differs; 
 call, or a file that cannot be read.
 ";
 
-/// Why the command ends with another exit status than 0.
+const ANSWERS: &str = "
+route and matrix end with 0 where all arrived and with 1 where something did not.
+";
+
+const RUN: &str = "\
+bench run FILE: makes the calls of FILE and prints each with its answer and the digest of the state
+
+What is printed is a script again. Where a memory is unsound, standard error says what fails.
+
+Exit status: 0 all calls made; 2 the script was not run to its end.
+";
+
+const CHECK: &str = "\
+bench check FILE: makes the calls of FILE and compares with the answers and digests that it states
+
+A call whose line states nothing is made and not compared. How many agree is printed.
+
+Exit status: 0 all that is stated agrees; 1 a line differs, and is named; 2 the script was not run to
+its end.
+";
+
+/// Why a verb did not come to its end, with the exit status that this has.
 struct Complaint {
     status: u8,
     text: String,
 }
 
+/// Whether what was asked is so: exit status 0 or 1.
+type Ended = Result<bool, Complaint>;
+
 fn main() -> ExitCode {
     let words: Vec<String> = std::env::args().skip(1).collect();
     let words: Vec<&str> = words.iter().map(String::as_str).collect();
-    let ended = match words[..] {
-        ["run", file] => run(file),
-        ["check", file] => check(file),
-        ["--help" | "-h" | "help"] => print(&help()),
-        _ => Err(complaint(USAGE.to_owned())),
-    };
-    match ended {
-        Ok(()) => ExitCode::SUCCESS,
+    match obey(&words) {
+        Ok(true) => ExitCode::SUCCESS,
+        Ok(false) => ExitCode::from(1),
         Err(Complaint { status, text }) => {
             eprintln!("{text}");
             ExitCode::from(status)
         }
+    }
+}
+
+fn obey(words: &[&str]) -> Ended {
+    match *words {
+        ["--help" | "-h" | "help"] => print(&help()),
+        [verb, "--help" | "-h"] | ["help", verb] => print(help_for(verb)?),
+        ["run", file] => run(file),
+        ["check", file] => check(file),
+        ["show", file] => print(&show::show(&network(file)?)),
+        ["route", file, ref question @ ..] => follow(file, question),
+        ["matrix", ref rest @ ..] => ask_all(rest),
+        ["draw", file] => print(&draw::draw(&network(file)?)),
+        _ => Err(complaint(USAGE.to_owned())),
     }
 }
 
@@ -62,12 +112,25 @@ fn help() -> String {
     for form in FORMS.iter().flat_map(|(_, forms)| forms.split(", or ")) {
         let _ = writeln!(text, "  {form}");
     }
-    text + SETTINGS
+    text + SETTINGS + ANSWERS
 }
 
-fn print(text: &str) -> Result<(), Complaint> {
+fn help_for(verb: &str) -> Result<&'static str, Complaint> {
+    match verb {
+        "run" => Ok(RUN),
+        "check" => Ok(CHECK),
+        "show" => Ok(show::HELP),
+        "route" => Ok(route::HELP),
+        "matrix" => Ok(matrix::HELP),
+        "draw" => Ok(draw::HELP),
+        _ => Err(complaint(USAGE.to_owned())),
+    }
+}
+
+fn print(text: &str) -> Ended {
     let written = io::stdout().write_all(text.as_bytes());
-    written.map_err(|error| complaint(error.to_string()))
+    written.map_err(|error| complaint(error.to_string()))?;
+    Ok(true)
 }
 
 fn read(file: &str) -> Result<String, Complaint> {
@@ -88,7 +151,7 @@ fn say_what_fails(file: &str, made: &Made) {
     }
 }
 
-fn run(file: &str) -> Result<(), Complaint> {
+fn run(file: &str) -> Ended {
     let text = read(file)?;
     let mut out = io::BufWriter::new(io::stdout().lock());
     let ran = script::run(&text, |made| {
@@ -97,10 +160,11 @@ fn run(file: &str) -> Result<(), Complaint> {
     });
     let flushed = out.flush();
     ran.map_err(|fault| faulty(file, fault))?;
-    flushed.map_err(|error| complaint(error.to_string()))
+    flushed.map_err(|error| complaint(error.to_string()))?;
+    Ok(true)
 }
 
-fn check(file: &str) -> Result<(), Complaint> {
+fn check(file: &str) -> Ended {
     let text = read(file)?;
     let checked = script::check(&text, |made| {
         say_what_fails(file, made);
@@ -108,4 +172,51 @@ fn check(file: &str) -> Result<(), Complaint> {
     });
     let compared = checked.map_err(|fault| faulty(file, fault))?;
     print(&format!("{compared} calls agree\n"))
+}
+
+/// A copy of the network that a script leaves.
+fn network(file: &str) -> Result<Bench, Complaint> {
+    let text = read(file)?;
+    let ran = script::run(&text, |made| {
+        say_what_fails(file, made);
+        Ok(())
+    });
+    let bench = ran.map_err(|fault| faulty(file, fault))?.copy();
+    match bench.looks().nodes() {
+        0 => Err(complaint(format!(
+            "{file}: no network: no fresh of it succeeds"
+        ))),
+        _ => Ok(bench),
+    }
+}
+
+/// What was asked is not a question.
+fn unasked(expected: String) -> Complaint {
+    complaint(format!("{expected}\n{USAGE}"))
+}
+
+fn follow(file: &str, question: &[&str]) -> Ended {
+    let question = Question::read(question).map_err(unasked)?;
+    let (text, arrived) = route::route(network(file)?, question);
+    print(&text)?;
+    Ok(arrived)
+}
+
+/// `[--csv] FILE [CHANNEL [NETWORK]]`
+fn ask_all(words: &[&str]) -> Ended {
+    let (options, words): (Vec<&str>, Vec<&str>) = words.iter().partition(|word| **word == "--csv");
+    let Some((file, door)) = words.split_first() else {
+        return Err(complaint(USAGE.to_owned()));
+    };
+    let (door, network_number) = match door {
+        [] => (Door::Channel(0), 0),
+        _ => read_door(door).map_err(unasked)?,
+    };
+    let bench = network(file)?;
+    let matrix = Matrix::of(&bench, door, network_number);
+    print(&match options.is_empty() {
+        true => matrix.table(),
+        false => matrix.csv(),
+    })?;
+    Ok(matrix.all_arrived())
 }

@@ -51,15 +51,15 @@ impl fmt::Display for Fault {
 
 impl std::error::Error for Fault {}
 
-/// Makes the calls of a script and tells of each as it is made. A bad line is found before any
-/// call is made.
-pub fn run(text: &str, mut tell: impl FnMut(&Made) -> io::Result<()>) -> Result<(), Fault> {
+/// Makes the calls of a script and tells of each as it is made; answers the network that they
+/// leave. A bad line is found before any call is made.
+pub fn run(text: &str, mut tell: impl FnMut(&Made) -> io::Result<()>) -> Result<Host, Fault> {
     let mut host = Host::default();
     for line in lines(text)? {
         let made = host.make(line.number, line.call);
         tell(&made).map_err(Fault::Untold)?;
     }
-    Ok(())
+    Ok(host)
 }
 
 /// Makes the calls of a script and compares with what it states. Answers how many calls were

@@ -1,31 +1,14 @@
 //! The command `bench`: what it prints, and its exit status.
 
-use std::path::{Path, PathBuf};
-use std::process::{Command, Output};
+mod common;
 
-fn bench(words: &[&str]) -> Output {
-    let program = env!("CARGO_BIN_EXE_bench");
-    let mut command = Command::new(program);
-    command.args(words).output().expect("an output")
-}
+use std::path::PathBuf;
 
-/// A file with this text.
-fn file(name: &str, text: &str) -> String {
-    let path = PathBuf::from(env!("CARGO_TARGET_TMPDIR")).join(name);
-    std::fs::write(&path, text).expect("a file");
-    path.to_str().expect("a path").to_owned()
-}
-
-fn text(bytes: &[u8]) -> String {
-    String::from_utf8_lossy(bytes).into_owned()
-}
+use common::{bench, file, scripts_in, text};
 
 /// The scripts that stand beside the command, each with what it states.
 fn scripts() -> Vec<PathBuf> {
-    let folder = Path::new(env!("CARGO_MANIFEST_DIR")).join("scripts");
-    let entries = std::fs::read_dir(folder).expect("the folder scripts");
-    let mut paths: Vec<_> = entries.map(|entry| entry.expect("a file").path()).collect();
-    paths.sort();
+    let paths = scripts_in("scripts");
     assert!(paths.len() >= 4);
     paths
 }

@@ -1,0 +1,74 @@
+//! `bench show`: the state in words.
+
+use bench::sizes::{CHANNEL_ENDS, LINKS, PORTS};
+use bench::{Bench, Looks};
+
+use crate::facts;
+use crate::names::{letter, port};
+
+pub const HELP: &str = "\
+bench show FILE: makes the calls of FILE and prints the state that they leave, in words
+
+Each line is one fact, and begins with its place: a board by its slot, and a link, port, channel-end
+or control unit of it. Boards come by slot, and on a board its settings, links A..H, ports,
+channel-ends and control unit. A wait is found by a Step on a copy.
+
+Left out is what is at rest: links with no cable that nobody has set, ports and channel-ends with
+nothing in them, bits that lead to direction 0 where no enabled link has direction 0.
+
+Exit status: 0 printed; 2 the script was not run to its end.
+";
+
+/// The state of a network in words.
+pub fn show(bench: &Bench) -> String {
+    let boards = 0..bench.looks().nodes();
+    let boards = boards.map(|slot| board(bench, slot));
+    boards.collect::<Vec<_>>().join("\n")
+}
+
+/// A board, a line a fact.
+fn board(bench: &Bench, slot: usize) -> String {
+    let looks = bench.looks();
+    let mut lines = vec![format!("board {slot}: {}\n", facts::board(looks, slot))];
+    for fact in facts::directions(looks, slot) {
+        lines.push(format!("board {slot}: {fact}\n"));
+    }
+    for index in 0..LINKS {
+        let place = format!("board {slot} link {}", letter(index));
+        lines.extend(placed(&place, link(looks, slot, index)));
+    }
+    for index in 0..PORTS {
+        let held = facts::port_facts(looks, slot, index).into_iter();
+        let place = format!("board {slot} {}", port(index));
+        lines.extend(placed(&place, held.chain(facts::waits(bench, slot, index))));
+    }
+    for end in 0..CHANNEL_ENDS {
+        let aim = facts::aim(looks, slot, end).into_iter();
+        let place = format!("board {slot} channel-end {end}");
+        let held = facts::end_facts(looks, slot, end);
+        lines.extend(placed(&place, aim.chain(held)));
+    }
+    let place = format!("board {slot} control unit");
+    lines.extend(placed(&place, facts::unit(looks, slot)));
+    lines.concat()
+}
+
+/// A line for each fact of a place.
+fn placed(place: &str, facts: impl IntoIterator<Item = String>) -> Vec<String> {
+    let lines = facts.into_iter().map(|fact| format!("{place}: {fact}\n"));
+    lines.collect()
+}
+
+fn link(looks: Looks, slot: usize, index: usize) -> Vec<String> {
+    let seen = looks.link(slot, index);
+    if !facts::is_in_use(&seen) {
+        return Vec::new();
+    }
+    let cable = seen.far().map(|(far, end)| {
+        let end = letter(end as usize);
+        format!("cable to board {far} link {end}")
+    });
+    let settings = Some(facts::link_settings(&seen));
+    let credit = facts::link_credit(&seen);
+    [cable, settings, credit].into_iter().flatten().collect()
+}

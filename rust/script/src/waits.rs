@@ -1,0 +1,186 @@
+//! Why a Step of a port answers Waiting.
+
+use std::fmt;
+
+use bench::sizes::{LINKS, TILE_LINKS, TILE_PORTS};
+use bench::{Bench, Destination, Hop, Kind, Looks, Peer, Stepped, Token, Width};
+
+use crate::names::{channel, counted, letter, peer, port};
+use crate::ways::{ways, Ways};
+
+/// What a port waits for.
+#[derive(Clone, Debug, PartialEq, Eq)]
+pub enum Wait {
+    /// The rest of a header.
+    Header,
+    /// One of these links, each in use outward by the circuit of a port.
+    Links(Vec<(usize, Option<Peer>)>),
+    /// One of the links from the switch to the tile.
+    TileLink,
+    /// A channel-end that another circuit claims.
+    Claimed { channel: u32, by: Peer },
+    /// The control unit, which serves another circuit or has not sent all of its reply.
+    Control,
+    /// Credit on the link that its circuit leaves by.
+    Credit { link: usize, lacks: Lack },
+    /// Room in a channel-end.
+    Room { channel: u32, held: u32 },
+}
+
+/// Why a link has no credit.
+#[derive(Clone, Copy, Debug, PartialEq, Eq)]
+pub enum Lack {
+    Cable,
+    /// The link at the cable's other end is disabled.
+    FarEnd,
+    Hello,
+    /// The port at the cable's other end holds too many tokens.
+    Room {
+        slot: u32,
+        port: u32,
+        held: u32,
+    },
+}
+
+/// What a port waits for, if a Step of it, made on a copy, answers Waiting.
+pub fn wait(bench: &Bench, slot: usize, port: usize) -> Option<Wait> {
+    let looks = bench.looks();
+    let waits =
+        looks.port(slot, port).held > 0 && bench.clone().step(slot, port) == Ok(Stepped::Waiting);
+    waits.then(|| wait_of(looks, slot, port))
+}
+
+/// What a port waits for that is known to wait.
+fn wait_of(looks: Looks, slot: usize, port: usize) -> Wait {
+    match looks.port(slot, port).hop() {
+        Some(Hop::Link(link)) => credit(looks, slot, link as usize),
+        Some(Hop::Channel(channel)) => Wait::Room {
+            channel,
+            held: looks.channel_end(slot, channel as usize).held,
+        },
+        _ => match header(looks.port_tokens(slot, port)) {
+            Some(destination) => opening(looks, slot, port, destination),
+            None => Wait::Header,
+        },
+    }
+}
+
+fn credit(looks: Looks, slot: usize, link: usize) -> Wait {
+    let seen = looks.link(slot, link);
+    let lacks = match seen.far() {
+        None => Lack::Cable,
+        Some((far, end)) if looks.link(far as usize, end as usize).enabled == 0 => Lack::FarEnd,
+        Some(_) if seen.greeted == 0 => Lack::Hello,
+        Some((far, end)) => Lack::Room {
+            slot: far,
+            port: end,
+            held: looks.port(far as usize, end as usize).held,
+        },
+    };
+    Wait::Credit { link, lacks }
+}
+
+/// The destination of the whole header at the front.
+fn header(words: impl Iterator<Item = u32>) -> Option<Destination> {
+    let mut tokens = words.map_while(Token::from_word);
+    let first = tokens.next()?;
+    let value = u32::from(first.value);
+    match first.header? {
+        Width::One => Some(Destination::Channel {
+            number: value >> 5,
+            channel: value & 31,
+        }),
+        Width::Three => {
+            let (low, door) = (tokens.next()?, tokens.next()?);
+            let number = value << 8 | u32::from(low.value);
+            let channel = u32::from(door.value);
+            door.header?;
+            Some(match door.kind {
+                Kind::Data => Destination::Channel { number, channel },
+                Kind::Control => Destination::Control { number },
+            })
+        }
+    }
+}
+
+/// What a whole header waits for.
+fn opening(looks: Looks, slot: usize, port: usize, destination: Destination) -> Wait {
+    let network = network(looks, slot, port);
+    match (ways(looks, slot, destination, network), destination) {
+        (Ways::Links(links), _) => {
+            let user = |link| (link, looks.link(slot, link).user.peer());
+            Wait::Links(links.into_iter().map(user).collect())
+        }
+        (Ways::Channel, Destination::Channel { channel, .. }) => tile(looks, slot, channel),
+        _ => Wait::Control,
+    }
+}
+
+/// "Links carry their own network; a channel-end's network is set with its destination; port 12 is
+/// network 0."
+fn network(looks: Looks, slot: usize, port: usize) -> u32 {
+    if port < LINKS {
+        looks.link(slot, port).network
+    } else if TILE_PORTS.contains(&port) {
+        looks.port(slot, port).network
+    } else {
+        0
+    }
+}
+
+/// "Waiting if no tile link is free, then Waiting if the channel is claimed".
+fn tile(looks: Looks, slot: usize, channel: u32) -> Wait {
+    let claim = looks.channel_end(slot, channel as usize).claim.peer();
+    let in_use = |tile_link| looks.tile_link(slot, tile_link).user.peer().is_some();
+    match claim {
+        Some(by) if !(0..TILE_LINKS).all(in_use) => Wait::Claimed { channel, by },
+        _ => Wait::TileLink,
+    }
+}
+
+impl fmt::Display for Wait {
+    fn fmt(&self, f: &mut fmt::Formatter<'_>) -> fmt::Result {
+        match self {
+            Wait::Header => f.write_str("for the rest of its header"),
+            Wait::Links(links) => write!(f, "for {}", links_in_use(links)),
+            Wait::TileLink => f.write_str("for a tile link, all four are in use"),
+            Wait::Claimed { channel: end, by } => {
+                write!(f, "for {}, which {} has claimed", channel(*end), peer(*by))
+            }
+            Wait::Control => f.write_str("for the control unit, which is at another message"),
+            Wait::Credit { link, lacks } => {
+                write!(f, "for credit on link {}, {lacks}", letter(*link))
+            }
+            Wait::Room { channel: end, held } => {
+                let held = counted(*held as usize, "token");
+                write!(f, "for {}, which holds {held}", channel(*end))
+            }
+        }
+    }
+}
+
+fn links_in_use(links: &[(usize, Option<Peer>)]) -> String {
+    let name = |(link, user): &(usize, Option<Peer>)| match user {
+        Some(user) => format!("link {}, in use by {}", letter(*link), peer(*user)),
+        None => format!("link {}", letter(*link)),
+    };
+    links.iter().map(name).collect::<Vec<_>>().join(" or ")
+}
+
+impl fmt::Display for Lack {
+    fn fmt(&self, f: &mut fmt::Formatter<'_>) -> fmt::Result {
+        match *self {
+            Lack::Cable => f.write_str("which has no cable"),
+            Lack::FarEnd => f.write_str("the other end of its cable is disabled"),
+            Lack::Hello => f.write_str("which has not said HELLO to an enabled link"),
+            Lack::Room {
+                slot,
+                port: index,
+                held,
+            } => {
+                let held = counted(held as usize, "token");
+                write!(f, "board {slot} {} holds {held}", port(index as usize))
+            }
+        }
+    }
+}

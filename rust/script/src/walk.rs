@@ -1,0 +1,253 @@
+//! An END sent on a copy of the network and followed from switch to switch.
+//!
+//! Every fact comes from real calls: Aim, Output and then Steps of all ports, by slot and port, in
+//! rounds. What is followed is the place of the END's first header token, so that other streams in
+//! the same buffers are not mistaken for it.
+
+use bench::sizes::{CHANNEL_ENDS, PORTS, TILE_PORTS};
+use bench::{Bench, Cause, Hop, Kind, Looks, Opening, Refusal, Stepped, Token, Width};
+
+use crate::names::END;
+use crate::question::Question;
+use crate::waits::{wait, Wait};
+
+/// How many Steps are made before the answer is Steps.
+pub const MOST_STEPS: usize = 65_536;
+
+/// What became of an END.
+#[derive(Clone, Debug)]
+pub struct Walk {
+    /// The channel-end that sent it.
+    pub channel_end: usize,
+    /// The switches on its way that opened a hop for it, in order; none where it went straight to
+    /// a channel-end of its own board.
+    pub switches: Vec<Switch>,
+    pub end: Ending,
+}
+
+/// A switch on the way, and where it opened the circuit to.
+#[derive(Clone, Copy, Debug, PartialEq, Eq)]
+pub struct Switch {
+    pub place: Place,
+    pub hop: Hop,
+}
+
+/// A port of a board.
+#[derive(Clone, Copy, Debug, PartialEq, Eq)]
+pub struct Place {
+    pub slot: usize,
+    pub port: usize,
+}
+
+/// How a walk ends.
+#[derive(Clone, Debug, PartialEq, Eq)]
+pub enum Ending {
+    /// Aim or Output was refused: nothing was sent.
+    Unsent {
+        call: &'static str,
+        refusal: Refusal,
+    },
+    /// A board got the END, by its channel or, with none, by its control unit.
+    Got { slot: usize, channel: Option<u32> },
+    /// A switch refused the circuit.
+    Refused { place: Place, cause: Cause },
+    /// A whole round of Steps changed nothing.
+    Waiting {
+        place: Place,
+        /// So many tokens stand before it in the same port.
+        ahead: usize,
+        /// What the port waits for.
+        on: Option<Wait>,
+    },
+    /// It is still on its way after so many Steps.
+    Steps,
+}
+
+/// Sends an END on a network, which should be a copy, and follows it.
+pub fn walk(mut bench: Bench, question: Question) -> Walk {
+    let channel_end = lowest_not_open(bench.looks(), question.slot);
+    let (switches, end) = match send(&mut bench, channel_end, question) {
+        Err(unsent) => (Vec::new(), unsent),
+        Ok(None) => (Vec::new(), straight(question)),
+        Ok(Some(port)) => follow(bench, question.slot, port),
+    };
+    Walk {
+        channel_end,
+        switches,
+        end,
+    }
+}
+
+/// The lowest channel-end with no circuit open; where all are, the first, which Aim then refuses.
+fn lowest_not_open(looks: Looks, slot: usize) -> usize {
+    let is_open = |end: &usize| looks.channel_end(slot, *end).sending.peer().is_some();
+    (0..CHANNEL_ENDS).find(|end| !is_open(end)).unwrap_or(0)
+}
+
+/// Sends the END: the port that received its header, or none where it went straight.
+fn send(
+    bench: &mut Bench,
+    channel_end: usize,
+    question: Question,
+) -> Result<Option<usize>, Ending> {
+    let slot = question.slot;
+    let is_taken = |bench: &Bench, port: usize| bench.looks().port(slot, port).is_taken();
+    let free: Vec<usize> = TILE_PORTS.filter(|port| !is_taken(bench, *port)).collect();
+    let aimed = bench.aim(slot, channel_end, question.destination(), question.network);
+    aimed.map_err(|refusal| unsent("Aim", refusal))?;
+    let put = bench.output(slot, channel_end, Kind::Control, END);
+    put.map_err(|refusal| unsent("Output", refusal))?;
+    Ok(free.into_iter().find(|port| is_taken(bench, *port)))
+}
+
+fn unsent(call: &'static str, refusal: Refusal) -> Ending {
+    Ending::Unsent { call, refusal }
+}
+
+/// The END of a circuit within the board has been handed already.
+fn straight(question: Question) -> Ending {
+    Ending::Got {
+        slot: question.slot,
+        channel: question.door.channel(),
+    }
+}
+
+fn follow(bench: Bench, slot: usize, port: usize) -> (Vec<Switch>, Ending) {
+    let mut chase = Chase {
+        bench,
+        front: Place { slot, port },
+        ahead: 0,
+        switches: Vec::new(),
+        steps: 0,
+        changes: 0,
+    };
+    let end = chase.rounds();
+    (chase.switches, end)
+}
+
+/// An END that is being followed.
+struct Chase {
+    bench: Bench,
+    /// Where its first token is, the header's while there is one.
+    front: Place,
+    /// How many tokens stand before that in the same port.
+    ahead: usize,
+    switches: Vec<Switch>,
+    steps: usize,
+    /// How many Steps have changed something.
+    changes: usize,
+}
+
+impl Chase {
+    fn rounds(&mut self) -> Ending {
+        loop {
+            let before = self.changes;
+            if let Some(end) = self.round() {
+                return end;
+            }
+            if self.changes == before {
+                return self.waiting();
+            }
+        }
+    }
+
+    /// One Step of every port.
+    fn round(&mut self) -> Option<Ending> {
+        let slots = 0..self.bench.looks().nodes();
+        let mut places = slots.flat_map(|slot| (0..PORTS).map(move |port| Place { slot, port }));
+        places.find_map(|place| match self.steps {
+            MOST_STEPS => Some(Ending::Steps),
+            _ => self.step(place),
+        })
+    }
+
+    /// A Step of a port that holds nothing is Idle: it is counted, and need not be made.
+    fn step(&mut self, place: Place) -> Option<Ending> {
+        self.steps += 1;
+        let Place { slot, port } = place;
+        let oldest = self.bench.looks().port_tokens(slot, port).next()?;
+        let stepped = self.bench.step(slot, port);
+        let stepped = stepped.expect("no Step is refused on a network that calls have made");
+        let changed = !matches!(stepped, Stepped::Idle | Stepped::Waiting);
+        self.changes += usize::from(changed);
+        match place == self.front && changed {
+            true => self.advance(stepped, oldest),
+            false => None,
+        }
+    }
+
+    /// The port where the END is has made a Step that changed something.
+    fn advance(&mut self, stepped: Stepped, oldest: u32) -> Option<Ending> {
+        if self.ahead > 0 {
+            self.ahead -= left(stepped, oldest);
+            return None;
+        }
+        match stepped {
+            Stepped::Opened(_) => self.opened(),
+            Stepped::Refused(cause) => Some(Ending::Refused {
+                place: self.front,
+                cause,
+            }),
+            _ => self.moved(),
+        }
+    }
+
+    fn hop(&self) -> Option<Hop> {
+        let Place { slot, port } = self.front;
+        self.bench.looks().port(slot, port).hop()
+    }
+
+    fn opened(&mut self) -> Option<Ending> {
+        let (place, hop) = (self.front, self.hop()?);
+        self.switches.push(Switch { place, hop });
+        None
+    }
+
+    /// A token of the END's own circuit has left: over a cable its header's first, else the END.
+    fn moved(&mut self) -> Option<Ending> {
+        let slot = self.front.slot;
+        let looks = self.bench.looks();
+        match self.switches.last()?.hop {
+            Hop::Link(link) => {
+                let (far, port) = looks.link(slot, link as usize).far()?;
+                let (slot, port) = (far as usize, port as usize);
+                self.front = Place { slot, port };
+                self.ahead = looks.port(slot, port).held as usize - 1;
+                None
+            }
+            Hop::Channel(channel) => {
+                let channel = Some(channel);
+                Some(Ending::Got { slot, channel })
+            }
+            _ => {
+                let channel = None;
+                Some(Ending::Got { slot, channel })
+            }
+        }
+    }
+
+    fn waiting(&self) -> Ending {
+        Ending::Waiting {
+            place: self.front,
+            ahead: self.ahead,
+            on: wait(&self.bench, self.front.slot, self.front.port),
+        }
+    }
+}
+
+/// How many tokens left a port with a Step that changed something.
+fn left(stepped: Stepped, oldest: u32) -> usize {
+    match stepped {
+        Stepped::Opened(Opening::Channel | Opening::Control) => header_tokens(oldest),
+        Stepped::Opened(Opening::Link(_)) | Stepped::Refused(_) => 0,
+        _ => 1,
+    }
+}
+
+/// How many tokens the header has that begins with this one.
+fn header_tokens(oldest: u32) -> usize {
+    match Token::from_word(oldest).and_then(|token| token.header) {
+        Some(Width::Three) => 3,
+        _ => 1,
+    }
+}

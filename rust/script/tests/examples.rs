@@ -1,0 +1,131 @@
+//! The examples at the repository's top: what they state, and what each verb says of them.
+//!
+//! What a verb should print stands in `examples/expected`. To write it anew and see what changed:
+//!
+//! ```text
+//! REFRESH=1 cargo test --manifest-path rust/Cargo.toml --release --offline -p script --test examples
+//! git diff examples/expected
+//! ```
+
+mod common;
+
+use std::collections::BTreeSet;
+use std::path::{Path, PathBuf};
+
+use common::{bench, scripts_in, text};
+
+/// Examples that the proved bench cannot run yet: it does not obey switch messages. The model's
+/// answers are stated in them, and the model is held to them.
+const NOT_YET: [&str; 1] = ["update-message"];
+
+/// What `route` is asked of the examples: SLOT NUMBER CHANNEL [NETWORK].
+#[rustfmt::skip]
+const ROUTES: [(&str, &[&str]); 7] = [
+    ("deadlock", &["0 1 1", "1 0 control"]),
+    ("half-update", &["1 0 7", "0 1 3", "1 4 7", "2 2 7", "3 0 control", "0 4 control"]),
+    ("head-after", &["1 0 7", "1 4 7", "1 9 7", "0 4 255"]),
+    ("head-before", &["1 0 7", "0 1 3", "1 4 7", "1 9 7", "0 4 255", "0 4 control", "0 4 7 1"]),
+    ("mesh", &["6 14 1", "2 8 1"]),
+    ("pipeline", &["0 3 5", "3 0 5", "1 4 5", "4 0 5", "0 3 32"]),
+    ("ring", &["0 4 7", "0 8 7"]),
+];
+
+fn folder() -> PathBuf {
+    Path::new(env!("CARGO_MANIFEST_DIR")).join("../../examples")
+}
+
+/// The names of the examples that can be run.
+fn examples() -> Vec<String> {
+    let paths = scripts_in("../../examples");
+    let names = paths.iter().filter_map(|path| path.file_stem()?.to_str());
+    let runnable = names.filter(|name| !NOT_YET.contains(name));
+    runnable.map(str::to_owned).collect()
+}
+
+fn path_of(example: &str) -> String {
+    let path = folder().join(format!("{example}.txt"));
+    path.to_str().expect("a path").to_owned()
+}
+
+#[test]
+fn the_examples_agree_and_say_what_they_show() {
+    for example in examples() {
+        let output = bench(&["check", &path_of(&example)]);
+        assert!(output.status.success(), "{}", text(&output.stderr));
+        let script = std::fs::read_to_string(path_of(&example)).expect("a script");
+        assert!(script.starts_with("// "), "{example}");
+    }
+}
+
+/// What a verb prints, and its exit status.
+fn said(example: &str, verb: &str, more: &[&str]) -> (String, i32) {
+    let path = path_of(example);
+    let words = [&[verb, &path], more].concat();
+    let output = bench(&words);
+    assert_eq!(text(&output.stderr), "", "{words:?}");
+    (
+        text(&output.stdout),
+        output.status.code().expect("a status"),
+    )
+}
+
+/// Each question as it is typed, its answer and its exit status.
+fn routes(example: &str) -> String {
+    let asked = ROUTES.iter().find(|(name, _)| *name == example);
+    let (_, questions) = asked.unwrap_or_else(|| panic!("no routes of {example}"));
+    let answers = questions.iter().map(|question| {
+        let words: Vec<&str> = question.split(' ').collect();
+        let (said, status) = said(example, "route", &words);
+        format!("$ bench route {example}.txt {question}\n{said}exit status {status}\n")
+    });
+    answers.collect::<Vec<_>>().join("\n")
+}
+
+/// What is expected of an example, by the name that its file ends with.
+fn found(example: &str) -> [(&'static str, String); 5] {
+    [
+        ("show", said(example, "show", &[]).0),
+        ("routes", routes(example)),
+        ("matrix", said(example, "matrix", &[]).0),
+        ("csv", said(example, "matrix", &["--csv"]).0),
+        ("dot", said(example, "draw", &[]).0),
+    ]
+}
+
+/// Holds what was found to a file, or, where REFRESH is set, writes the file.
+fn hold(name: &str, found: &str) {
+    let path = folder().join("expected").join(name);
+    if std::env::var_os("REFRESH").is_some() {
+        std::fs::write(&path, found).expect("a file to write");
+    }
+    let expected = std::fs::read_to_string(&path).unwrap_or_default();
+    for (line, (one, other)) in (1..).zip(found.lines().zip(expected.lines())) {
+        assert_eq!(one, other, "examples/expected/{name}, line {line}");
+    }
+    assert_eq!(found, expected, "examples/expected/{name}");
+}
+
+#[test]
+fn each_verb_prints_what_is_expected() {
+    let mut names = BTreeSet::new();
+    for example in examples() {
+        for (verb, text) in found(&example) {
+            let name = format!("{example}.{verb}");
+            hold(&name, &text);
+            names.insert(name);
+        }
+    }
+    let entries = std::fs::read_dir(folder().join("expected")).expect("the folder expected");
+    let files = entries.map(|entry| entry.expect("a file").file_name());
+    let files: BTreeSet<_> = files.filter_map(|name| name.into_string().ok()).collect();
+    assert_eq!(files, names, "files of examples/expected");
+}
+
+/// The question that a half-done update raises, as an exit status.
+#[test]
+fn matrix_says_whether_all_arrive() {
+    for (example, status) in [("head-before", 0), ("half-update", 1), ("head-after", 0)] {
+        assert_eq!(said(example, "matrix", &[]).1, status, "{example}");
+        assert_eq!(said(example, "matrix", &["--csv"]).1, status, "{example}");
+    }
+}
