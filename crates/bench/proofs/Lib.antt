@@ -5,3 +5,4 @@ pub mod Numbers
 pub mod Cabled
 pub mod Started
 pub mod Waits
+pub mod Written

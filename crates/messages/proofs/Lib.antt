@@ -3,3 +3,4 @@ pub mod Writes
 pub mod Registers
 pub mod Replies
 pub mod Answers
+pub mod Reading

@@ -47,7 +47,7 @@ unrefused s n (Enable l v) = refl
 unrefused s n (Hello l) = refl
 
 module _ (s : Net) (n : ℕ) (x : Setting) where
-  by-rows : passesSet s n x ≡ eqb (refusal (setRows s n x)) passes
+  pub by-rows : passesSet s n x ≡ eqb (refusal (setRows s n x)) passes
   unfolding set
   by-rows =
       by-test (eqb (refusal (setRows s n x)) passes)
@@ -129,7 +129,7 @@ never-refused (suc k) f s n h hn =
     rw e (never-refused k (λ i. f (suc i)) z n (λ i l y hy. h (suc i) (omega arith) y hy) (rw (set-leaves s n (f zero) .nodes) hn))
 
 module _ (s : Net) (n : ℕ) (hn : n < s .nodes) (bit v : ℕ) (hb : bit ≤ 8) where
-  entry-passes : (i : ℕ) → i < 8 → (z : Net) → n < z .nodes → passesSet z n (Direction (bit + i) (field v i)) ≡ true
+  pub entry-passes : (i : ℕ) → i < 8 → (z : Net) → n < z .nodes → passesSet z n (Direction (bit + i) (field v i)) ≡ true
   unfolding field
   entry-passes i h z hz =
       set-passes z n (Direction (bit + i) (field v i)) .back
@@ -174,7 +174,7 @@ module _ (s : Net) (n l : ℕ) where
   silenced-far z (At m j) e =
       upd-all (λ a b (k : Link). z .links a b .enabled ≡ 0 → k .enabled ≡ 0) (z .links) (m .0) j (silenced (z .links (m .0) j)) n l (λ d q h. rw (← d, ← q) h) (λ o h. h) e
 
-  off : disabled s n l .links n l .enabled ≡ 0
+  pub off : disabled s n l .links n l .enabled ≡ 0
   unfolding disabled
   off = silenced-far (withLink s n l (enabledAs (silenced (s .links n l)) 0)) (farOf (s .links n l)) (ap (λ (k : Link). k .enabled) (upd-same (s .links) n l _))
 

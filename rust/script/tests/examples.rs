@@ -14,13 +14,9 @@ use std::path::{Path, PathBuf};
 
 use common::{bench, scripts_in, text};
 
-/// Examples that the proved bench cannot run yet: it does not obey switch messages. The model's
-/// answers are stated in them, and the model is held to them.
-const NOT_YET: [&str; 1] = ["update-message"];
-
 /// What `route` is asked of the examples: SLOT NUMBER CHANNEL [NETWORK].
 #[rustfmt::skip]
-const ROUTES: [(&str, &[&str]); 7] = [
+const ROUTES: [(&str, &[&str]); 8] = [
     ("deadlock", &["0 1 1", "1 0 control"]),
     ("half-update", &["1 0 7", "0 1 3", "1 4 7", "2 2 7", "3 0 control", "0 4 control"]),
     ("head-after", &["1 0 7", "1 4 7", "1 9 7", "0 4 255"]),
@@ -28,18 +24,18 @@ const ROUTES: [(&str, &[&str]); 7] = [
     ("mesh", &["6 14 1", "2 8 1"]),
     ("pipeline", &["0 3 5", "3 0 5", "1 4 5", "4 0 5", "0 3 32"]),
     ("ring", &["0 4 7", "0 8 7"]),
+    ("update-message", &["0 1 3", "1 0 3", "0 1 control"]),
 ];
 
 fn folder() -> PathBuf {
     Path::new(env!("CARGO_MANIFEST_DIR")).join("../../examples")
 }
 
-/// The names of the examples that can be run.
+/// The names of the examples.
 fn examples() -> Vec<String> {
     let paths = scripts_in("../../examples");
     let names = paths.iter().filter_map(|path| path.file_stem()?.to_str());
-    let runnable = names.filter(|name| !NOT_YET.contains(name));
-    runnable.map(str::to_owned).collect()
+    names.map(str::to_owned).collect()
 }
 
 fn path_of(example: &str) -> String {
