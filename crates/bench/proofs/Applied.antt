@@ -16,10 +16,10 @@ use Rattle.cells.specs.View.{Net}
 use Rattle.cells.proofs.Whole.{whole-state}
 use Rattle.settings.specs.declared.Setting.{Setting}
 use Rattle.settings.specs.declared.Setting.the-variants.{Number, Width, Direction, LinkDirection, Network, Enable, Hello}
-use Rattle.switch.specs.Plan.{planOf}
+use Rattle.plans.specs.Plan.{planOf}
 use Rattle.switch.specs.Step.{performed}
-use Rattle.switch.specs.declared.plan.Plan.{Plan}
-use Rattle.switch.specs.declared.plan.Plan.the-variants.{Idle, Wait, OpenOut, OpenChannel, OpenUnit, Refuse, MoveOut, Hand, Hear, Drop}
+use Rattle.plans.specs.declared.Plan.{Plan}
+use Rattle.plans.specs.declared.Plan.the-variants.{Idle, Wait, OpenOut, OpenChannel, OpenUnit, Refuse, MoveOut, Hand, Hear, Drop}
 use Rattle.switch.proofs.Stepped.{heard-answers}
 use Rattle.bench.specs.Calls.{Call, Fresh, Wire, Set, Aim, Output, Input, Step, rows, made, apply}
 

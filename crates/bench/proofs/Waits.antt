@@ -11,10 +11,10 @@ use Rattle.answers.specs.Out.{Out}
 use Rattle.answers.specs.declared.Answer.{Answer}
 use Rattle.answers.specs.declared.Answer.the-variants as A
 use Rattle.cells.specs.World.{World}
-use Rattle.switch.specs.Plan.{planOf}
+use Rattle.plans.specs.Plan.{planOf}
 use Rattle.switch.specs.Step.{performed}
-use Rattle.switch.specs.declared.plan.Plan.{Plan}
-use Rattle.switch.specs.declared.plan.Plan.the-variants.{Idle, Wait, OpenOut, OpenChannel, OpenUnit, Refuse, MoveOut, Hand, Hear, Drop}
+use Rattle.plans.specs.declared.Plan.{Plan}
+use Rattle.plans.specs.declared.Plan.the-variants.{Idle, Wait, OpenOut, OpenChannel, OpenUnit, Refuse, MoveOut, Hand, Hear, Drop}
 use Rattle.switch.proofs.Stepped.{heard-answers}
 use Rattle.bench.specs.Calls.{Step, rows, made, apply}
 

@@ -1,12 +1,9 @@
 -- "Moved, but for the two end answers" (document 01, "What a Step does"): what a message's end may be answered with. Assumes nothing.
 use Prim.Native.Nat.{ℕ}
-use mathlib.Core.Path.{_≡_}
-use mathlib.Core.Bool.{true, false}
 use Rattle.laws.specs.Pick.{pick}
 use Rattle.laws.proofs.Order.{by-test}
 use Rattle.tokens.specs.Header.{headerOf, isNarrow}
 use Rattle.tokens.specs.declared.header.Target.{Target}
-use Rattle.answers.specs.Out.{Out}
 use Rattle.answers.specs.declared.Answer.{Answer}
 use Rattle.answers.specs.declared.Answer.the-variants as Answers
 use Rattle.cells.specs.World.{World}

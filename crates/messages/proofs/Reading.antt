@@ -6,15 +6,15 @@ use mathlib.Core.Bool.{Bool, true, false, _&&_}
 use mathlib.Core.List.{List, [], _∷_}
 use native.Mathlib.Decide.{ℕ-discrete}
 use native.Mathlib.Omega.{arith}
-use lib.Dec.{eqb, ltb}
-use borrow.Author.Tests.{lt-ltb, le-ltb, eq-eqb, eqb-true, eqb-false}
+use lib.Dec.{eqb}
+use borrow.Author.Tests.{lt-ltb, le-ltb, eqb-true, eqb-false}
 use Rattle.laws.specs.Pick.{pick}
 use Rattle.laws.specs.Row.{tab}
 use Rattle.laws.proofs.All.{also, as-is}
-use Rattle.laws.proofs.Order.{by-test, clash}
+use Rattle.laws.proofs.Order.{by-test}
 use Rattle.laws.proofs.Row.{tab-ext}
 use Rattle.laws.proofs.Table.{upd-same}
-use Rattle.routing.specs.Direction.{field, entryOf, withEntry}
+use Rattle.routing.specs.Direction.{field, entryOf}
 use Rattle.routing.specs.declared.direction.Directions.{Directions}
 use Rattle.routing.proofs.Entries.{entry-same, entry-other}
 use Rattle.cells.specs.View.{Net}
@@ -24,8 +24,7 @@ use Rattle.grants.specs.Grants.{helloed, considered, greets}
 use Rattle.settings.specs.Set.{setMade, set}
 use Rattle.settings.specs.declared.Setting.{Setting}
 use Rattle.settings.specs.declared.Setting.the-variants.{Number, Width, Direction, LinkDirection, Network, Enable, Hello}
-use Rattle.settings.proofs.Leaves.{set-leaves}
-use Rattle.messages.specs.Register.{bits, placed, entriesOf, fieldsOf, readOf}
+use Rattle.messages.specs.Register.{bits, entriesOf, fieldsOf, readOf}
 use Rattle.messages.specs.declared.register.Register.{Register}
 use Rattle.messages.specs.declared.register.Register.the-variants as R
 use Rattle.messages.specs.Write.{passesSet, accepted, madeAll, written}

@@ -1,15 +1,14 @@
 -- Addresses and what stands there. Assumes nothing.
 use Prim.Native.Nat.{ℕ, _+_, _-_, _<_, _≤_}
-use mathlib.Core.Path.{_≡_, refl, sym, ap, _∙_}
-use mathlib.Core.Bool.{Bool, true, false, _&&_}
-use mathlib.Core.Logic.{_⊎_, inl, inr, ⊎-elim}
+use mathlib.Core.Path.{_≡_, sym, _∙_}
+use mathlib.Core.Bool.{true, false}
+use mathlib.Core.Logic.{_⊎_, inr, ⊎-elim}
 use native.Mathlib.Omega.{arith}
-use lib.Dec.{eqb, ltb, leb}
-use borrow.Author.Tests.{eq-eqb, ne-eqb, lt-ltb, le-ltb, le-leb, lt-leb}
+use lib.Dec.{leb}
+use borrow.Author.Tests.{ne-eqb, lt-ltb, le-ltb, le-leb, lt-leb}
 use Rattle.laws.specs.Pick.{pick}
 use Rattle.laws.proofs.All.{and-false}
 use Rattle.messages.specs.Register.{linkIn, inRow, registerOf}
-use Rattle.messages.specs.declared.register.Register.{Register}
 use Rattle.messages.specs.declared.register.Register.the-variants.{Unknown, Route, State}
 
 -- an address in a row of eight registers, and outside

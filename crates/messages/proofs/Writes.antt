@@ -2,15 +2,13 @@
 use Prim.{tt}
 use Prim.Native.Nat.{ℕ, zero, suc, _+_, _*_, _/_, _%_, _^_, _<_, _≤_}
 use mathlib.Core.Path.{_≡_, refl, sym, ap, _∙_}
-use mathlib.Core.Bool.{Bool, true, false, not, _&&_}
+use mathlib.Core.Bool.{Bool, true, false, _&&_}
 use mathlib.Core.List.{List, [], _∷_}
 use native.Mathlib.Omega.{arith}
-use lib.Dec.{eqb, ltb, leb}
-use borrow.Author.Tests.{eq-eqb, ne-eqb, lt-ltb, not-true, not-false}
-use Rattle.laws.specs.Pick.{pick}
+use lib.Dec.{eqb}
+use borrow.Author.Tests.{eq-eqb, ne-eqb, lt-ltb}
 use Rattle.laws.specs.Row.{tab}
 use Rattle.laws.specs.All.{Means}
-use Rattle.laws.proofs.All.{also, as-is, below}
 use Rattle.laws.proofs.Order.{by-test, clash}
 use Rattle.laws.proofs.Table.{upd-same, upd-all}
 use Rattle.names.specs.Size.{links}
@@ -18,7 +16,6 @@ use Rattle.names.specs.No.{passes}
 use Rattle.routing.specs.Direction.{field}
 use Rattle.answers.specs.Answer.{numberOf}
 use Rattle.answers.specs.Rows.{refusal, Passes}
-use Rattle.answers.specs.Out.{out}
 use Rattle.answers.proofs.Refusals.{passed}
 use Rattle.cells.specs.View.{Net, withLink}
 use Rattle.cells.specs.World.{farOf}
@@ -28,12 +25,11 @@ use Rattle.cells.specs.declared.link.Far.{Far}
 use Rattle.cells.specs.declared.link.Far.the-variants.{Nowhere, At}
 use Rattle.clauses.specs.Cables.{enabled}
 use Rattle.grants.specs.Grants.{silenced, farSilenced, disabled}
-use Rattle.settings.specs.Set.{linkThere, inRange, setBusy, setRows, setAnswer, setMade, set}
+use Rattle.settings.specs.Set.{setRows, setAnswer, setMade, set}
 use Rattle.settings.specs.declared.Setting.{Setting}
 use Rattle.settings.specs.declared.Setting.the-variants.{Number, Width, Direction, LinkDirection, Network, Enable, Hello}
 use Rattle.settings.proofs.Leaves.{Leaves, leaves-all, and-then, set-leaves}
-use Rattle.messages.specs.Register.{bits, entriesOf, fieldsOf}
-use Rattle.messages.specs.declared.register.Register.the-variants.{Route, State}
+use Rattle.messages.specs.Register.{entriesOf}
 use Rattle.messages.specs.Write.{passesSet, accepted, madeAll, written}
 
 -- A Set that is not refused answers no number

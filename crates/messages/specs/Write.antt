@@ -1,6 +1,6 @@
 -- "then the write is made, whole or not at all. .. Several fields in one write are tried as Sets" (document 01, "Switch messages")
 use Prim.Native.Nat.{ℕ}
-use mathlib.Core.Bool.{Bool, true, false, _&&_}
+use mathlib.Core.Bool.{Bool, true, _&&_}
 use mathlib.Core.List.{List, [], _∷_}
 use lib.Dec.{eqb}
 use Rattle.laws.specs.Pick.{pick}

@@ -1,14 +1,14 @@
 -- What the steps of a passing token come to, from the contracts of the functions that make them, and what each asks of the state that the
 -- one before left. Assumes nothing.
 use Prim.{tt}
-use Prim.Native.Nat.{ℕ, _+_, _-_, _%_, _<_, _≤_}
+use Prim.Native.Nat.{ℕ, _+_, _<_, _≤_}
 use mathlib.Core.Path.{_≡_, refl, sym, ap, _∙_}
 use mathlib.Core.Bool.{true, false}
 use mathlib.Core.List.{List}
-use mathlib.Core.Logic.{_⊎_, inl, inr, ⊎-elim}
+use mathlib.Core.Logic.{inl, inr, ⊎-elim}
 use native.Mathlib.Omega.{arith}
 use lib.Dec.{eqb, ltb}
-use lib.ListN.{length, set, length-set}
+use lib.ListN.{length-set}
 use Rattle.laws.specs.Table.{upd}
 use Rattle.laws.proofs.Order.{by-test}
 use Rattle.laws.proofs.Table.{upd-same, upd-all}
@@ -20,15 +20,13 @@ use Rattle.circuits.specs.declared.Peer.the-variants.{Nobody}
 use Rattle.tokens.specs.Word.{closes}
 use Rattle.ports.specs.Queue.{capacity, Fair, takeCounters}
 use Rattle.ports.specs.Memory.{place}
-use Rattle.ports.specs.declared.Counters.{Counters}
 use Rattle.cells.specs.View.{Net}
 use Rattle.cells.specs.World.{World, farOf}
 use Rattle.cells.specs.Changes.{countersAs, circuitAs, userAs}
 use Rattle.cells.specs.declared.port.Port.{Port}
-use Rattle.cells.specs.declared.link.Link.{Link}
 use Rattle.cells.specs.declared.link.Far.{Far}
 use Rattle.cells.specs.declared.link.Far.the-variants.{Nowhere, At}
-use Rattle.acts.specs.Acts.{Room, Holds, pushed, popped, withNet, firstAt, hopped, shutPort, shut, Keeps}
+use Rattle.acts.specs.Acts.{Room, Holds, pushed, popped, withNet, firstAt, hopped, shutPort, shut}
 use Rattle.grants.specs.Grants.{considered}
 use Rattle.answers.specs.Out.{Out, out}
 use Rattle.answers.specs.declared.Answer.the-variants.{Moved}

@@ -1,6 +1,6 @@
 -- "END and PAUSE close the hop": what it held is free, and its port has no circuit. Assumes nothing.
 use Prim.Native.Nat.{ℕ}
-use mathlib.Core.Path.{_≡_, refl, ap, _∙_}
+use mathlib.Core.Path.{_≡_, ap}
 use mathlib.Core.Bool.{true, false}
 use lib.Dec.{eqb}
 use Rattle.laws.proofs.Table.{upd-same}

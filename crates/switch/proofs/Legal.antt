@@ -1,14 +1,13 @@
 -- A header at the front of a sound port is for a channel that is there, or for a control unit. Assumes nothing.
-use Prim.{tt}
-use Prim.Native.Nat.{ℕ, suc, _+_, _-_, _/_, _%_, _<_, _≤_}
+use Prim.Native.Nat.{ℕ, _+_, _-_, _/_, _%_, _<_, _≤_}
 use mathlib.Core.Path.{_≡_, refl, sym, ap, _∙_}
-use mathlib.Core.Bool.{Bool, true, false, _||_}
+use mathlib.Core.Bool.{true, false}
 use mathlib.Core.List.{List, [], _∷_}
 use mathlib.Core.Logic.{_⊎_, inl, inr, ⊎-elim}
 use native.Mathlib.Omega.{arith}
-use lib.Dec.{eqb, ltb, lit≤}
+use lib.Dec.{eqb, ltb}
 use lib.ListN.{getD}
-use borrow.Author.Tests.{ltb-true, ltb-false, eqb-true, lt-ltb, eq-eqb, not-true}
+use borrow.Author.Tests.{ltb-true, ltb-false, eqb-true, eq-eqb}
 use Rattle.laws.proofs.All.{either, below, equal}
 use Rattle.laws.proofs.Order.{by-test, clash}
 use Rattle.laws.proofs.Row.{row-at}
@@ -26,14 +25,14 @@ use Rattle.ports.specs.Queue.{capacity, ring}
 use Rattle.ports.specs.Memory.{place, stretch}
 use Rattle.ports.proofs.Rings.{ring-start, ring-next}
 use Rattle.grammar.specs.Stage.{step, fromFresh, fromTwoDue, fromLastDue, isBad}
-use Rattle.grammar.specs.Walk.{walk, backOf}
+use Rattle.grammar.specs.Walk.{walk}
 use Rattle.grammar.specs.declared.stage.Stage.{Stage}
 use Rattle.grammar.specs.declared.stage.Stage.the-variants.{Bad, Fresh, Body, OneDue, ThreeDue, TwoDue, LastDue}
 use Rattle.cells.specs.World.{World, hop, queue}
 use Rattle.acts.specs.Acts.{wordAt}
 use Rattle.sound.specs.Sound.{sound}
 use Rattle.sound.proofs.Facts.{contents-facts}
-use Rattle.switch.specs.Plan.{targetAt}
+use Rattle.plans.specs.Plan.{targetAt}
 use Rattle.switch.specs.Step.{Door}
 
 -- by what a word is

@@ -5,6 +5,5 @@ pub mod Legal
 pub mod Cabled
 pub mod Possibles
 pub mod Stepped
-pub mod Routes
 pub mod Frees
 pub mod Moves

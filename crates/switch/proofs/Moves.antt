@@ -1,15 +1,13 @@
 -- A token that moves over a cable stands last in the far port, the very word that stood first here: value, marks and width. Assumes nothing.
-use Prim.Native.Nat.{ℕ, _+_, _<_}
-use mathlib.Core.Path.{_≡_, refl, sym, ap, _∙_}
+use Prim.Native.Nat.{ℕ}
+use mathlib.Core.Path.{_≡_, refl, ap, _∙_}
 use mathlib.Core.List.{List, [], _∷_, _++_}
 use Rattle.laws.specs.Table.{Off}
 use Rattle.laws.proofs.Table.{upd-miss}
 use Rattle.names.specs.declared.Slot.{Slot}
-use Rattle.ports.specs.Queue.{capacity}
 use Rattle.ports.specs.Memory.{place, held}
 use Rattle.ports.specs.declared.Counters.{Counters}
 use Rattle.ports.proofs.Stretches.{elsewhere}
-use Rattle.cells.specs.View.{Net}
 use Rattle.cells.specs.World.{World, farOf, queue}
 use Rattle.cells.specs.declared.port.Port.{Port}
 use Rattle.cells.specs.declared.link.Far.{Far}
@@ -17,7 +15,7 @@ use Rattle.cells.specs.declared.link.Far.the-variants.{At}
 use Rattle.acts.specs.Acts.{Room, Holds, pushed, popped, withNet, firstAt}
 use Rattle.acts.proofs.Queues.{pushed-queue}
 use Rattle.grants.specs.Grants.{considered}
-use Rattle.switch.specs.Step.{grantsUp, took, closesOut, arrives, pays, crosses, movesOut}
+use Rattle.switch.specs.Step.{took, closesOut, arrives, pays, crosses, movesOut}
 use Rattle.switch.proofs.Takes.{up-ports}
 use Rattle.switch.proofs.After.{closed-counters, room-after, far-after}
 

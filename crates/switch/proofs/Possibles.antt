@@ -1,24 +1,21 @@
 -- The plan of a Step on a sound state can be carried out. Assumes nothing.
 use Prim.{tt}
 use Prim.Native.Nat.{ℕ, _+_, _%_, _<_, _≤_}
-use mathlib.Core.Path.{_≡_, refl, sym, ap, _∙_}
-use mathlib.Core.Bool.{Bool, true, false, not, _&&_, _||_}
-use mathlib.Core.Logic.{_⊎_, inl, inr, ⊎-elim}
+use mathlib.Core.Path.{_≡_, refl, sym, ap}
+use mathlib.Core.Bool.{true, false, not, _&&_, _||_}
+use mathlib.Core.Logic.{inl, inr, ⊎-elim}
 use native.Mathlib.Omega.{arith}
 use lib.Dec.{eqb, ltb, leb, lit≤}
 use lib.ListN.{getD}
-use borrow.Author.Tests.{eqb-true, eqb-false, eq-eqb, ltb-true, ltb-false, leb-false, not-true, not-false}
-use Rattle.laws.specs.Pick.{pick}
+use borrow.Author.Tests.{eqb-true, eqb-false, ltb-true, ltb-false, leb-false}
 use Rattle.laws.proofs.All.{Sought, fails, passes, seek}
 use Rattle.laws.proofs.Order.{by-test, clash, never}
 use Rattle.names.specs.Size.{links, ports, replyPort, tileLinks, ends, endBuffer, sink}
-use Rattle.names.specs.declared.Slot.{Slot}
 use Rattle.circuits.specs.Circuit.{peerOf}
 use Rattle.circuits.specs.declared.Circuit.{Circuit}
-use Rattle.circuits.specs.declared.Cause.{Cause}
 use Rattle.circuits.specs.declared.Hop.{Hop}
 use Rattle.circuits.specs.declared.Hop.the-variants as Hops
-use Rattle.tokens.specs.Word.{isThree, isPause}
+use Rattle.tokens.specs.Word.{isPause}
 use Rattle.tokens.specs.declared.header.Width.{Width}
 use Rattle.tokens.specs.declared.header.Width.the-variants as Widths
 use Rattle.tokens.specs.declared.header.Target.{Target}
@@ -35,13 +32,12 @@ use Rattle.cells.specs.declared.link.Far.the-variants.{Nowhere, At}
 use Rattle.clauses.specs.declared.pairs.Role.the-variants.{PortLink, PortTile, PortUnit, PortClaim}
 use Rattle.clauses.specs.declared.pairs.Named.the-variants.{Nothing, One}
 use Rattle.clauses.specs.Pairs.{portOf}
-use Rattle.acts.specs.Acts.{widthAt, numberAt, wordAt, firstAt, Room, Holds, Keeps}
+use Rattle.acts.specs.Acts.{widthAt, numberAt, wordAt, firstAt, Holds}
 use Rattle.messages.specs.Ended.{Ready}
 use Rattle.sound.specs.Sound.{sound}
 use Rattle.sound.proofs.Facts.{fair, reaches, cable-facts, room-facts, pair-facts, silent-facts}
-use Rattle.switch.specs.Plan.{markedWidth, sizeOf, sameWidth, targetAt, networkAt, lowestLink, routePlan, lowestTile, tileUsed, channelPlan, unitPlan, herePlan, numberIn, byWay, wayPlan, headerPlan, outPlan, handPlan, byHop, planOf}
+use Rattle.plans.specs.Plan.{markedWidth, sizeOf, sameWidth, targetAt, networkAt, lowestLink, routePlan, lowestTile, tileUsed, channelPlan, unitPlan, herePlan, numberIn, byWay, wayPlan, headerPlan, outPlan, handPlan, byHop, planOf}
 use Rattle.switch.specs.Step.{Takes, Door, Given, FarRoom, Possible}
-use Rattle.switch.proofs.Takes.{holds-whole}
 use Rattle.switch.proofs.Legal.{LegalDoor, legal-target}
 use Rattle.switch.proofs.Cabled.{cabled}
 

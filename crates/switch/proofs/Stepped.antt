@@ -1,6 +1,6 @@
 -- A Step that plans and carries out meets its one definition. Assumes nothing.
 use Prim.Native.Nat.{ℕ, _<_}
-use mathlib.Core.Path.{_≡_, refl}
+use mathlib.Core.Path.{_≡_}
 use mathlib.Core.Bool.{true, false}
 use Rattle.laws.proofs.All.{also, below}
 use Rattle.laws.proofs.Order.{by-test}

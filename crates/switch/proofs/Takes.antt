@@ -1,38 +1,24 @@
 -- What is left to take after a token is taken, with the grant that it brings. Assumes nothing.
-use Prim.{tt}
-use Prim.Native.Nat.{ℕ, _+_, _-_, _%_, _<_, _≤_}
-use mathlib.Core.Path.{_≡_, refl, sym, ap, _∙_}
-use mathlib.Core.Bool.{true, false}
+use Prim.Native.Nat.{ℕ, _+_, _≤_}
+use mathlib.Core.Path.{_≡_, refl, ap, _∙_}
 use mathlib.Core.List.{List}
 use native.Mathlib.Omega.{arith}
-use lib.Dec.{ltb, lit≤}
-use lib.ListN.{length, set, length-set}
+use lib.Dec.{ltb}
+use lib.ListN.{length-set}
 use Rattle.laws.proofs.Order.{by-test}
 use Rattle.laws.proofs.Table.{upd-all}
 use Rattle.names.specs.Size.{links}
-use Rattle.tokens.specs.Word.{isThree}
-use Rattle.tokens.specs.declared.header.Width.{Width}
-use Rattle.tokens.specs.declared.header.Width.the-variants.{One, Three}
-use Rattle.ports.specs.Queue.{capacity, Fair}
 use Rattle.ports.specs.Memory.{place}
 use Rattle.cells.specs.View.{Net}
 use Rattle.cells.specs.World.{World, farOf}
 use Rattle.cells.specs.Changes.{creditAs}
-use Rattle.cells.specs.declared.link.Link.{Link}
 use Rattle.cells.specs.declared.link.Far.{Far}
 use Rattle.cells.specs.declared.link.Far.the-variants.{Nowhere, At}
-use Rattle.acts.specs.Acts.{Holds, popped, withNet, wordAt}
+use Rattle.acts.specs.Acts.{Holds, popped}
 use Rattle.acts.proofs.Pushes.{popped-counters}
-use Rattle.grants.specs.Grants.{considered, granted, Leads, Cabled}
-use Rattle.switch.specs.Plan.{sizeOf, markedWidth}
+use Rattle.grants.specs.Grants.{considered, granted}
+use Rattle.plans.proofs.Held.{holds-less}
 use Rattle.switch.specs.Step.{consideredAt, grantsUp, Up, took, Takes}
-
-pub size-some : (x : Width) → 1 ≤ sizeOf x
-size-some One = lit≤ tt
-size-some Three = lit≤ tt
-
-pub holds-less : {w : World} {n p : ℕ} (k j : ℕ) → j ≤ k → Holds w n p k → Holds w n p j
-holds-less k j h r = record { node = r .node; port = r .port; fair = r .fair; held = omega (arith, r .held); reaches = r .reaches }
 
 pub takes-less : {w : World} {n p : ℕ} (k j : ℕ) → j ≤ k → Takes w n p k → Takes w n p j
 takes-less k j h r = record { holds = holds-less k j h (r .holds); up = r .up }
@@ -111,22 +97,3 @@ pub took-gives : (w : World) (s z : Net) (m : List ℕ) (n p : ℕ) → record {
 unfolding took
 took-gives w s z m n p e h =
     λ j. record { net = (h ∙ ap (λ (y : World). grantsUp (y .net) n p) e) j; memory = ap (λ (y : World). y .memory) e j }
-
--- a header that is marked as three bytes, and held whole, has three tokens
-pub three-held : (w : World) (n p : ℕ) → Holds w n p (sizeOf (markedWidth (wordAt w n p 0))) → isThree (wordAt w n p 0) ≡ true → Holds w n p 3
-three-held w n p r e = rw e at r
-
--- .. and one at least, whatever its width
-pub one-held : (w : World) (n p : ℕ) → Holds w n p (sizeOf (markedWidth (wordAt w n p 0))) → Holds w n p 1
-one-held w n p r = holds-less (sizeOf (markedWidth (wordAt w n p 0))) 1 (size-some (markedWidth (wordAt w n p 0))) r
-
--- held whole, by the test that asks
-pub holds-whole : (w : World) (n p k : ℕ) → k ≤ w .net .ports n p .counters .held → Holds w n p 1 → Holds w n p k
-holds-whole w n p k h r = record { node = r .node; port = r .port; fair = r .fair; held = h; reaches = r .reaches }
-
-pub holds-some : (w : World) (n p : ℕ) → (w .net .ports n p .counters .held ≡ 0 → ⊥) → Holds w n p 0 → Holds w n p 1
-holds-some w n p h r =
-    record { node = r .node; port = r .port; fair = r .fair; held = some (w .net .ports n p .counters .held) h; reaches = r .reaches }
-  where
-    some : (a : ℕ) → (a ≡ 0 → ⊥) → 1 ≤ a
-    some a ne = omega arith

@@ -1,3 +1,2 @@
--- The definitions that contracts cite for Step: what the switch reads, what it plans, and what it then does.
-pub mod Plan
+-- The definitions that contracts cite for Step: what it does, its plan being known.
 pub mod Step

@@ -1,12 +1,11 @@
 -- "What a Step does" (document 01), done: a plan carried out by the acts.
 use Prim.{Unit}
-use Prim.Native.Nat.{ℕ, _+_, _-_, _<_, _≤_}
+use Prim.Native.Nat.{ℕ, _-_, _<_}
 use mathlib.Core.Path.{_≡_}
-use mathlib.Core.Bool.{Bool, true, false, not, _&&_}
+use mathlib.Core.Bool.{Bool, not, _&&_}
 use mathlib.Core.List.{List, [], _∷_}
 use mathlib.Core.Logic.{_⊎_}
 use lib.Dec.{eqb, ltb}
-use lib.ListN.{length, set}
 use Rattle.laws.specs.Pick.{pick}
 use Rattle.names.specs.Size.{links, ports, tileLinks, ends, sink}
 use Rattle.circuits.specs.Circuit.{ofPeer}
@@ -16,8 +15,6 @@ use Rattle.circuits.specs.declared.Hop.the-variants as Hops
 use Rattle.tokens.specs.Word.{closes}
 use Rattle.tokens.specs.declared.header.Width.{Width}
 use Rattle.tokens.specs.declared.header.Width.the-variants.{One, Three}
-use Rattle.ports.specs.Queue.{capacity, Fair}
-use Rattle.ports.specs.Memory.{place}
 use Rattle.cells.specs.View.{Net, withLink, withEnd, withUnit}
 use Rattle.cells.specs.World.{World, farOf}
 use Rattle.cells.specs.Changes.{creditAs, servesAs, heardAs}
@@ -31,9 +28,9 @@ use Rattle.names.specs.No.{NoSuch}
 use Rattle.answers.specs.Rows.{Row, row}
 use Rattle.answers.specs.Out.{Out, out, attempt}
 use Rattle.answers.specs.declared.Answer.the-variants as Answers
-use Rattle.switch.specs.Plan.{sizeOf, planOf}
-use Rattle.switch.specs.declared.plan.Plan.{Plan}
-use Rattle.switch.specs.declared.plan.Plan.the-variants.{Idle, Wait, OpenOut, OpenChannel, OpenUnit, Refuse, MoveOut, Hand, Hear, Drop}
+use Rattle.plans.specs.Plan.{sizeOf, planOf}
+use Rattle.plans.specs.declared.Plan.{Plan}
+use Rattle.plans.specs.declared.Plan.the-variants.{Idle, Wait, OpenOut, OpenChannel, OpenUnit, Refuse, MoveOut, Hand, Hear, Drop}
 
 -- "after each token .. taken from the far buffer": the link that feeds port p may be granted
 abbrev pub consideredAt : Net → Far → Net

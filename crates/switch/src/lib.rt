@@ -3,17 +3,15 @@
 pub mod open;
 pub mod pass;
 pub mod perform;
-pub mod plan;
-pub mod read;
 pub mod take;
 
 use crate::perform::perform;
-use crate::plan::plan_of;
 use answers::Answer;
 use cells::node;
 use names::Slot;
 use names::no::NO_SUCH;
 use names::size::PORTS;
+use plans::plan_of;
 ghost use mathlib.Core.Path.{_≡_};
 ghost use mathlib.Core.Bool.{true};
 ghost use Rattle.answers.specs.Out.{out};

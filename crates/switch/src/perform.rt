@@ -6,13 +6,13 @@ use crate::pass::drop_one;
 use crate::pass::hand;
 use crate::pass::hear;
 use crate::pass::move_out;
-use crate::plan::Plan;
 use crate::take::strip;
 use acts::circuit::set_hop;
 use acts::width_at;
 use answers::Answer;
 use circuits::Hop;
 use names::Slot;
+use plans::Plan;
 ghost use mathlib.Core.Path.{_≡_};
 ghost use Prim.Native.Nat.{_<_};
 ghost use Rattle.names.specs.Size.{ports, tileLinks};
@@ -20,7 +20,7 @@ ghost use Rattle.answers.specs.Out.{out};
 ghost use Rattle.acts.specs.Acts.{withNet, widthAt};
 ghost use Rattle.cells.specs.View.{view};
 ghost use Rattle.cells.specs.World.{world};
-ghost use Rattle.switch.specs.Plan.{sizeOf};
+ghost use Rattle.plans.specs.Plan.{sizeOf};
 ghost use Rattle.switch.specs.Step.{opensChannel, opensUnit, stripped, Takes, Door, Possible, performed};
 
 // "this node's channel: .. Opened and the header is removed"

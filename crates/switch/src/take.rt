@@ -14,7 +14,7 @@ ghost use Rattle.acts.specs.Acts.{firstAt};
 ghost use Rattle.grants.specs.Grants.{Leads, Cabled};
 ghost use Rattle.cells.specs.View.{view};
 ghost use Rattle.cells.specs.World.{world};
-ghost use Rattle.switch.specs.Plan.{sizeOf};
+ghost use Rattle.plans.specs.Plan.{sizeOf};
 ghost use Rattle.switch.specs.Step.{consideredAt, grantsUp, Up, took, stripped, Takes};
 
 // A grant is considered on the link that a cable leads to.

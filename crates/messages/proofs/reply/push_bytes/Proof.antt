@@ -1,7 +1,7 @@
 -- `messages::reply::push_bytes` meets its contract. Assumes nothing.
 use lib.Dec.{lit≤}
 use Prim.{tt}
-use Rattle.acts.proofs.Pushes.{less, room-after, room-all}
+use Rattle.acts.proofs.Pushes.{less, room-after}
 use borrow.Author.Needs.{needs}
 use Rattle.messages.proofs.reply.push_bytes.Statement.{statement}
 use Rattle.messages.proofs.reply.push_bytes.Tie as tie

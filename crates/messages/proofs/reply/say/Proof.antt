@@ -1,5 +1,5 @@
 -- `messages::reply::say` meets its contract. Assumes nothing.
-use Rattle.acts.proofs.Pushes.{less, room-after, room-all}
+use Rattle.acts.proofs.Pushes.{room-after}
 use borrow.Author.Needs.{needs}
 use Rattle.messages.proofs.reply.say.Statement.{statement}
 use Rattle.messages.proofs.reply.say.Tie as tie

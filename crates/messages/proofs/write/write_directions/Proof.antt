@@ -9,7 +9,7 @@ use Rattle.laws.specs.Row.{tab}
 use lib.ListN.{length}
 use native.Mathlib.Omega.{arith}
 use Prim.Native.Nat.{ℕ, _+_, _-_, _≤_, zero-le}
-use mathlib.Core.Path.{_≡_, refl, sym, ap, _∙_}
+use mathlib.Core.Path.{_≡_, refl, ap, _∙_}
 use borrow.Author.Needs.{needs}
 use Rattle.messages.proofs.write.write_directions.Statement.{statement}
 use Rattle.messages.proofs.write.write_directions.Tie as tie

@@ -1,6 +1,5 @@
 -- `messages::write::write_one` meets its contract. Assumes nothing.
 use Rattle.messages.proofs.Writes.{one}
-use mathlib.Core.Path.{_∙_}
 use borrow.Author.Needs.{needs}
 use Rattle.messages.proofs.write.write_one.Statement.{statement}
 use Rattle.messages.proofs.write.write_one.Tie as tie

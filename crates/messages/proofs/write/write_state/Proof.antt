@@ -6,7 +6,7 @@ use Rattle.settings.proofs.Leaves.{set-leaves, still-cabled}
 use Rattle.cells.specs.View.{view}
 use native.Mathlib.Omega.{arith}
 use Prim.Native.Nat.{_/_, _%_}
-use mathlib.Core.Path.{sym, _∙_}
+use mathlib.Core.Path.{_∙_}
 use borrow.Author.Needs.{needs}
 use Rattle.messages.proofs.write.write_state.Statement.{statement}
 use Rattle.messages.proofs.write.write_state.Tie as tie

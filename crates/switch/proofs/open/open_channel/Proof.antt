@@ -1,5 +1,4 @@
 -- `switch::open::open_channel` meets its contract. Assumes nothing.
-use Prim.{tt}
 use mathlib.Core.Logic.{⊎-elim}
 use native.Mathlib.Omega.{arith}
 use borrow.Author.Needs.{needs}

@@ -1,0 +1,3 @@
+-- Laws of plans.
+pub mod Held
+pub mod Routes

@@ -1,0 +1,18 @@
+-- `plans::channel_plan` meets its contract. Assumes nothing.
+use borrow.Author.Needs.{needs}
+use borrow.Author.Tests.{eq-eqb, ne-eqb}
+use Rattle.plans.proofs.channel_plan.Statement.{statement}
+use Rattle.plans.proofs.channel_plan.Tie as tie
+
+returns : tie.Need-returns
+returns c = rw (← c .before .lowest-tile .ensures, eq-eqb _ _ (c .if1 .taken))
+
+returns-2 : tie.Need-returns-2
+returns-2 c = rw (← c .before .before .before .before .lowest-tile .ensures, ne-eqb _ _ (c .before .before .before .if1 .left), ← c .before .before .at .ensures, c .if2 .taken)
+
+returns-3 : tie.Need-returns-3
+returns-3 c = rw (← c .before .before .before .before .lowest-tile .ensures, ne-eqb _ _ (c .before .before .before .if1 .left), ← c .before .before .at .ensures, c .if2 .left)
+
+pub channel-plan-spec : {M : Type 1} → statement M
+channel-plan-spec =
+    tie.close (tie.spec (λ c κs. search needs) returns (λ c κs. search needs) (λ c. search needs) returns-2 returns-3)

@@ -1,0 +1,47 @@
+-- `plans::header_plan` meets its contract. Assumes nothing.
+use mathlib.Core.Path.{ap, _∙_}
+use borrow.Author.Needs.{needs}
+use borrow.Author.Tests.{lt-ltb, le-ltb}
+use Rattle.plans.specs.Plan.{sizeOf, markedWidth}
+use Rattle.plans.proofs.Held.{holds-whole}
+use Rattle.plans.proofs.header_plan.Statement.{statement}
+use Rattle.plans.proofs.header_plan.Tie as tie
+
+returns : tie.Need-returns
+returns c = rw (← (c .before .before .size-of .ensures ∙ ap sizeOf (c .before .before .before .before .marked-width .ensures ∙ ap markedWidth (c .before .before .before .before .before .word-at .ensures))), ← c .before .before .before .at .ensures, lt-ltb _ _ (c .if1 .taken))
+
+returns-2 : tie.Need-returns-2
+returns-2 c =
+    let v = c .before .before .before .before .before .before .before .marked-width .ensures ∙ ap markedWidth (c .before .before .before .before .before .before .before .before .word-at .ensures) in
+    let h = rw (c .before .before .before .before .before .before .at .ensures, c .before .before .before .before .before .size-of .ensures, v) at (c .before .before .before .if1 .left) in
+    rw (le-ltb _ _ h, ← v, ← c .before .before .width-at .ensures, ← c .before .same-width .ensures, c .if2 .taken)
+
+target-at-requires : tie.Need-target-at-requires
+target-at-requires c κs =
+    let a = c .before .before .before .before .before .before .before .before .before .before .before in
+    let v = c .before .before .before .before .before .before .before .marked-width .ensures ∙ ap markedWidth (c .before .before .before .before .before .before .before .before .word-at .ensures) in
+    let h = rw (c .before .before .before .before .before .before .at .ensures, c .before .before .before .before .before .size-of .ensures, v) at (c .before .before .before .if1 .left) in
+    holds-whole _ _ _ _ h (a .pre .1)
+
+returns-3 : tie.Need-returns-3
+returns-3 c =
+    let v = c .before .before .before .before .before .before .before .before .before .marked-width .ensures ∙ ap markedWidth (c .before .before .before .before .before .before .before .before .before .before .word-at .ensures) in
+    let h = rw (c .before .before .before .before .before .before .before .before .at .ensures, c .before .before .before .before .before .before .before .size-of .ensures, v) at (c .before .before .before .before .before .if1 .left) in
+    let q = rw (v, c .before .before .before .before .width-at .ensures) at (c .before .before .before .same-width .ensures) in
+    rw (le-ltb _ _ h, ← q, c .before .before .if2 .left) (c .way-plan .ensures ∙ rw (c .before .target-at .ensures))
+
+pub header-plan-spec : {M : Type 1} → statement M
+header-plan-spec =
+    tie.close
+    (tie.spec
+    (λ c κs. search needs)
+    (λ c κs. search needs)
+    (λ c κs. search needs)
+    (λ c κs. search needs)
+    returns
+    (λ c κs. search needs)
+    (λ c κs. search needs)
+    returns-2
+    target-at-requires
+    (λ c κs. search needs)
+    returns-3)

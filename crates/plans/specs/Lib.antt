@@ -1,0 +1,2 @@
+-- The definitions that contracts cite for what a Step is to do.
+pub mod Plan
