@@ -1,4 +1,5 @@
 -- A header at the front of a sound port is for a channel that is there, or for a control unit. Assumes nothing.
+use Prim.{Unit, tt}
 use Prim.Native.Nat.{ℕ, _+_, _-_, _/_, _%_, _<_, _≤_}
 use mathlib.Core.Path.{_≡_, refl, sym, ap, _∙_}
 use mathlib.Core.Bool.{true, false}
@@ -136,7 +137,7 @@ module _ (w : World) (s : sound w ≡ true) (n p : ℕ) (hn : n < w .net .nodes)
 -- a destination whose channel is there, or a control unit
 abbrev pub LegalDoor : Target → Type 0
 LegalDoor (T.Channel m c) = Door c
-LegalDoor (T.Unit m) = ℕ
+LegalDoor (T.Unit m) = Unit
 
 pub legal-target : (w : World) → sound w ≡ true → (n p : ℕ) → n < w .net .nodes → p < ports → hop (w .net) n p ≡ Shut
     → (isThree (wordAt w n p 0) ≡ true → 3 ≤ w .net .ports n p .counters .held)
@@ -144,5 +145,5 @@ pub legal-target : (w : World) → sound w ≡ true → (n p : ℕ) → n < w .n
 unfolding readOne readThree
 legal-target w s n p hn hp e whole =
     by-test (isThree (wordAt w n p 0))
-    (λ t. rw t (by-test (isControl (wordAt w n p 2)) (λ c. rw c 0) (λ c. rw c (named-door w s n p hn hp e t (whole t) c))))
+    (λ t. rw t (by-test (isControl (wordAt w n p 2)) (λ c. rw c tt) (λ c. rw c (named-door w s n p hn hp e t (whole t) c))))
     (λ t. rw t (inr (omega arith)))
