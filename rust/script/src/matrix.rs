@@ -12,18 +12,19 @@ board to every board's number
 
 Each END is sent and followed as `bench route` does it, on a copy of its own: from the lowest
 channel-end of its board that has no circuit open, to CHANNEL (`control` for the control unit), 0 if
-not given, on NETWORK, 0 if not given. A row is a board that sends, a column a board that is meant:
+not given, on NETWORK, 0 if not given. A row is a board that sends, a column a board to whose number
+it sends:
 
-  arrived      the board that is meant got it
-  Elsewhere    another board got it
+  arrived      a board of that number got it
+  Elsewhere    a board of another number got it
   Split        a switch of the other width read its header
   NoRoute      a switch has no enabled link of that direction and network
   Waiting      a whole round of steps changed nothing
   Steps        it is still on its way after 65536 steps
   no N         Aim or Output was refused, by this number
 
-With --csv each pair is a line for a spreadsheet: who sends, who is meant, what came of it, and the
-board where it ended.
+With --csv each pair is a line for a spreadsheet: who sends, to whose number, what came of it, and
+the board where it ended. Where two boards have one number this tells which of them got it.
 
 Exit status: 0 all arrived; 1 some did not; 2 the script was not run to its end, or nothing was
 asked.
@@ -61,7 +62,7 @@ impl Matrix<'_> {
                 door,
                 network,
             };
-            pair(from, to, walk(bench.clone(), question).end)
+            pair(looks, from, to, walk(bench.clone(), question).end)
         });
         let pairs = asked.collect();
         Matrix { looks, pairs }
@@ -108,10 +109,11 @@ impl Matrix<'_> {
     }
 }
 
-fn pair(from: usize, to: usize, end: Ending) -> Pair {
+fn pair(looks: Looks, from: usize, to: usize, end: Ending) -> Pair {
+    let number = |slot: usize| looks.node(slot).number;
     let (outcome, at) = match end {
         Ending::Unsent { refusal, .. } => (format!("no {}", refusal.number()), None),
-        Ending::Got { slot, .. } if slot == to => (ARRIVED.to_owned(), Some(slot)),
+        Ending::Got { slot, .. } if number(slot) == number(to) => (ARRIVED.to_owned(), Some(slot)),
         Ending::Got { slot, .. } => ("Elsewhere".to_owned(), Some(slot)),
         Ending::Refused { place, cause } => (cause_name(cause).to_owned(), Some(place.slot)),
         Ending::Waiting { place, .. } => ("Waiting".to_owned(), Some(place.slot)),

@@ -211,7 +211,7 @@ fn elsewhere_is_a_board_of_another_number() {
     assert_eq!(ending(&script, "1 9 6"), own);
 }
 
-/// Two boards of one number: the number is reached, and the second board is not.
+/// Two boards of one number: the number is reached, and the csv tells that the first board got it.
 #[test]
 fn the_first_of_two_boards_of_a_number_gets_it() {
     let script = on_two("set 0 number 0 6\nset 1 number 0 6\n");
@@ -221,11 +221,11 @@ fn the_first_of_two_boards_of_a_number_gets_it() {
     );
     let table = said("matrix", &script, &["7"]);
     assert!(
-        table.contains("from board 0, number 6  arrived    Elsewhere\n"),
+        table.contains("from board 0, number 6  arrived  arrived\n"),
         "{table}"
     );
     let csv = said("matrix", &script, &["--csv"]);
-    assert!(csv.contains("\n0,6,1,6,Elsewhere,0\n"), "{csv}");
+    assert!(csv.contains("\n0,6,1,6,arrived,0\n"), "{csv}");
 }
 
 /// Tokens of another stream before it, which are moved on first, are not taken for its own.
