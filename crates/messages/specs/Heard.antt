@@ -39,7 +39,7 @@ two k i = valueOf (token k i) * 0x100 + valueOf (token k (i + 1))
 abbrev pub four : Unit → ℕ → ℕ
 four k i = two k i * 0x10000 + two k (i + 2)
 
--- "A known reply address (command and three data bytes, channel 0..31 or 255)"
+-- "A known reply address (command and three data bytes, channel 0..31 or 255)": a word that is such a channel is data
 abbrev pub isCommand : ℕ → Bool
 isCommand x = eqb x (controlWord writec) || eqb x (controlWord readc)
 

@@ -6,6 +6,7 @@ use lib.Dec.{eqb, ltb, leb}
 use lib.ListN.{getD}
 use Rattle.laws.specs.Pick.{pick}
 use Rattle.laws.specs.Row.{tab}
+use Rattle.names.specs.Size.{links}
 use Rattle.routing.specs.Direction.{field}
 use Rattle.cells.specs.View.{Net}
 use Rattle.settings.specs.declared.Setting.{Setting}
@@ -17,9 +18,9 @@ use Rattle.messages.specs.declared.register.Register.the-variants.{Unkno
 abbrev pub linkIn : ℕ → ℕ
 linkIn i = getD (2 ∷ 3 ∷ 0 ∷ 1 ∷ 6 ∷ 7 ∷ 4 ∷ 5 ∷ []) i 0
 
--- a row of eight registers, one for each link
+-- a row of registers, one for each link
 abbrev pub inRow : ℕ → ℕ → Bool
-inRow first a = leb first a && ltb a (first + 8)
+inRow first a = leb first a && ltb a (first + links)
 
 abbrev pub registerOf : ℕ → Register
 registerOf a =

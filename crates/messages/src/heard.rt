@@ -6,6 +6,7 @@ use cells::unit;
 use cells::unit::Unit;
 use names::NodeNumber;
 use names::Slot;
+use names::size::ENDS;
 use names::size::SINK;
 use names::size::UNIT_BUFFER;
 use tokens::header::Target;
@@ -21,6 +22,9 @@ ghost use Rattle.messages.specs.Heard.{hearsWord, listens, token, twoDat
 const WRITE: u32 = 0x01C0;
 
 const READ: u32 = 0x01C1;
+
+// Channels but for the sink, beside words of 32 bits.
+const CHANNELS: u32 = ENDS as u32;
 
 pub enum Message {
     // no known reply address, or PAUSE at its end
@@ -104,7 +108,7 @@ fn has_reply(k: Unit) -> bool
     ensures { λ r. ⌜ r ≡ hasReply k ⌝ }
 {
     let c = token(k, 3);
-    (4 <= k.heard) & (is_command(token(k, 0)) & (two_data(k, 1) & ((c < 32) | (c == SINK))))
+    (4 <= k.heard) & (is_command(token(k, 0)) & (two_data(k, 1) & ((c < CHANNELS) | (c == SINK))))
 }
 
 fn reply_to(k: Unit) -> Target
