@@ -1,21 +1,18 @@
 -- Room before and after an act. Assumes nothing.
 use Prim.Native.Nat.{ℕ, suc, _+_, _%_, _<_, _≤_}
-use mathlib.Core.Path.{_≡_, refl, sym, ap, _∙_}
-use mathlib.Core.Bool.{Bool, true, false}
+use mathlib.Core.Path.{_≡_, sym, ap, _∙_}
+use mathlib.Core.Bool.{Bool, false}
 use mathlib.Core.List.{List, [], _∷_}
 use mathlib.Core.Logic.{⊎-elim}
 use native.Mathlib.Omega.{arith}
-use lib.ListN.{length, set, length-set}
+use lib.ListN.{length, length-set}
 use Rattle.laws.proofs.Order.{clash}
 use Rattle.laws.proofs.Table.{upd-same}
 use Rattle.names.specs.Size.{endBuffer}
 use Rattle.tokens.specs.Word.{isPause}
-use Rattle.ports.specs.Queue.{capacity, Fair, putCounters, takeCounters}
+use Rattle.ports.specs.Queue.{capacity, putCounters, takeCounters}
 use Rattle.ports.specs.Memory.{place}
-use Rattle.ports.specs.declared.Counters.{Counters}
-use Rattle.cells.specs.View.{Net}
 use Rattle.cells.specs.World.{World}
-use Rattle.cells.specs.Changes.{countersAs}
 use Rattle.cells.specs.declared.port.Port.{Port}
 use Rattle.cells.specs.declared.end.End.{End}
 use Rattle.acts.specs.Acts.{Room, pushed, pushedAll, popped, Keeps}

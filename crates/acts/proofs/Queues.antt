@@ -1,10 +1,9 @@
 -- A port as a queue through the acts: what is put is behind all else, what is taken was first, and a word keeps its marks. Assumes nothing.
-use Prim.Native.Nat.{ℕ, _+_, _%_, _<_, _≤_}
-use mathlib.Core.Path.{_≡_, refl, sym, ap, _∙_}
-use mathlib.Core.List.{List, [], _∷_, _++_}
+use Prim.Native.Nat.{ℕ}
+use mathlib.Core.Path.{_≡_, sym, ap, _∙_}
+use mathlib.Core.List.{[], _∷_, _++_}
 use native.Mathlib.Omega.{arith}
-use Rattle.ports.specs.Queue.{capacity, putCounters, takeCounters}
-use Rattle.ports.specs.Memory.{place, held, putMemory, takeMemory, firstOf}
+use Rattle.ports.specs.Memory.{place, held, putMemory, takeMemory}
 use Rattle.ports.specs.declared.Counters.{Counters}
 use Rattle.ports.proofs.Stretches.{put-here, take-here}
 use Rattle.cells.specs.World.{World, queue}

@@ -1,12 +1,11 @@
 -- Each number is given exactly under its row's condition, and a refused call changes nothing. Assumes nothing.
 use Prim.{tt}
 use Prim.Native.Nat.{ℕ}
-use mathlib.Core.Path.{_≡_, refl, sym, ap, _∙_}
-use mathlib.Core.Bool.{Bool, true, false, not, _&&_}
+use mathlib.Core.Path.{_≡_, refl, sym, _∙_}
+use mathlib.Core.Bool.{Bool, true, false, not}
 use mathlib.Core.List.{List, [], _∷_}
 use lib.Dec.{eqb}
 use borrow.Author.Tests.{eq-eqb, ne-eqb, eqb-true, not-true}
-use Rattle.laws.specs.Pick.{pick}
 use Rattle.laws.specs.All.{Means}
 use Rattle.laws.proofs.All.{also, as-is}
 use Rattle.laws.proofs.Order.{by-test, clash}

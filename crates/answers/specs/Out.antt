@@ -1,5 +1,4 @@
 -- What comes of a call: its one answer, and the whole of what it was made on as it is after it.
-use Prim.Native.Nat.{ℕ}
 use mathlib.Core.List.{List}
 use lib.Dec.{eqb}
 use Rattle.laws.specs.Pick.{pick}

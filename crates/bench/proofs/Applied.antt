@@ -1,7 +1,7 @@
 -- Theorems over every call: one result, numbers exactly under their conditions, nothing changed by a refusal. Assumes nothing.
 use Prim.Native.Nat.{ℕ}
 use mathlib.Core.Path.{_≡_, refl, sym, ap, _∙_}
-use mathlib.Core.Bool.{true, false, _&&_}
+use mathlib.Core.Bool.{true, false}
 use mathlib.Core.List.{List}
 use lib.Dec.{eqb}
 use Rattle.laws.specs.All.{Means}
@@ -12,9 +12,7 @@ use Rattle.answers.specs.Out.{Out, out}
 use Rattle.answers.specs.declared.Answer.{Answer}
 use Rattle.answers.proofs.Refusals.{given, passed, answered, kept}
 use Rattle.cells.specs.World.{World, world}
-use Rattle.cells.specs.View.{Net}
 use Rattle.cells.proofs.Whole.{whole-state}
-use Rattle.settings.specs.declared.Setting.{Setting}
 use Rattle.settings.specs.declared.Setting.the-variants.{Number, Width, Direction, LinkDirection, Network, Enable, Hello}
 use Rattle.plans.specs.Plan.{planOf}
 use Rattle.switch.specs.Step.{performed}

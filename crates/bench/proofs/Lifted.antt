@@ -1,5 +1,5 @@
 -- What a public call does that tests the state first, and then makes the call on a state that is known to be sound. Assumes nothing.
-use mathlib.Core.Path.{_≡_, refl, sym, ap, _∙_}
+use mathlib.Core.Path.{_≡_, ap, _∙_}
 use mathlib.Core.Bool.{true, false}
 use mathlib.Core.List.{List, _∷_}
 use lib.Dec.{eqb}

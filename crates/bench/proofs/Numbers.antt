@@ -1,7 +1,7 @@
 -- Each number for no of each call, spelt out: the condition under which it is given, lower ones absent. All are `exactly`. Assumes nothing.
 use Prim.Native.Nat.{ℕ}
 use mathlib.Core.Path.{_≡_}
-use mathlib.Core.Bool.{Bool, true, false, not, _&&_, _||_}
+use mathlib.Core.Bool.{true, false, not, _&&_, _||_}
 use lib.Dec.{eqb, ltb}
 use Rattle.laws.specs.All.{Means}
 use Rattle.names.specs.No as Names

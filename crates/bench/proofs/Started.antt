@@ -2,7 +2,6 @@
 use Prim.Native.Nat.{ℕ, _≤_}
 use mathlib.Core.Path.{_≡_, ap, sym, _∙_}
 use mathlib.Core.Bool.{true}
-use lib.Dec.{eqb, leb}
 use borrow.Author.Tests.{eq-eqb, not-false}
 use Rattle.laws.proofs.All.{also, at-most}
 use Rattle.names.specs.Size.{nodes}

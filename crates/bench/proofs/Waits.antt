@@ -1,13 +1,12 @@
 -- "A Waiting or Idle step changes nothing either." (document 01, "Numbers for no") Assumes nothing.
 use Prim.Native.Nat.{ℕ}
-use mathlib.Core.Path.{_≡_, refl, sym, ap, _∙_}
+use mathlib.Core.Path.{_≡_, refl, sym, _∙_}
 use mathlib.Core.Bool.{Bool, true, false}
 use lib.Dec.{eqb}
 use Rattle.laws.proofs.Order.{by-test, clash}
 use Rattle.names.specs.No.{passes}
 use Rattle.names.specs.declared.Slot.{Slot}
 use Rattle.answers.specs.Rows.{refusal}
-use Rattle.answers.specs.Out.{Out}
 use Rattle.answers.specs.declared.Answer.{Answer}
 use Rattle.answers.specs.declared.Answer.the-variants as A
 use Rattle.cells.specs.World.{World}
@@ -16,7 +15,7 @@ use Rattle.switch.specs.Step.{performed}
 use Rattle.plans.specs.declared.Plan.{Plan}
 use Rattle.plans.specs.declared.Plan.the-variants.{Idle, Wait, OpenOut, OpenChannel, OpenUnit, Refuse, MoveOut, Hand, Hear, Drop}
 use Rattle.switch.proofs.Stepped.{heard-answers}
-use Rattle.bench.specs.Calls.{Step, rows, made, apply}
+use Rattle.bench.specs.Calls.{Step, rows, apply}
 
 -- Idle and Waiting, of all answers
 abbrev pub still : Answer → Bool

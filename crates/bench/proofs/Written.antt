@@ -3,23 +3,19 @@
 use Prim.{Unit}
 use Prim.Native.Nat.{ℕ}
 use mathlib.Core.Path.{_≡_, refl, sym, ap, _∙_}
-use mathlib.Core.Bool.{true, false}
+use mathlib.Core.Bool.{true}
 use mathlib.Core.List.{List, [], _∷_, map}
-use lib.Dec.{eqb}
 use Rattle.laws.proofs.All.{also, as-is}
-use Rattle.names.specs.No.{passes}
 use Rattle.names.specs.declared.Slot.{Slot}
-use Rattle.answers.specs.Rows.{refusal}
-use Rattle.cells.specs.View.{Net}
 use Rattle.cells.specs.World.{World}
 use Rattle.acts.specs.Acts.{withNet}
-use Rattle.settings.specs.Set.{setRows, set}
+use Rattle.settings.specs.Set.{set}
 use Rattle.settings.specs.declared.Setting.{Setting}
 use Rattle.messages.specs.Write.{passesSet, accepted, madeAll, written}
 use Rattle.messages.proofs.Writes.{by-rows, made-next}
 use Rattle.messages.proofs.Reading.{as-sets}
 use Rattle.sound.specs.Sound.{sound}
-use Rattle.bench.specs.Calls.{Call, Set, apply}
+use Rattle.bench.specs.Calls.{Set, apply}
 use Rattle.bench.specs.Runs.{run}
 
 -- every state on the way is sound

@@ -1,6 +1,5 @@
 -- Runs: any list of calls, each made on the state and token memory exactly as the one before left them.
 use mathlib.Core.List.{List, [], _∷_}
-use Rattle.answers.specs.Out.{Out}
 use Rattle.answers.specs.declared.Answer.{Answer}
 use Rattle.cells.specs.World.{World}
 use Rattle.bench.specs.Calls.{Call, apply}

@@ -1,9 +1,9 @@
 -- The view leaves no word out: two states with one view are the same words, whatever their lengths and contents. So a contract on views
 -- names every word of the state. Assumes nothing.
 use Prim.Native.Nat.{ℕ, _+_, _*_, _-_, _/_, _%_, _≤_, _<_}
-use mathlib.Core.Path.{_≡_, refl, sym, ap, _∙_}
+use mathlib.Core.Path.{_≡_, sym, ap, _∙_}
 use mathlib.Core.Logic.{⊎-elim}
-use mathlib.Core.List.{List, []}
+use mathlib.Core.List.{List}
 use native.Mathlib.Omega.{arith}
 use lib.Dec.{lit≤}
 use lib.ListN.{length, getD, drop, length-drop}
@@ -11,7 +11,7 @@ use lib.Seq.{ext-getD, getD-drop}
 use Rattle.laws.specs.Row.{row}
 use Rattle.laws.proofs.Order.{order}
 use Rattle.laws.proofs.Row.{row-long, row-at, listed}
-use Rattle.cells.specs.Layout.{stride, Within, begins, nodesIn, table, wordsOf, node, link, port, tile, end, unit}
+use Rattle.cells.specs.Layout.{stride, Within, begins, nodesIn, table, node, link, port, tile, end, unit}
 use Rattle.cells.specs.Records.{toNode, fromNode, toLink, fromLink, toPort, fromPort, toTile, fromTile, toEnd, fromEnd, toUnit, fromUnit}
 use Rattle.cells.specs.View.{view, Net}
 use Rattle.cells.specs.declared.layout.Kind.{Kind}

@@ -1,11 +1,10 @@
 -- The view of a state of zeros. Assumes nothing.
 use Prim.Native.Nat.{ℕ, _+_, _*_, _/_, _≤_, _<_}
 use mathlib.Core.Path.{_≡_, refl, sym, ap, _∙_}
-use mathlib.Core.Bool.{true, false}
 use mathlib.Core.List.{List, []}
 use native.Mathlib.Omega.{arith}
-use lib.Dec.{lit≤, ltb}
-use lib.ListN.{length, getD, drop, replicate, length-replicate, getD-replicate, length-drop}
+use lib.Dec.{lit≤}
+use lib.ListN.{length, drop, replicate, length-replicate, getD-replicate}
 use lib.Seq.{ext-getD, drop-length}
 use borrow.Author.Tests.{le-ltb}
 use Rattle.laws.specs.Row.{row}

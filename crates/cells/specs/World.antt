@@ -7,7 +7,6 @@ use lib.Dec.{eqb, leb}
 use lib.ListN.{length}
 use Rattle.laws.specs.Pick.{pick}
 use Rattle.names.specs.Size.{nodes, ports}
-use Rattle.names.specs.declared.Slot.{Slot}
 use Rattle.circuits.specs.Circuit.{hopOf}
 use Rattle.circuits.specs.declared.Hop.{Hop}
 use Rattle.ports.specs.Queue.{capacity}

@@ -9,7 +9,6 @@ use Rattle.circuits.specs.Circuit.{legalPeer, legalHopKind}
 use Rattle.circuits.specs.declared.Circuit.{Circuit}
 use Rattle.ports.specs.Queue.{capacity}
 use Rattle.tokens.specs.Shape.{legalChannel}
-use Rattle.cells.specs.View.{Net}
 use Rattle.cells.specs.declared.node.Node.{Node}
 use Rattle.cells.specs.declared.link.Link.{Link}
 use Rattle.cells.specs.declared.port.Port.{Port}

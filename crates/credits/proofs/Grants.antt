@@ -1,10 +1,9 @@
 -- A grant is one of four, and never more than the far buffer has room for. Assumes nothing.
-use Prim.Native.Nat.{ℕ, _+_, _-_, _≤_, _<_}
-use mathlib.Core.Path.{_≡_, refl}
-use mathlib.Core.Bool.{Bool, true, false}
+use Prim.Native.Nat.{ℕ, _+_, _≤_}
+use mathlib.Core.Path.{_≡_}
 use native.Mathlib.Omega.{arith}
 use lib.Dec.{ltb, leb}
-use borrow.Author.Tests.{leb-true, ltb-true, le-ltb}
+use borrow.Author.Tests.{leb-true, le-ltb}
 use Rattle.laws.proofs.Order.{by-test}
 use Rattle.ports.specs.Queue.{capacity}
 use Rattle.credits.specs.Grant.{roomOf, covered, grantOf, Granted, none, eight, sixteen, all}

@@ -1,10 +1,10 @@
 -- What the steps of an Output come to, from the contracts of the functions that make them. Assumes nothing.
 use Prim.{tt}
-use Prim.Native.Nat.{ℕ, _+_, _<_, _≤_}
-use mathlib.Core.Path.{_≡_, refl, sym, ap, _∙_}
+use Prim.Native.Nat.{ℕ, _<_}
+use mathlib.Core.Path.{_≡_, refl, ap, _∙_}
 use mathlib.Core.List.{List, [], _∷_}
 use lib.Dec.{lit≤}
-use Rattle.names.specs.Size.{ports, ends}
+use Rattle.names.specs.Size.{ends}
 use Rattle.tokens.specs.Header.{headerOf, words}
 use Rattle.tokens.specs.declared.header.Header.{Header}
 use Rattle.tokens.specs.declared.header.Header.the-variants as H

@@ -1,13 +1,12 @@
 -- The plan of an Output on a sound state can be carried out. Assumes nothing.
 use Prim.{tt}
 use Prim.Native.Nat.{ℕ, _+_, _-_, _<_, _≤_}
-use mathlib.Core.Path.{_≡_, refl, sym, ap, _∙_}
-use mathlib.Core.Bool.{Bool, true, false, not, _&&_, _||_}
-use mathlib.Core.Logic.{_⊎_, inl, inr, ⊎-elim}
+use mathlib.Core.Path.{_≡_, sym, _∙_}
+use mathlib.Core.Bool.{true, false, not, _&&_, _||_}
+use mathlib.Core.Logic.{inl, inr, ⊎-elim}
 use native.Mathlib.Omega.{arith}
 use lib.Dec.{eqb, ltb, leb}
-use borrow.Author.Tests.{eqb-true, eqb-false, eq-eqb, ltb-true, leb-false, not-true, not-false}
-use Rattle.laws.specs.Pick.{pick}
+use borrow.Author.Tests.{eqb-true, eqb-false, eq-eqb, leb-false, not-false}
 use Rattle.laws.proofs.All.{also, as-is, either, equal, below, Sought, fails, passes, seek}
 use Rattle.laws.proofs.Order.{by-test, clash}
 use Rattle.names.specs.Size.{links, replyPort, ports, ends, endBuffer, sink}

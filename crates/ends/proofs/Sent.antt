@@ -3,7 +3,7 @@ use Prim.Native.Nat.{ℕ}
 use mathlib.Core.Path.{_≡_, refl, sym, ap, _∙_}
 use mathlib.Core.Bool.{Bool, true, false, _&&_, _||_}
 use mathlib.Core.List.{List, [], _∷_}
-use lib.Dec.{eqb, ltb}
+use lib.Dec.{eqb}
 use Rattle.laws.specs.Pick.{pick}
 use Rattle.laws.proofs.Order.{by-test, clash}
 use Rattle.names.specs.No as Names
@@ -11,7 +11,7 @@ use Rattle.tokens.specs.Control.{outputNo, noOfClass, classOf, writec, readc}
 use Rattle.tokens.specs.declared.control.Class.{Class}
 use Rattle.tokens.specs.declared.control.Class.the-variants.{Application, Special, Privileged, Hardware}
 use Rattle.tokens.specs.declared.header.Target.{Target}
-use Rattle.answers.specs.Rows.{Row, row, refusal}
+use Rattle.answers.specs.Rows.{Row, row}
 use Rattle.answers.specs.Out.{Out, out, attempt}
 use Rattle.answers.specs.declared.Answer.the-variants.{No, Done}
 use Rattle.cells.specs.World.{World}

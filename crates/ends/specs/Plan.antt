@@ -1,7 +1,7 @@
 -- What an Output is to do (document 01, "Calls" and 9, 10 of "Numbers for no"): read off the state, with nothing changed.
 use Prim.Native.Nat.{ℕ, _-_, _<_}
 use mathlib.Core.Path.{_≡_}
-use mathlib.Core.Bool.{Bool, not, _&&_}
+use mathlib.Core.Bool.{not, _&&_}
 use lib.Dec.{eqb, leb}
 use Rattle.laws.specs.Pick.{pick}
 use Rattle.laws.specs.All.{failing}

@@ -1,9 +1,8 @@
 -- What a Fresh that is not refused has, and what it then comes to. Assumes nothing.
-use Prim.Native.Nat.{ℕ, _*_, _≤_}
-use mathlib.Core.Path.{_≡_, refl, sym, ap, _∙_}
-use mathlib.Core.Bool.{true, false}
+use Prim.Native.Nat.{ℕ, _*_}
+use mathlib.Core.Path.{_≡_, refl, sym, _∙_}
+use mathlib.Core.Bool.{true}
 use mathlib.Core.List.{List, [], _∷_}
-use lib.Dec.{eqb, leb}
 use lib.ListN.{length, replicate}
 use borrow.Author.Tests.{eq-eqb, not-false}
 use Rattle.laws.proofs.All.{also, as-is, at-most, equal}
@@ -12,13 +11,13 @@ use Rattle.names.specs.Size.{nodes, ports}
 use Rattle.names.specs.No.{passes}
 use Rattle.ports.specs.Queue.{capacity}
 use Rattle.answers.specs.Rows.{refusal}
-use Rattle.answers.specs.Out.{Out, out}
+use Rattle.answers.specs.Out.{out}
 use Rattle.answers.specs.declared.Answer.the-variants.{No, Done}
 use Rattle.answers.proofs.Refusals.{passed, refuses, goes-on}
 use Rattle.cells.specs.View.{Net}
 use Rattle.cells.specs.World.{World, shaped, isEmpty}
 use Rattle.cells.specs.Fresh.{freshNet, freshWorld}
-use Rattle.fresh.specs.Fresh.{freshRows, fits, fresh}
+use Rattle.fresh.specs.Fresh.{freshRows, fresh}
 
 is-empty : (l : List ℕ) → isEmpty l ≡ true → l ≡ []
 is-empty [] e = refl

@@ -1,6 +1,6 @@
 -- The walk over a port's tokens, oldest first, from where the port's circuit stands (document 01, "Sound").
 use Prim.Native.Nat.{ℕ, suc}
-use mathlib.Core.Bool.{Bool, true, false}
+use mathlib.Core.Bool.{Bool, false}
 use mathlib.Core.List.{List, [], _∷_}
 use Rattle.laws.specs.Pick.{pick}
 use Rattle.circuits.specs.declared.Hop.{Hop}

@@ -1,10 +1,9 @@
 -- A grant to a link is one of four, and its credit with it is a number of 32 bits. Assumes nothing.
-use Prim.Native.Nat.{ℕ, _+_, _<_, _≤_, _^_}
+use Prim.Native.Nat.{ℕ, _+_, _<_, _^_}
 use mathlib.Core.Path.{_≡_}
 use native.Mathlib.Omega.{arith}
 use mathlib.Core.Logic.{⊎-elim}
 use lib.Dec.{eqb}
-use Rattle.laws.specs.Pick.{pick}
 use Rattle.laws.proofs.Order.{by-test, order}
 use Rattle.credits.specs.Grant.{grantOf, Granted, none}
 use Rattle.credits.proofs.Grants.{enough, most}

@@ -1,6 +1,5 @@
 -- Document 01, "Credits", on a link of the state.
 use Prim.Native.Nat.{ℕ, _+_, _<_}
-use mathlib.Core.Bool.{Bool}
 use Prim.{Unit}
 use lib.Dec.{eqb}
 use Rattle.laws.specs.Pick.{pick}

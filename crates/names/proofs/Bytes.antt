@@ -1,6 +1,6 @@
 -- A number is its two bytes. Assumes nothing.
-use mathlib.Core.Path.{_≡_, ap}
-use Prim.Native.Nat.{ℕ, _+_, _*_, _/_, _%_}
+use mathlib.Core.Path.{_≡_}
+use Prim.Native.Nat.{_+_, _*_, _/_, _%_}
 use native.Mathlib.Omega.{arith}
 use Rattle.names.specs.declared.NodeNumber.{NodeNumber}
 use Rattle.names.specs.Number.{highByte, lowByte, ofBytes}

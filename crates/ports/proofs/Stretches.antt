@@ -1,13 +1,13 @@
 -- The whole memory: a put appends to the one port's contents, a take removes its first, and every other port holds what it held. Assumes
 -- nothing.
 use Prim.Native.Nat.{ℕ, _+_, _*_, _%_, _<_, _≤_}
-use mathlib.Core.Path.{_≡_, _∙_, refl, ap, sym}
+use mathlib.Core.Path.{_≡_}
 use mathlib.Core.Logic.{inl, inr, ⊎-elim}
 use mathlib.Core.List.{List, [], _∷_, _++_}
 use native.Mathlib.Decide.{ℕ-discrete}
 use native.Mathlib.Omega.{arith}
 use lib.ListN.{length, set}
-use Rattle.laws.specs.Row.{row, Apart}
+use Rattle.laws.specs.Row.{Apart}
 use Rattle.laws.specs.Table.{Off}
 use Rattle.laws.proofs.Order.{order}
 use Rattle.laws.proofs.Row.{row-long, row-at, row-set, row-kept, same-set}

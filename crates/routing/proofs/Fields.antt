@@ -1,11 +1,11 @@
 -- Four bits of a register, by shifts and masks and as numbers, at any place. Assumes nothing.
 use Prim.Native.Nat.{ℕ, _+_, _-_, _*_, _/_, _%_, _^_, _<_, _≤_}
-use mathlib.Core.Path.{_≡_, _∙_, refl, ap, sym}
+use mathlib.Core.Path.{_≡_, _∙_, ap, sym}
 use native.Mathlib.Omega.{arith}
 use native.Mathlib.Nat.{mod-eq-of-lt, mod-lt, one-mul}
 use mathlib.Core.Logic.{_⊎_, inl, inr}
 use lib.Bits.{bitAnd, bitOr, and-mask, or-shifted}
-use lib.Pow.{pow-pos, pow-add, shl-lt, shl-exact, shr-lt, shr-shr, shr-le, high, low, field, mod-mod-pow}
+use lib.Pow.{pow-pos, pow-add, shl-exact, shr-lt, shr-shr, shr-le, high, low, field, mod-mod-pow}
 
 -- r with the four bits from k on replaced by those of d: above, these four, below
 abbrev pub replaced : ℕ → ℕ → ℕ → ℕ

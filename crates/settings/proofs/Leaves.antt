@@ -1,7 +1,6 @@
 -- What no Set changes: how many nodes there are, what ports hold, where cables lead. Assumes nothing.
-use Prim.Native.Nat.{ℕ, _+_, _<_}
-use mathlib.Core.Path.{_≡_, refl, sym, ap, _∙_}
-use mathlib.Core.Bool.{true, false}
+use Prim.Native.Nat.{ℕ, _+_}
+use mathlib.Core.Path.{_≡_, refl, _∙_}
 use lib.Dec.{eqb}
 use Rattle.laws.proofs.Order.{by-test}
 use Rattle.laws.proofs.Table.{upd-all}
@@ -15,7 +14,6 @@ use Rattle.cells.specs.declared.node.Node.{Node}
 use Rattle.cells.specs.declared.link.Link.{Link}
 use Rattle.cells.specs.declared.link.Far.{Far}
 use Rattle.cells.specs.declared.link.Far.the-variants.{Nowhere, At}
-use Rattle.cells.specs.declared.port.Port.{Port}
 use Rattle.grants.specs.Grants.{granted, considered, greeting, greets, helloed, silenced, farSilenced, disabled}
 use Rattle.settings.specs.Set.{AllCabled, setRows, setMade, set}
 use Rattle.settings.specs.declared.Setting.{Setting}

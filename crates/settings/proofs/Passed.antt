@@ -2,10 +2,8 @@
 use Prim.{tt}
 use Prim.Native.Nat.{ℕ, _<_}
 use mathlib.Core.Path.{_≡_, ap}
-use mathlib.Core.Bool.{Bool, true, false, not, _&&_}
-use lib.Dec.{eqb, ltb}
+use mathlib.Core.Bool.{true}
 use borrow.Author.Tests.{ltb-true, eq-eqb, not-false}
-use Rattle.laws.specs.All.{Means}
 use Rattle.laws.proofs.All.{also, as-is, below}
 use Rattle.names.specs.Size.{links}
 use Rattle.names.specs.No.{passes}
@@ -15,7 +13,7 @@ use Rattle.answers.specs.declared.Answer.the-variants.{No, Done}
 use Rattle.answers.proofs.Refusals.{passed, refuses, goes-on}
 use Rattle.cells.specs.View.{Net}
 use Rattle.settings.specs.Set.{setRows, linkThere, LinkThere, setAnswer, setMade, set}
-use Rattle.settings.specs.Wire.{wireRows, linkAt, wired, wire}
+use Rattle.settings.specs.Wire.{wireRows, wired, wire}
 use Rattle.settings.specs.declared.Setting.{Setting}
 use Rattle.settings.specs.declared.Setting.the-variants.{Number, Width, Direction, LinkDirection, Network, Enable, Hello}
 

@@ -17,7 +17,6 @@ use Rattle.cells.specs.View.{Net, withNode, withLink}
 use Rattle.cells.specs.World.{farOf}
 use Rattle.cells.specs.Changes.{numberedAs, widthAs, directionsAs, directedTo, networkAs, enabledAs}
 use Rattle.cells.specs.declared.link.Far.{Far}
-use Rattle.cells.specs.declared.link.Far.the-variants.{Nowhere, At}
 use Rattle.clauses.specs.Cables.{enabled, onFar}
 use Rattle.clauses.specs.Counts.{isFree}
 use Rattle.grants.specs.Grants.{Cabled, helloed, helloGrant, disabled}

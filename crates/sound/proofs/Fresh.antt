@@ -6,20 +6,20 @@ use mathlib.Core.List.{[]}
 use mathlib.Core.Path.{_≡_, refl, ap, _∙_}
 use native.Mathlib.Omega.{arith}
 use lib.Dec.{lit≤}
-use lib.ListN.{length, replicate, length-replicate}
+use lib.ListN.{length, length-replicate}
 use borrow.Author.Tests.{lt-ltb, le-leb, eq-eqb}
-use Rattle.laws.specs.All.{all, every, Each}
+use Rattle.laws.specs.All.{Each}
 use Rattle.names.specs.Size.{nodes, ports, replyPort}
 use Rattle.ports.specs.Queue.{capacity, ring}
 use Rattle.grammar.specs.declared.stage.Stage.the-variants.{Fresh}
-use Rattle.cells.specs.World.{World, shaped}
+use Rattle.cells.specs.World.{shaped}
 use Rattle.cells.specs.Fresh.{freshWorld}
 use Rattle.cells.specs.Records.{toPort}
 use Rattle.clauses.specs.Counts.{portCounts, tilePort}
 use Rattle.clauses.specs.Contents.{back}
 use Rattle.clauses.specs.declared.pairs.Role.the-variants.{PortLink, LinkPort, PortTile, TilePort, PortUnit, UnitPort, PortClaim, ClaimPort, EndClaim, ClaimEnd, EndPort, PortEnd}
 use Rattle.sound.specs.Tests.{holdsAt, places, everywhere}
-use Rattle.sound.specs.Sound.{soundTests, soundTest, sound, tight, quiet}
+use Rattle.sound.specs.Sound.{soundTests, sound, tight, quiet}
 use Rattle.sound.specs.declared.tests.Test.{Test}
 use Rattle.sound.proofs.Sounds.{at-places, sound-from}
 use Rattle.sound.specs.declared.tests.Test.the-variants.{Nodes, Links, Ports, Tiles, Ends, Units, Credited, Greeted, Room, Cable, Contents, Held, Agrees, OpenEnd, Silent, Tied, Sends, Replied, QuietPort, QuietEnd}

@@ -5,7 +5,7 @@ use mathlib.Core.Path.{_≡_, refl, sym, ap, _∙_}
 use native.Mathlib.Omega.{arith}
 use lib.Dec.{eqb}
 use borrow.Author.Tests.{not-true}
-use Rattle.laws.specs.All.{all, every, failing, Means, Each}
+use Rattle.laws.specs.All.{all, failing, Means, Each}
 use Rattle.laws.proofs.All.{each, each-place, each-at, both, as-is, all-miss, Sought, fails, passes, seek}
 use Rattle.laws.proofs.Order.{by-test}
 use Rattle.cells.specs.World.{World, shaped}

@@ -2,19 +2,17 @@
 -- the width; which destinations have none. Assumes nothing.
 use Prim.{tt}
 use mathlib.Core.Path.{_≡_, refl, sym, _∙_}
-use mathlib.Core.Bool.{Bool, true, false, _||_}
+use mathlib.Core.Bool.{true, false}
 use Prim.Native.Nat.{ℕ, _<_, _+_, _*_, _/_, _%_}
 use native.Mathlib.Omega.{arith}
-use native.Mathlib.Nat.{mod-eq-of-lt}
-use lib.Dec.{eqb, ltb}
+use lib.Dec.{ltb}
 use borrow.Author.Tests.{lt-ltb, ltb-true, ne-eqb}
 use Rattle.laws.specs.All.{Each}
 use Rattle.laws.proofs.Order.{by-test}
 use Rattle.names.specs.declared.NodeNumber.{NodeNumber}
 use Rattle.names.specs.Number.{highByte, lowByte, ofBytes}
 use Rattle.names.proofs.Bytes.{of-bytes-back}
-use Rattle.tokens.specs.Control.{ssctrl}
-use Rattle.tokens.specs.Word.{headerWord, unitWord, valueOf, isControl, isHeader, isThree, wide}
+use Rattle.tokens.specs.Word.{headerWord, valueOf, isHeader, isThree, wide}
 use Rattle.tokens.specs.Header.{headerOf, words, Reads, readOne, readThree, compared, comparedTarget, Carried, narrow, isNarrow, legalTarget}
 use Rattle.tokens.specs.declared.header.Target.{Target}
 use Rattle.tokens.specs.declared.header.Target.the-variants.{Channel, Unit}

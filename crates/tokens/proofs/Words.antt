@@ -1,6 +1,6 @@
 -- A word gives back the value and the marks that it was made of, and only the two control tokens END and PAUSE close. Assumes
 -- nothing.
-use mathlib.Core.Path.{_≡_, refl}
+use mathlib.Core.Path.{_≡_}
 use mathlib.Core.Bool.{Bool, true, false, _||_}
 use mathlib.Core.Logic.{_⊎_, ⊎-elim, inl, inr}
 use Prim.Native.Nat.{ℕ, _<_, _≤_, _+_, _*_, _/_, _%_}
@@ -9,7 +9,7 @@ use native.Mathlib.Omega.{arith}
 use lib.Dec.{eqb}
 use borrow.Author.Tests.{eq-eqb, ne-eqb, eqb-true, eqb-false}
 use Rattle.laws.proofs.Order.{by-test}
-use Rattle.tokens.specs.Word.{bit, word, dataWord, controlWord, headerWord, unitWord, valueOf, isControl, isHeader, isThree, closes, wide}
+use Rattle.tokens.specs.Word.{bit, word, dataWord, controlWord, headerWord, valueOf, isControl, isHeader, isThree, closes}
 use Rattle.tokens.specs.Control.{end, pause}
 use Rattle.tokens.specs.declared.header.Width.{Width}
 use Rattle.tokens.specs.declared.header.Width.the-variants.{One, Three}

@@ -1,5 +1,4 @@
 -- `circuits::hop_of` meets its contract: by the kind. Assumes nothing.
-use Prim.Native.Nat.{ℕ}
 use mathlib.Core.Path.{_≡_}
 use native.Mathlib.Omega.{arith}
 use borrow.Author.Tests.{ne-eqb}

@@ -3,11 +3,6 @@ use Rattle.cells.specs.World.{world}
 use Rattle.fresh.proofs.Passed.{fitting, fresh-refuses, fresh-goes-on}
 use Rattle.fresh.proofs.fresh.Statement.{statement}
 use Rattle.fresh.proofs.fresh.Tie as tie
-use Rattle.fresh.proofs.fresh.Reads as reads
-use Rattle.fresh.proofs.fresh.Lts as lts
-use Rattle.fresh.proofs.clear_tokens.Reads as clear-tokens-reads
-use Rattle.fresh.proofs.fresh_no.Reads as fresh-no-reads
-use Rattle.fresh.proofs.start.Reads as start-reads
 
 -- src/lib.rt:93:9
 returns : tie.Need-returns

@@ -1,10 +1,10 @@
 -- `fresh::settle` meets its contract. Assumes nothing.
-use Prim.Native.Nat.{ℕ, _-_, _≤_, zero-le}
+use Prim.Native.Nat.{_-_, _≤_, zero-le}
 use mathlib.Core.Path.{_≡_, refl, sym, ap, _∙_}
 use native.Mathlib.Omega.{arith}
 use lib.ListN.{length}
 use borrow.Author.Needs.{needs}
-use Rattle.cells.specs.View.{view, Net}
+use Rattle.cells.specs.View.{view}
 use Rattle.cells.specs.Fresh.{freshTo}
 use Rattle.fresh.proofs.Settled.{settle-next, settle-all}
 use Rattle.fresh.proofs.settle.Statement.{statement}

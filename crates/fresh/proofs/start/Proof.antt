@@ -4,10 +4,6 @@ use Rattle.cells.specs.Fresh.{freshNet}
 use Rattle.fresh.proofs.Settled.{ready, nodes-kept}
 use Rattle.fresh.proofs.start.Statement.{statement}
 use Rattle.fresh.proofs.start.Tie as tie
-use Rattle.fresh.proofs.start.Reads as reads
-use Rattle.fresh.proofs.start.Lts as lts
-use Rattle.fresh.proofs.clear_state.Reads as clear-state-reads
-use Rattle.fresh.proofs.settle.Reads as settle-reads
 
 -- src/lib.rt:69:5
 settle-requires : tie.Need-settle-requires

@@ -1,5 +1,5 @@
 -- `looks::direction_of` meets its contract. Assumes nothing.
-use mathlib.Core.Path.{_≡_, ap, _∙_}
+use mathlib.Core.Path.{ap, _∙_}
 use borrow.Author.Needs.{needs}
 use Rattle.routing.specs.Direction.{entryOf}
 use Rattle.cells.specs.declared.node.Node.{Node}

@@ -1,6 +1,6 @@
 -- `ports::take_at` meets its contract: what is read and cleared in the part lent out is so in the whole memory. Assumes nothing.
 use Prim.Native.Nat.{ℕ, _+_, _-_}
-use mathlib.Core.Path.{_≡_, _∙_, ap}
+use mathlib.Core.Path.{_∙_, ap}
 use native.Mathlib.Omega.{arith}
 use borrow.Author.Needs.{needs}
 use lib.ListN.{set, getD}

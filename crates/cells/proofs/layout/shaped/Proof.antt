@@ -1,11 +1,11 @@
 -- `cells::layout::shaped` meets its contract: whole nodes, 1 to 16 of them, and the memory that they ask. Assumes nothing.
-use Prim.Native.Nat.{ℕ, _*_, _-_, _/_, _%_}
+use Prim.Native.Nat.{ℕ, _*_, _-_, _%_}
 use mathlib.Core.Path.{_≡_, refl, sym, ap, _∙_}
 use mathlib.Core.List.{List, [], _∷_}
 use native.Mathlib.Omega.{arith}
 use borrow.Author.Needs.{needs}
 use borrow.Author.Tests.{eq-eqb, ne-eqb, le-leb, lt-leb}
-use lib.Dec.{eqb, leb, eqb·suc-zero}
+use lib.Dec.{eqb, eqb·suc-zero}
 use lib.ListN.{length, drop, length-drop}
 use Rattle.laws.proofs.All.{and-false}
 use Rattle.names.specs.Size.{nodes}

@@ -1,9 +1,9 @@
 -- `cells::layout::words` meets its contract: the record's words where it is there. Assumes nothing.
 use Prim.Native.Nat.{_+_, _≤_}
-use mathlib.Core.Path.{_≡_, refl}
+use mathlib.Core.Path.{refl}
 use native.Mathlib.Omega.{arith}
 use borrow.Author.Needs.{needs}
-use borrow.Author.Tests.{le-ltb, lt-ltb}
+use borrow.Author.Tests.{le-ltb}
 use lib.ListN.{length}
 use Rattle.laws.proofs.All.{and-false}
 use Rattle.cells.specs.Layout.{nodesIn}

@@ -1,5 +1,5 @@
 -- `cells::tile::at` meets its contract: the words found, read. Assumes nothing.
-use mathlib.Core.Path.{_≡_, _∙_, ap}
+use mathlib.Core.Path.{_∙_, ap}
 use borrow.Author.Needs.{needs}
 use lib.Dec.{lit≤}
 use Rattle.cells.specs.Layout.{whole, tile}

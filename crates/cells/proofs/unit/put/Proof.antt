@@ -1,5 +1,5 @@
 -- `cells::unit::put` meets its contract: the record's words are written, and no others. Assumes nothing.
-use mathlib.Core.Path.{_≡_, refl}
+use mathlib.Core.Path.{refl}
 use borrow.Author.Needs.{needs}
 use Rattle.cells.specs.View.{view}
 use Rattle.cells.proofs.Puts.{unit-put}

@@ -1,5 +1,5 @@
 -- `grammar::port::begins_one` meets its contract: by the oldest token, if there is one. Assumes nothing.
-use mathlib.Core.Path.{_≡_, _∙_, sym, ap}
+use mathlib.Core.Path.{_∙_, sym, ap}
 use native.Mathlib.Omega.{arith}
 use borrow.Author.Needs.{needs}
 use Rattle.ports.specs.Queue.{ring}

@@ -1,6 +1,6 @@
 -- `grammar::port::walk` meets its contract: at each turn the walk over what is left, from where it is, ends where the whole walk does. Assumes
 -- nothing.
-use Prim.Native.Nat.{ℕ, _+_, _-_, _≤_}
+use Prim.Native.Nat.{_+_, _-_, _≤_}
 use mathlib.Core.Path.{_≡_, _∙_, sym, ap}
 use native.Mathlib.Omega.{arith}
 use borrow.Author.Needs.{needs}

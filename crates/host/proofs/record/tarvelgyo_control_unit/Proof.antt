@@ -1,6 +1,6 @@
 -- `host::record::tarvelgyo_control_unit` meets its contract: the words of the record that is looked at. Assumes nothing.
 use Prim.Native.Nat.{ℕ}
-use mathlib.Core.Path.{_≡_, ap, _∙_}
+use mathlib.Core.Path.{ap, _∙_}
 use mathlib.Core.List.{List}
 use borrow.Author.Needs.{needs}
 use Rattle.cells.specs.Records.{fromUnit}

@@ -1,5 +1,5 @@
 -- `host::single::tarvelgyo_port_token` meets its contract: what the look finds, as a number. Assumes nothing.
-use mathlib.Core.Path.{_≡_, _∙_, ap}
+use mathlib.Core.Path.{_∙_, ap}
 use borrow.Author.Needs.{needs}
 use Rattle.host.specs.Crossed.{seenNumber}
 use Rattle.host.proofs.single.tarvelgyo_port_token.Statement.{statement}

@@ -1,5 +1,5 @@
 -- `routing::way::way_to` meets its contract: both numbers in the bits that the width compares. Assumes nothing.
-use mathlib.Core.Path.{_≡_, _∙_}
+use mathlib.Core.Path.{_≡_}
 use borrow.Author.Needs.{needs}
 use Rattle.names.specs.declared.NodeNumber.{NodeNumber}
 use Rattle.tokens.specs.Header.{compared}

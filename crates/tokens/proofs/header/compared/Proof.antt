@@ -1,5 +1,5 @@
 -- `tokens::header::compared` meets its contract: a number's sixteen bits are all of it. Assumes nothing.
-use Prim.Native.Nat.{ℕ, _%_}
+use Prim.Native.Nat.{_%_}
 use mathlib.Core.Path.{_≡_}
 use borrow.Author.Needs.{needs}
 use native.Mathlib.Omega.{arith}

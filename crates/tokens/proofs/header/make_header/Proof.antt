@@ -1,5 +1,4 @@
 -- `tokens::header::make_header` meets its contract: by the target, then by the width. Assumes nothing.
-use mathlib.Core.Path.{_≡_}
 use borrow.Author.Needs.{needs}
 use Rattle.tokens.specs.Header.{headerOf}
 use Rattle.tokens.proofs.header.make_header.Statement.{statement}

@@ -1,5 +1,5 @@
 -- `tokens::header::one_byte` meets its contract: three bits times 32 and a channel below 32 fit one byte. Assumes nothing.
-use Prim.Native.Nat.{ℕ, _%_}
+use Prim.Native.Nat.{_%_}
 use mathlib.Core.Path.{_≡_, ap}
 use borrow.Author.Needs.{needs}
 use borrow.Author.Tests.{lt-ltb, le-ltb}

@@ -1,5 +1,4 @@
 -- `tokens::header::read_three` meets its contract. Assumes nothing.
-use mathlib.Core.Path.{_≡_, sym, _∙_}
 use borrow.Author.Needs.{needs}
 use Rattle.tokens.specs.Header.{readThree}
 use Rattle.tokens.proofs.header.read_three.Statement.{statement}

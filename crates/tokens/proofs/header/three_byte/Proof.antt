@@ -1,5 +1,4 @@
 -- `tokens::header::three_byte` meets its contract. Assumes nothing.
-use mathlib.Core.Path.{_≡_}
 use borrow.Author.Needs.{needs}
 use Rattle.tokens.proofs.header.three_byte.Statement.{statement}
 use Rattle.tokens.proofs.header.three_byte.Tie as tie

@@ -1,6 +1,5 @@
 -- `tokens::word::closes` meets its contract: the two words, and those on either side. Assumes nothing.
-use mathlib.Core.Path.{_≡_, sym}
-use mathlib.Core.Bool.{Bool, true}
+use mathlib.Core.Path.{sym}
 use mathlib.Core.Logic.{inl, inr}
 use native.Mathlib.Omega.{arith}
 use Rattle.tokens.proofs.Words.{open-word, closing-word}

@@ -1,6 +1,4 @@
 -- `tokens::word::shape_of` meets its contract: seven stretches, each with the tests that tell it. Assumes nothing.
-use Prim.Native.Nat.{ℕ, _-_, _<_, _≤_}
-use mathlib.Core.Path.{_≡_}
 use mathlib.Core.Logic.{inl, inr}
 use native.Mathlib.Omega.{arith}
 use borrow.Author.Needs.{needs}
