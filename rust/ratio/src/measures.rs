@@ -12,7 +12,7 @@ const HALF_UPDATE: &str = include_str!("../../../examples/half-update.txt");
 /// The networks whose cost is compared with the number of their boards.
 pub const BOARDS: [usize; 5] = [1, 2, 4, 8, 16];
 
-/// Work that every side does from the same state, and how often a call is made in it.
+/// Work that every side does from the same state.
 pub struct Measure {
     pub name: String,
     pub begin: State,
@@ -31,26 +31,30 @@ pub enum Work {
 /// What `ratio` prints, in its order.
 pub fn measures() -> Vec<Measure> {
     let full = half_full(16);
-    let on_full = |name: &str, call: fn(usize) -> Call| Measure {
+    let on_full = |name: &str, call| Measure {
         name: format!("{name}/16-half-full"),
         begin: full.clone(),
-        work: Work::Each((0..16).map(call).collect()),
+        work: round_the_boards(16, call),
     };
     let mut measures = vec![
         is_sound("is_sound/16-empty".to_owned(), empty(16)),
         is_sound("is_sound/16-half-full".to_owned(), full.clone()),
-        on_full("step-over-cable", step_over_cable),
         on_full("step-to-channel", step_to_channel),
         on_full("output", output),
         on_full("input", input),
         half_update(),
     ];
     measures.extend(BOARDS.map(|boards| Measure {
-        name: format!("step-over-cable/{boards}-boards"),
+        name: format!("step-over-cable/{boards}-half-full"),
         begin: half_full(boards),
-        work: Work::Each((0..boards).map(step_over_cable).collect()),
+        work: round_the_boards(boards, step_over_cable),
     }));
     measures
+}
+
+/// Sixteen calls, of one board after the other.
+fn round_the_boards(boards: usize, call: fn(usize) -> Call) -> Work {
+    Work::Each((0..16).map(|turn| call(turn % boards)).collect())
 }
 
 fn is_sound(name: String, begin: State) -> Measure {

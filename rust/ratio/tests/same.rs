@@ -5,17 +5,20 @@ use bench::raw;
 use compare::calls::{make, Lent};
 use compare::damaged::{other_things, other_words};
 use compare::{choice, filling};
-use model::network::{PORTS, REPLY_PORT};
+use model::answers::Cause;
+use model::network::{Hop, LinkEnd, PORTS, REPLY_PORT};
 use model::random::Random;
 use model::runs::Runner;
-use model::{Answer, Call};
+use model::set::Setting;
+use model::tokens::Token;
+use model::{Answer, Call, Network};
 use ratio::baseline;
 use ratio::measures::{measures, Measure};
 use ratio::sides::{Baseline, Library};
 use ratio::states::{half_full, State};
 use ratio::timing::answers;
 
-const RUNS: u64 = 60;
+const RUNS: u64 = 40;
 const CALLS: usize = 300;
 
 /// How often a call was made on both and how often it was not refused.
@@ -30,8 +33,8 @@ fn baseline_at(lent: &Lent) -> Box<baseline::Network> {
     baseline::Network::read(&lent.state, &lent.memory).unwrap_or_default()
 }
 
-/// Makes a call on copies of the same words, and compares answers, words and verdicts. Fresh aside,
-/// which the comparison lends memories of its own, and a Step that ends a switch message.
+/// Makes a call on copies of the same words, and compares the answers and every word behind it. A Step
+/// that ends a switch message is left out.
 fn compare(lent: &Lent, call: &Call, from: &str, made: &mut Made) {
     let mut found = lent.clone();
     let mut network = baseline_at(lent);
@@ -83,6 +86,47 @@ fn runs_that_fill_ports_and_channel_ends() {
         }
     }
     println!("{} calls, {} not refused", made.calls, made.done);
+}
+
+/// A board with a cable from link A to link B, this credit on A, and so many tokens, which are being
+/// dropped, in port 1.
+fn cabled(credit: usize, held: usize) -> Network {
+    let mut network = Network::fresh(1, 832);
+    let node = &mut network.nodes[0];
+    for link in 0..2 {
+        let far = LinkEnd {
+            slot: 0,
+            link: 1 - link,
+        };
+        node.links[link].far = Some(far);
+        node.links[link].enabled = true;
+        node.links[link].greeted = true;
+    }
+    node.links[0].credit = credit;
+    node.ports[1].hop = Some(Hop::Dropped(Cause::Split));
+    node.ports[1].tokens = vec![Token::data(7); held].into();
+    network
+}
+
+/// At HELLO, and where a token is taken from the far buffer.
+#[test]
+fn every_grant() {
+    let mut made = Made::default();
+    let mut random = Random::new(3);
+    let hello = Call::Set {
+        slot: 0,
+        setting: Setting::Hello { link: 0 },
+    };
+    for held in 0..=64 {
+        for credit in 0..=64 - held {
+            let lent = Lent::of(Some(&cabled(credit, held)), &mut random);
+            let from = format!("credit {credit}, {held} held");
+            for call in [hello, Call::Step { slot: 0, port: 1 }] {
+                compare(&lent, &call, &from, &mut made);
+            }
+        }
+    }
+    assert_eq!(made.done, made.calls);
 }
 
 /// Both sides' verdict on the same words; true for sound.

@@ -243,8 +243,9 @@ fn due<'a>(tokens: impl Iterator<Item = &'a u16> + Clone) -> Option<Stage> {
 /// Where the next token takes a walk; none where it may not stand there.
 fn after(stage: Stage, token: &u16) -> Option<Stage> {
     match (stage, *token) {
+        (Stage::Body, 0..=0x0100) => Some(Stage::Body),
         (Stage::Body, END | PAUSE) => Some(Stage::Fresh),
-        (Stage::Body, 0..=0x01C1) => Some(Stage::Body),
+        (Stage::Body, 0x0103..=0x01C1) => Some(Stage::Body),
         (Stage::Fresh | Stage::OneDue, 0x0200..=0x02FF) => Some(Stage::Body),
         (Stage::Fresh | Stage::ThreeDue, 0x0600..=0x06FF) => Some(Stage::TwoDue),
         (Stage::TwoDue, 0x0600..=0x06FF) => Some(Stage::LastDue),

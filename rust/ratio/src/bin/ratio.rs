@@ -1,4 +1,5 @@
 //! The proved library against plain Rust, in one run: a line for each measure and each other side.
+//! With an argument, the measures alone whose names have it in them.
 
 use ratio::measures::measures;
 use ratio::timing::{time, Times};
@@ -7,7 +8,9 @@ use ratio::timing::{time, Times};
 const ROUNDS: usize = 201;
 
 fn main() {
-    for measure in measures() {
+    let wanted = std::env::args().nth(1).unwrap_or_default();
+    let measures = measures().into_iter();
+    for measure in measures.filter(|measure| measure.name.contains(&wanted)) {
         let Times {
             library,
             model,
