@@ -20,6 +20,7 @@ impl Kept {
             kit.join("KIT-ID"),
             root.join("crates.txt"),
             root.join("crates"),
+            root.join("rust/bench/build"),
         ] {
             hash(&path, &mut hasher);
         }

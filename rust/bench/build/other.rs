@@ -36,11 +36,19 @@ fn tools(kit: &Path) -> PathBuf {
     kit.join("on").join(env::consts::ARCH).join("toolchain/bin")
 }
 
-/// Compiles the module with the options that the toolchain itself gives, but for the target.
+/// What is asked of the compiler beside the toolchain's own options; it adds no pass. The module is
+/// many small functions that hand each other records in memory, which stay in registers where more
+/// is inlined; and the tests of eight tokens, made one of vectors, take longer than one by one. The
+/// command `ratio` says what it brings.
+const INLINED: [&str; 3] = ["-fno-slp-vectorize", "-mllvm", "-inline-threshold=2500"];
+
+/// Compiles the module with the options that the toolchain itself gives, but for the target and for
+/// [`INLINED`].
 fn compile(tools: &Path, target: &str, module: &Path, object: &Path) {
     let mut clang = Command::new(tools.join("clang"));
     clang.arg(format!("--target={target}"));
     clang.args(["-O3", "-fPIC", "-ffunction-sections", "-fdata-sections"]);
+    clang.args(INLINED);
     clang.args([
         "-mllvm",
         "-trap-unreachable",

@@ -1,0 +1,68 @@
+//! The door: every call but Fresh tests the state first.
+
+use model::network::MOST_NODES;
+use model::tokens::THREE_BYTES;
+use model::{Answer, Call, No};
+
+use super::records::{Network, Node};
+
+impl Network {
+    /// Makes a call. A refused call changes nothing.
+    pub fn make(&mut self, call: &Call) -> Answer {
+        let made = match *call {
+            Call::Fresh {
+                nodes,
+                memory_words,
+            } => self.fresh(nodes, memory_words),
+            _ if !self.is_sound() => Err(No::Unsound),
+            _ => self.make_on_sound(call),
+        };
+        made.unwrap_or_else(Answer::No)
+    }
+
+    fn make_on_sound(&mut self, call: &Call) -> Result<Answer, No> {
+        match *call {
+            Call::Fresh { .. } => Err(No::Unsound),
+            Call::Wire { one, other } => self.wire(one, other),
+            Call::Set { slot, setting } => self.set(slot, setting),
+            Call::Aim {
+                slot,
+                channel_end,
+                destination,
+                network,
+            } => self.aim(slot, channel_end, destination, network),
+            Call::Output {
+                slot,
+                channel_end,
+                kind,
+                value,
+            } => self.output(slot, channel_end, kind, value),
+            Call::Input {
+                slot,
+                channel_end,
+                kind,
+            } => self.input(slot, channel_end, kind),
+            Call::Step { slot, port } => self.step(slot, port),
+        }
+    }
+
+    fn fresh(&mut self, nodes: usize, memory_words: usize) -> Result<Answer, No> {
+        if !(1..=MOST_NODES).contains(&nodes) {
+            return Err(No::NoSuch);
+        }
+        if model::network::memory_words(nodes) != Some(memory_words) {
+            return Err(No::Unsound);
+        }
+        self.count = nodes;
+        for node in &mut self.nodes[..nodes] {
+            *node = Node::default();
+            node.width = THREE_BYTES;
+        }
+        Ok(Answer::Done)
+    }
+
+    /// The node of a slot, or NoSuch.
+    pub(super) fn node(&mut self, slot: usize) -> Result<&mut Node, No> {
+        self.nodes[..self.count].get_mut(slot).ok_or(No::NoSuch)
+    }
+}

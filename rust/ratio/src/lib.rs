@@ -1,0 +1,11 @@
+//! What the proved bench costs beside plain Rust.
+//!
+//! Three sides make the same calls: the proved library, the independent model, and [`baseline`], the
+//! same bench written for speed in plain Rust. [`sides`] has them behind one trait, [`states`] what
+//! they begin from, [`measures`] what is timed, and [`timing`] how.
+
+pub mod baseline;
+pub mod measures;
+pub mod sides;
+pub mod states;
+pub mod timing;

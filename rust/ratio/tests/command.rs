@@ -1,0 +1,36 @@
+//! What the command prints.
+
+use std::process::Command;
+
+/// The lines that the command prints, asked for the measures whose names have this in them.
+fn printed(wanted: &str) -> Vec<String> {
+    let mut command = Command::new(env!("CARGO_BIN_EXE_ratio"));
+    let ended = command.arg(wanted).output().expect("the command");
+    assert!(ended.status.success(), "{ended:?}");
+    let text = String::from_utf8(ended.stdout).expect("text");
+    text.lines().map(str::to_owned).collect()
+}
+
+/// `NAME ratio R.RR`, and the nanoseconds that it is of.
+#[test]
+fn a_line_for_each_other_side() {
+    let lines = printed("cable/1-");
+    assert_eq!(lines.len(), 2);
+    for (line, other) in lines.iter().zip(["baseline", "model"]) {
+        let words: Vec<&str> = line.split_whitespace().collect();
+        let name = format!("step-over-cable/1-half-full/{other}");
+        let [found, "ratio", ratio, "library", library, "ns,", side, times, "ns"] = words[..]
+        else {
+            panic!("{line}");
+        };
+        assert_eq!((found, side), (name.as_str(), other));
+        let [ratio, library, times] = [ratio, library, times].map(|word| word.parse::<f64>());
+        let quotient = library.expect("a number") / times.expect("a number");
+        assert!((quotient - ratio.expect("a number")).abs() < 0.02, "{line}");
+    }
+}
+
+#[test]
+fn a_name_that_no_measure_has() {
+    assert!(printed("no such measure").is_empty());
+}
