@@ -2,9 +2,9 @@
 // whose counts are within their limits, and cut the stretch.
 use crate::stage::Stage;
 use crate::stage::due;
+use crate::stage::next;
 use crate::stage::of_one;
 use crate::stage::of_three;
-use crate::stage::step;
 use circuits::Hop;
 use ports::Counters;
 use tokens::word::shape_of;
@@ -21,7 +21,7 @@ fn walk(stretch: &[u16], c: Counters, s: Stage) -> Stage
     let mut at = s;
     while i < c.held {
         let k = ((c.head + i) % Counters::CAPACITY) as usize;
-        at = step(at, shape_of(stretch[k]));
+        at = next(at, stretch[k]);
         i += 1;
     }
     at

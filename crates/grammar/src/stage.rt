@@ -1,6 +1,8 @@
 // Where a walk over a port's tokens is, and where the next token takes it.
 use tokens::word::Shape;
+use tokens::word::shape_of;
 ghost use mathlib.Core.Path.{_≡_};
+ghost use Rattle.tokens.specs.Shape.{shapeOf};
 ghost use Rattle.grammar.specs.Stage.{step, fromFresh, fromBody, fromOneDue, fromThreeDue, fromTwoDue, fromLastDue, due, ofThree, ofOne, isBad, crossed, stageNumber, sameStage};
 
 pub enum Stage {
@@ -104,7 +106,7 @@ fn from_last_due(c: Shape) -> Stage
     }
 }
 
-pub fn step(s: Stage, c: Shape) -> Stage
+fn step(s: Stage, c: Shape) -> Stage
     ensures { λ r. ⌜ r ≡ step s c ⌝ }
 {
     match s {
@@ -115,6 +117,28 @@ pub fn step(s: Stage, c: Shape) -> Stage
         Stage::ThreeDue => from_three_due(c),
         Stage::TwoDue => from_two_due(c),
         Stage::LastDue => from_last_due(c),
+    }
+}
+
+// Past a header the word itself tells, and most words are plain data: it need not be given a shape first.
+fn body_next(word: u16) -> Stage
+    ensures { λ r. ⌜ r ≡ fromBody (shapeOf word) ⌝ }
+{
+    match word {
+        0x0000..=0x0100 => Stage::Body,
+        0x0101..=0x0102 => Stage::Fresh,
+        0x0103..=0x01C1 => Stage::Body,
+        0x01C2..=0xFFFF => Stage::Bad,
+    }
+}
+
+// Where the next word takes a walk.
+pub fn next(s: Stage, word: u16) -> Stage
+    ensures { λ r. ⌜ r ≡ step s (shapeOf word) ⌝ }
+{
+    match s {
+        Stage::Body => body_next(word),
+        _ => step(s, shape_of(word)),
     }
 }
 

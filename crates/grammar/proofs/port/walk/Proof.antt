@@ -23,10 +23,10 @@ loop-holds c =
 
 loop-again : tie.Need-loop-again Inv-loop μ-loop
 loop-again c =
-    let l = c .before .before .before .before .before .before .loop in
-    let a = c .before .before .before .before .before .before .before .before .args in (
+    let l = c .before .before .before .before .before .loop in
+    let a = c .before .before .before .before .before .before .before .args in (
       omega arith,
-      rw (c .step .ensures, c .before .shape-of .ensures) (sym (ap (walk (l .at)) (ring-next (a .stretch .now) (a .c .head) (a .c .held) (l .i) (omega arith)))) ∙ l .inv .1,
+      rw (c .next .ensures) (sym (ap (walk (l .at)) (ring-next (a .stretch .now) (a .c .head) (a .c .held) (l .i) (omega arith)))) ∙ l .inv .1,
     )
 
 returns : tie.Need-returns Inv-loop μ-loop
@@ -46,7 +46,6 @@ walk-spec =
     (λ c. search needs)
     (λ c. search needs)
     (λ c. search needs)
-    (λ c κs. search needs)
     (λ c κs. search needs)
     (λ c. search needs)
     (λ c. search needs)

@@ -1,0 +1,2 @@
+-- Laws of the grammar.
+pub mod Bodies

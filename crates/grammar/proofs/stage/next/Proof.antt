@@ -1,0 +1,15 @@
+-- `grammar::stage::next` meets its contract. Assumes nothing.
+use borrow.Author.Needs.{needs}
+use Rattle.grammar.proofs.stage.next.Statement.{statement}
+use Rattle.grammar.proofs.stage.next.Tie as tie
+
+returns : tie.Need-returns
+returns c = rw (c .before .enum-told .given .1) (c .body-next .ensures)
+
+returns-2 : tie.Need-returns-2
+returns-2 c = rw (← c .before .shape-of .ensures) (c .step .ensures)
+
+pub next-spec : {M : Type 1} → statement M
+next-spec =
+    tie.close
+    (tie.spec (λ c. search needs) (λ c κs. search needs) (λ c κs. search needs) (λ c κs. search needs) returns returns-2)
