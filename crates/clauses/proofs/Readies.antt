@@ -1,24 +1,29 @@
 -- A port that is ready: the memory reaches past its stretch, its counters are those of a ring, and a stage read off its tokens is that of the
 -- port. Assumes nothing.
 use Prim.Native.Nat.{ℕ, _+_, _*_, _/_, _≤_, _<_}
-use mathlib.Core.Bool.{true, _&&_}
-use mathlib.Core.List.{List}
-use mathlib.Core.Path.{_≡_}
+use mathlib.Core.Bool.{true, false, not, _&&_}
+use mathlib.Core.List.{List, []}
+use mathlib.Core.Path.{_≡_, refl, sym, ap}
 use native.Mathlib.Omega.{arith}
 use lib.Dec.{ltb, leb}
 use lib.ListN.{length}
 use Rattle.laws.specs.Pick.{pick}
 use Rattle.laws.proofs.All.{both, below, at-most}
+use Rattle.laws.proofs.Order.{by-test}
 use Rattle.names.specs.Size.{ports}
 use Rattle.circuits.specs.Circuit.{hopOf}
 use Rattle.circuits.specs.declared.Hop.{Hop}
-use Rattle.ports.specs.Queue.{capacity, Fair, contents}
+use Rattle.circuits.specs.declared.Hop.the-variants as Hops
+use Rattle.ports.specs.Queue.{capacity, Fair, contents, ring}
 use Rattle.ports.specs.Memory.{place, stretch}
+use Rattle.grammar.specs.Stage.{isBad}
+use Rattle.grammar.specs.Walk.{backOf}
 use Rattle.grammar.specs.declared.stage.Stage.{Stage}
 use Rattle.grammar.specs.declared.stage.Stage.the-variants.{Bad}
 use Rattle.cells.specs.World.{World, hop, queue}
 use Rattle.cells.specs.declared.port.Port.{Port}
 use Rattle.clauses.specs.Contents.{ready}
+use Rattle.clauses.specs.Contents as Contents
 
 module _ (w : World) (n p : ℕ) where
   -- the four tests, each as a fact
@@ -53,3 +58,18 @@ module _ (w : World) (n p : ℕ) where
         → r ≡ f h (contents (k .counters) s)
         → r ≡ pick (ready w n p) (f (hop (w .net) n p) (queue w n p)) Bad
     read-off f ek eh es er = rw (er, es, eh, ek, e)
+
+-- a port that holds nothing holds nothing wrong
+nothing-wrong : (h : Hop) → isBad (backOf h []) ≡ false
+nothing-wrong Hops.Shut = refl
+nothing-wrong (Hops.Out l) = refl
+nothing-wrong (Hops.Channel c t) = refl
+nothing-wrong Hops.Unit = refl
+nothing-wrong (Hops.Dropped c) = refl
+
+pub empty-port : (w : World) (n p : ℕ) → w .net .ports n p .counters .held ≡ 0 → ready w n p ≡ Contents.contents w n p
+unfolding ring
+empty-port w n p e =
+    by-test (ready w n p)
+    (λ r. rw (r, e) (sym (ap not (nothing-wrong (hop (w .net) n p)))))
+    (λ r. rw r)

@@ -53,6 +53,11 @@ pub fn back(st: &[u32], mem: &[u16], slot: Slot, p: usize) -> Stage
 pub fn contents(st: &[u32], mem: &[u16], slot: Slot, p: usize) -> bool
     ensures { λ r. ⌜ r ≡ contents (world (now (st .entry)) (now (mem .entry))) (slot .0) p ⌝ }
 {
+    let k = port::at(st, slot, p);
+    if k.counters.held == 0 {
+        // a port that holds nothing holds nothing wrong
+        return ready(st, mem, slot, p);
+    }
     !is_bad(back(st, mem, slot, p))
 }
 
@@ -75,6 +80,9 @@ pub fn held_tokens(st: &[u32], slot: Slot, c: usize) -> bool
     ensures { λ r. ⌜ r ≡ heldTokens (view (now (st .entry))) (slot .0) c ⌝ }
 {
     let k = end::at(st, slot, c);
+    if k.held == 0 {
+        return true;
+    }
     let first = held_token(k, 0) & (held_token(k, 1) & (held_token(k, 2) & held_token(k, 3)));
     let last = held_token(k, 4) & (held_token(k, 5) & (held_token(k, 6) & held_token(k, 7)));
     first & last

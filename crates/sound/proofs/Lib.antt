@@ -3,3 +3,4 @@ pub mod Sounds
 pub mod OnePass
 pub mod Facts
 pub mod Fresh
+pub mod Alone

@@ -1,5 +1,5 @@
 // All that the Sound list asks at one place of one table. Each record is read once for all of it, since
-// the tests stand side by side.
+// the tests stand side by side; one that has no circuit names nobody, and is not asked for whom.
 use cells::end;
 use cells::link;
 use cells::node;
@@ -57,8 +57,14 @@ fn port_pairs(st: &[u32], slot: Slot, p: usize) -> bool
 pub fn of_port(st: &[u32], mem: &[u16], slot: Slot, p: usize) -> bool
     ensures { λ r. ⌜ r ≡ ofPort (world (now (st .entry)) (now (mem .entry))) (slot .0) p ⌝ }
 {
-    let rest = contents(st, mem, slot, p) & port_pairs(st, slot, p);
-    port_counts(port::at(st, slot, p), p) & rest
+    let k = port::at(st, slot, p);
+    let counts = port_counts(k, p);
+    let held = contents(st, mem, slot, p);
+    let alone = (k.circuit.kind == 0) & (k.sender.kind == 0);
+    if alone {
+        return counts & held;
+    }
+    counts & (held & port_pairs(st, slot, p))
 }
 
 pub fn of_tile(st: &[u32], slot: Slot, t: usize) -> bool
@@ -77,8 +83,14 @@ fn end_pairs(st: &[u32], slot: Slot, c: usize) -> bool
 pub fn of_end(st: &[u32], slot: Slot, c: usize) -> bool
     ensures { λ r. ⌜ r ≡ ofEnd (view (now (st .entry))) (slot .0) c ⌝ }
 {
-    let rest = end_pairs(st, slot, c) & open_end(st, slot, c);
-    end_counts(end::at(st, slot, c)) & (held_tokens(st, slot, c) & rest)
+    let k = end::at(st, slot, c);
+    let counts = end_counts(k);
+    let held = held_tokens(st, slot, c);
+    let alone = (k.sending.kind == 0) & (k.claim.kind == 0);
+    if alone {
+        return counts & held;
+    }
+    counts & (held & (end_pairs(st, slot, c) & open_end(st, slot, c)))
 }
 
 // All that the ties ask of a link.
