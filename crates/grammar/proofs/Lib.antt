@@ -1,2 +1,2 @@
 -- Laws of the grammar.
-pub mod Bodies
+pub mod Nexts

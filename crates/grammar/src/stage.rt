@@ -120,7 +120,7 @@ fn step(s: Stage, c: Shape) -> Stage
     }
 }
 
-// Past a header the word itself tells, and most words are plain data: it need not be given a shape first.
+// The same for the four stages that most words meet, by the word itself: it need not be given a shape first.
 fn body_next(word: u16) -> Stage
     ensures { λ r. ⌜ r ≡ fromBody (shapeOf word) ⌝ }
 {
@@ -132,12 +132,51 @@ fn body_next(word: u16) -> Stage
     }
 }
 
+fn fresh_next(word: u16) -> Stage
+    ensures { λ r. ⌜ r ≡ fromFresh (shapeOf word) ⌝ }
+{
+    match word {
+        0x0000..=0x01FF => Stage::Bad,
+        0x0200..=0x02FF => Stage::Body,
+        0x0300..=0x05FF => Stage::Bad,
+        0x0600..=0x06FF => Stage::TwoDue,
+        0x0700..=0xFFFF => Stage::Bad,
+    }
+}
+
+fn two_due_next(word: u16) -> Stage
+    ensures { λ r. ⌜ r ≡ fromTwoDue (shapeOf word) ⌝ }
+{
+    match word {
+        0x0000..=0x05FF => Stage::Bad,
+        0x0600..=0x06FF => Stage::LastDue,
+        0x0700..=0xFFFF => Stage::Bad,
+    }
+}
+
+fn last_due_next(word: u16) -> Stage
+    ensures { λ r. ⌜ r ≡ fromLastDue (shapeOf word) ⌝ }
+{
+    match word {
+        0x0000..=0x05FF => Stage::Bad,
+        0x0600..=0x061F => Stage::Body,
+        0x0620..=0x06FE => Stage::Bad,
+        0x06FF => Stage::Body,
+        0x0700..=0x07C2 => Stage::Bad,
+        0x07C3 => Stage::Body,
+        0x07C4..=0xFFFF => Stage::Bad,
+    }
+}
+
 // Where the next word takes a walk.
 pub fn next(s: Stage, word: u16) -> Stage
     ensures { λ r. ⌜ r ≡ step s (shapeOf word) ⌝ }
 {
     match s {
         Stage::Body => body_next(word),
+        Stage::Fresh => fresh_next(word),
+        Stage::TwoDue => two_due_next(word),
+        Stage::LastDue => last_due_next(word),
         _ => step(s, shape_of(word)),
     }
 }

@@ -1,5 +1,5 @@
 -- `grammar::stage::body_next` meets its contract. Assumes nothing.
-use Rattle.grammar.proofs.Bodies.{stays, ends, breaks}
+use Rattle.grammar.proofs.Nexts.{stays, closed, breaks}
 use Rattle.tokens.proofs.Words.{open-word}
 use native.Mathlib.Omega.{arith}
 use mathlib.Core.Logic.{inl, inr}
@@ -10,7 +10,7 @@ returns : tie.Need-returns
 returns c = let w = c .before .args .word in stays w (open-word w (inl (omega arith))) (omega arith)
 
 returns-2 : tie.Need-returns-2
-returns-2 c = ends (c .before .before .args .word) (omega arith) (omega arith)
+returns-2 c = closed (c .before .before .args .word) (omega arith) (omega arith)
 
 returns-3 : tie.Need-returns-3
 returns-3 c = let w = c .before .before .before .args .word in stays w (open-word w (inr (omega arith))) (omega arith)

@@ -7,9 +7,33 @@ returns : tie.Need-returns
 returns c = rw (c .before .enum-told .given .1) (c .body-next .ensures)
 
 returns-2 : tie.Need-returns-2
-returns-2 c = rw (← c .before .shape-of .ensures) (c .step .ensures)
+returns-2 c = rw (c .before .enum-told2 .given .1) (c .fresh-next .ensures)
+
+returns-3 : tie.Need-returns-3
+returns-3 c = rw (c .before .enum-told3 .given .1) (c .two-due-next .ensures)
+
+returns-4 : tie.Need-returns-4
+returns-4 c = rw (c .before .enum-told4 .given .1) (c .last-due-next .ensures)
+
+returns-5 : tie.Need-returns-5
+returns-5 c = rw (← c .before .shape-of .ensures) (c .step .ensures)
 
 pub next-spec : {M : Type 1} → statement M
 next-spec =
     tie.close
-    (tie.spec (λ c. search needs) (λ c κs. search needs) (λ c κs. search needs) (λ c κs. search needs) returns returns-2)
+    (tie.spec
+    (λ c. search needs)
+    (λ c κs. search needs)
+    (λ c. search needs)
+    (λ c κs. search needs)
+    (λ c. search needs)
+    (λ c κs. search needs)
+    (λ c. search needs)
+    (λ c κs. search needs)
+    (λ c κs. search needs)
+    (λ c κs. search needs)
+    returns
+    returns-2
+    returns-3
+    returns-4
+    returns-5)
