@@ -2,7 +2,7 @@
 use Prim.Native.Nat.{ℕ, _-_, _<_, _≤_}
 use mathlib.Core.Path.{_≡_, refl}
 use mathlib.Core.Bool.{true, false}
-use mathlib.Core.Logic.{inr, ⊎-elim}
+use mathlib.Core.Logic.{inl, inr, ⊎-elim}
 use native.Mathlib.Decide.{ℕ-discrete}
 use native.Mathlib.Omega.{arith}
 use lib.Dec.{ltb, eqb}
@@ -24,6 +24,10 @@ unfolding shapeOf
 low P w h a b c =
     by-test (closes w) (λ e. rw e a)
     (λ e. rw e (by-test (ltb w 0x1C2) (λ f. rw f b) (λ f. rw (f, lt-ltb w 0x200 h) c)))
+
+pub plain : (w : ℕ) → w ≤ 0x100 → shapeOf w ≡ S.Body
+unfolding shapeOf
+plain w h = rw (open-word w (inl (omega arith)), lt-ltb w 0x1C2 (omega arith))
 
 -- a header of one byte
 module _ (w : ℕ) (h : 0x200 ≤ w) where

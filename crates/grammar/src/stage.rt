@@ -168,10 +168,13 @@ fn last_due_next(word: u16) -> Stage
     }
 }
 
-// Where the next word takes a walk.
+// Where the next word takes a walk. Most words are plain data.
 pub fn next(s: Stage, word: u16) -> Stage
     ensures { λ r. ⌜ r ≡ step s (shapeOf word) ⌝ }
 {
+    if word <= 0x0100 {
+        return step(s, Shape::Body);
+    }
     match s {
         Stage::Body => body_next(word),
         Stage::Fresh => fresh_next(word),
