@@ -1,7 +1,7 @@
 //! The baseline computes what the proved library computes, word for word, so that what is timed is the
 //! same work: on random runs, on runs that fill buffers, on damaged memories, and for each measure.
 
-use bench::raw;
+use bench::{raw, Looks};
 use compare::calls::{make, Lent};
 use compare::damaged::{other_things, other_words};
 use compare::{choice, filling};
@@ -33,15 +33,28 @@ fn baseline_at(lent: &Lent) -> Box<baseline::Network> {
     baseline::Network::read(&lent.state, &lent.memory).unwrap_or_default()
 }
 
+/// A Step that hands a control unit the END or PAUSE of a switch message, which the baseline does not
+/// obey.
+fn ends_message(lent: &Lent, call: &Call) -> bool {
+    let Call::Step { slot, port } = *call else {
+        return false;
+    };
+    let looks = Looks::over(&lent.state, &lent.memory);
+    let first = looks.port_tokens(slot, port).next();
+    let ends = first.is_some_and(|word| word == 0x0101 || word == 0x0102);
+    ends && looks.port(slot, port).hop() == Some(bench::Hop::Control)
+}
+
 /// Makes a call on copies of the same words, and compares the answers and every word behind it. A Step
 /// that ends a switch message is left out.
 fn compare(lent: &Lent, call: &Call, from: &str, made: &mut Made) {
+    if ends_message(lent, call) {
+        return;
+    }
     let mut found = lent.clone();
     let mut network = baseline_at(lent);
     assert_eq!(network.write(), (lent.state.clone(), lent.memory.clone()));
-    let Some(expected) = make(&mut found, call) else {
-        return;
-    };
+    let expected = make(&mut found, call);
     let answer = network.make(call);
     assert_eq!(answer, expected, "{from}: {call}");
     if found.state.is_empty() {
