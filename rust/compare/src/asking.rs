@@ -116,16 +116,22 @@ impl Asking {
         self.nodes().get(slot).map_or(0, |node| node.number)
     }
 
+    /// Who asks, which board is asked, and a message, with the asker aimed; none where Aim is refused.
+    fn message_to_any(&mut self) -> Option<(End, usize, Vec<Token>)> {
+        let (from, goal) = (self.asker(), self.random.below(NODES));
+        let tokens = self.message(from, goal);
+        let number = self.number(goal);
+        let aimed = self.aim(from, Destination::Control { number });
+        aimed.then_some((from, goal, tokens))
+    }
+
     // Scenes.
 
     /// A message that is said, carried and heard out, mostly with nothing in between.
     fn ask_at_once(&mut self) {
-        let (from, goal) = (self.asker(), self.random.below(NODES));
-        let tokens = self.message(from, goal);
-        let number = self.number(goal);
-        if !self.aim(from, Destination::Control { number }) {
+        let Some((from, goal, tokens)) = self.message_to_any() else {
             return;
-        }
+        };
         for token in tokens {
             self.say(from, token);
             if self.random.chance(40) {
@@ -140,12 +146,9 @@ impl Asking {
 
     /// A message during which a setting of the node changes that hears it, mostly its width.
     fn ask_while_it_changes(&mut self) {
-        let (from, goal) = (self.asker(), self.random.below(NODES));
-        let tokens = self.message(from, goal);
-        let number = self.number(goal);
-        if !self.aim(from, Destination::Control { number }) {
+        let Some((from, goal, tokens)) = self.message_to_any() else {
             return;
-        }
+        };
         for token in tokens {
             self.say(from, token);
         }
