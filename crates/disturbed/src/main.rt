@@ -16,9 +16,7 @@ use names::size::ENDS;
 use names::size::LINKS;
 use names::size::PORTS;
 use names::size::TILE_LINKS;
-use sound::clause_of;
-use sound::sound_test;
-use sound::tests::everywhere;
+use sound::clause_after;
 use sound::unsound_clause;
 
 const WORDS: usize = 1508;
@@ -29,17 +27,13 @@ fn say(text: &[u8]) {
     io::write_all(STDOUT_FILENO, text);
 }
 
-fn say_clause(st: &[u32], mem: &[u16], k: u32) {
-    if !everywhere(st, mem, sound_test(k)) {
-        say(b" ");
-        io::print_decimal(STDOUT_FILENO, clause_of(k) as u64);
-    }
-}
-
-// The clause of each test of the list that fails.
+// Every clause that fails, one after the other.
 fn say_failing(st: &[u32], mem: &[u16]) {
-    for k in 0..sound::MANY {
-        say_clause(st, mem, k);
+    let mut clause = clause_after(st, mem, 0);
+    while !(clause == 0) {
+        say(b" ");
+        io::print_decimal(STDOUT_FILENO, clause as u64);
+        clause = clause_after(st, mem, clause);
     }
 }
 

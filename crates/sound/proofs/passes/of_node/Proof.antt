@@ -1,10 +1,15 @@
 -- `sound::passes::of_node` meets its contract. Assumes nothing.
+use mathlib.Core.Bool.{and-true}
 use borrow.Author.Needs.{needs}
 use Rattle.sound.proofs.passes.of_node.Statement.{statement}
 use Rattle.sound.proofs.passes.of_node.Tie as tie
 
 returns : tie.Need-returns
-returns c = rw (c .node-counts .ensures, c .before .at2 .ensures, c .before .before .silent .ensures, c .before .before .before .agrees .ensures, c .before .before .before .before .unit-counts .ensures, c .before .before .before .before .before .at .ensures)
+returns c =
+    let unit = c .before .before in
+    let counted = unit .before .before in
+    rw (c .node-counts .ensures, c .before .at2 .ensures)
+    (rw (unit .silent .ensures, unit .before .agrees .ensures, counted .unit-counts .ensures, counted .before .at .ensures, and-true))
 
 pub of-node-spec : {M : Type 1} → statement M
 of-node-spec =
