@@ -1,17 +1,25 @@
 -- What each test of the Sound list means, both ways: what a sound state hands to a call, and what a call has to show to leave it sound. Assumes
 -- nothing.
 use Prim.Native.Nat.{ℕ, _+_, _<_, _≤_}
-use mathlib.Core.Bool.{Bool, true, false}
+use mathlib.Core.Bool.{Bool, true, false, not}
+use mathlib.Core.List.{List}
 use mathlib.Core.Logic.{_⊎_}
 use mathlib.Core.Path.{_≡_, refl, sym, ap, _∙_, subst}
+use native.Mathlib.Omega.{arith}
+use lib.Dec.{eqb, ltb}
+use lib.ListN.{length, getD}
+use borrow.Author.Tests.{ltb-true, ltb-false, not-true}
 use Rattle.laws.specs.All.{Means}
-use Rattle.laws.proofs.All.{also, either, denied, as-is, same-as, below, at-most, equal}
-use Rattle.laws.proofs.Order.{never, clash}
-use Rattle.names.specs.Size.{links, endBuffer, replyPort}
+use Rattle.laws.proofs.All.{also, either, denied, as-is, same-as, below, at-most, equal, each}
+use Rattle.laws.proofs.Order.{by-test, never, clash}
+use Rattle.names.specs.Size.{links, endBuffer, unitBuffer, replyPort}
 use Rattle.names.specs.declared.Slot.{Slot}
 use Rattle.ports.specs.Queue.{capacity}
-use Rattle.tokens.specs.Shape.{legalChannel}
-use Rattle.cells.specs.View.{Net}
+use Rattle.tokens.specs.Control.{end, pause}
+use Rattle.tokens.specs.Word.{controlWord, closes}
+use Rattle.tokens.specs.Shape.{legalChannel, shapeOf}
+use Rattle.tokens.specs.declared.word.Shape.the-variants.{Body}
+use Rattle.cells.specs.View.{Net, view}
 use Rattle.cells.specs.World.{farOf}
 use Rattle.cells.specs.declared.node.Node.{Node}
 use Rattle.cells.specs.declared.link.Link.{Link}
@@ -22,6 +30,7 @@ use Rattle.cells.specs.declared.end.End.{End}
 use Rattle.cells.specs.declared.unit.Unit.{Unit}
 use Rattle.clauses.specs.Counts.{nodeCounts, linkCounts, tilePort, isFree, portCounts, aimCounts, endCounts, unitCounts}
 use Rattle.clauses.specs.Cables.{onFar, leadsTo, cable, credited, greeted, enabled, room}
+use Rattle.clauses.specs.Contents.{legalWord, filled, legalWords, heldTokens, heardTokens}
 use Rattle.clauses.specs.Pairs.{namedBy, backward, players, isNamed, onNamed, agrees, silent}
 use Rattle.clauses.specs.declared.pairs.Named.{Named}
 use Rattle.clauses.specs.declared.pairs.Named.the-variants.{Nothing, One}
@@ -175,3 +184,46 @@ pairs r s n i =
 
 pub silences : (s : Net) (n i : ℕ) → Means (silent s n i) ((s .units n 0 .serves .kind ≡ 0) ⊎ (s .ports n replyPort .counters .held ≡ 0))
 silences s n i = either (equal _ _) (equal _ _)
+
+-- What channel-ends and control units hold
+
+-- a channel-end and a control unit of a state have as many words as they can hold tokens
+pub end-words : (ws : List ℕ) (n c : ℕ) → length (view ws .ends n c .tokens) ≡ endBuffer
+unfolding view
+end-words ws n c = refl
+
+pub unit-words : (ws : List ℕ) (n : ℕ) → length (view ws .units n 0 .tokens) ≡ unitBuffer
+unfolding view
+unit-words ws n = refl
+
+pub filled-within : (size held : ℕ) → filled size held ≤ size
+filled-within size held =
+    by-test (ltb held size) (λ e. let l = ltb-true held size e in rw e (omega arith)) (λ e. rw e (omega arith))
+
+-- where no more are held than there is room for, each that is held counts
+pub filled-all : (size held i : ℕ) → held ≤ size → i < held → i < filled size held
+filled-all size held i a b =
+    by-test (ltb held size) (λ e. rw e b) (λ e. let l = ltb-false held size e in rw e (omega arith))
+
+legal-words : (ends : Bool) (size held : ℕ) (words : List ℕ)
+    → Means (legalWords ends size held words) ((i : ℕ) → i < filled size held → legalWord ends (getD words i 0) ≡ true)
+legal-words ends size held words =
+    each {P = λ i. legalWord ends (getD words i 0) ≡ true} (filled size held) (λ i. legalWord ends (getD words i 0)) (λ i. as-is _)
+
+pub helds : (s : Net) (n c : ℕ)
+    → Means (heldTokens s n c) ((i : ℕ) → i < filled endBuffer (s .ends n c .held) → legalWord true (getD (s .ends n c .tokens) i 0) ≡ true)
+helds s n c = legal-words true endBuffer (s .ends n c .held) (s .ends n c .tokens)
+
+abbrev pub HeardLegal : Unit → Type 0
+HeardLegal k = (i : ℕ) → i < filled unitBuffer (k .heard) → legalWord false (getD (k .tokens) i 0) ≡ true
+
+pub heards : (s : Net) (n i : ℕ) → Means (heardTokens s n i) ((s .units n 0 .serves .kind ≡ 0) ⊎ HeardLegal (s .units n 0))
+heards s n i = either (equal _ 0) (legal-words false unitBuffer (s .units n 0 .heard) (s .units n 0 .tokens))
+
+-- a token that a control unit keeps is one that stands past a header and closes nothing
+pub plain : (t : ℕ) → legalWord false t ≡ true → shapeOf t ≡ Body
+unfolding shapeOf closes
+plain t e =
+    let kept = also (as-is (not (eqb t (controlWord pause)))) (as-is (not (eqb t (controlWord end)))) in
+    let z = also (as-is (ltb t 0x1C2)) kept .sure e in
+    rw (not-true (eqb t (controlWord end)) (z .1 .1), not-true (eqb t (controlWord pause)) (z .1 .0), z .0)

@@ -1,11 +1,13 @@
--- What ports and channel-ends hold (document 01, "Sound").
+-- What ports, channel-ends and control units hold (document 01, "Sound").
 use Prim.Native.Nat.{ℕ, _*_, _/_}
-use mathlib.Core.Bool.{Bool, not, _&&_, _||_}
+use mathlib.Core.Bool.{Bool, true, false, not, _&&_, _||_}
+use mathlib.Core.List.{List}
 use lib.Dec.{eqb, ltb, leb}
 use lib.ListN.{length, getD}
+use Rattle.laws.specs.All.{all}
 use Rattle.laws.specs.Pick.{pick}
-use Rattle.names.specs.Size.{ports}
-use Rattle.tokens.specs.Control.{pause}
+use Rattle.names.specs.Size.{ports, endBuffer, unitBuffer}
+use Rattle.tokens.specs.Control.{end, pause}
 use Rattle.tokens.specs.Word.{controlWord}
 use Rattle.ports.specs.Queue.{capacity}
 use Rattle.grammar.specs.Stage.{isBad}
@@ -14,7 +16,6 @@ use Rattle.grammar.specs.declared.stage.Stage.{Stage}
 use Rattle.grammar.specs.declared.stage.Stage.the-variants.{Bad}
 use Rattle.cells.specs.View.{Net}
 use Rattle.cells.specs.World.{World, hop, queue}
-use Rattle.cells.specs.declared.end.End.{End}
 
 -- the memory has this port's stretch, and its counters are those of a ring
 abbrev pub ready : World → ℕ → ℕ → Bool
@@ -35,16 +36,22 @@ back w n p = pick (ready w n p) (backOf (hop (w .net) n p) (queue w n p)) Bad
 abbrev pub contents : World → ℕ → ℕ → Bool
 contents w n p = not (isBad (back w n p))
 
--- "tokens .. are legal": data, and control that Output lets out, but no PAUSE
-abbrev pub legalHeld : ℕ → Bool
-legalHeld t = ltb t 0x1C2 && not (eqb t (controlWord pause))
+-- "tokens .. are legal", outside ports: data, and control that Output lets out, but no PAUSE, and END only where it is kept
+abbrev pub legalWord : Bool → ℕ → Bool
+legalWord ends t = ltb t 0x1C2 && (not (eqb t (controlWord pause)) && (ends || not (eqb t (controlWord end))))
 
--- the i-th token of a channel-end, if so many are held
-abbrev pub heldToken : End → ℕ → Bool
-heldToken k i = leb (k .held) i || legalHeld (getD (k .tokens) i 0)
+-- how many of so many words are held: no more than there are
+abbrev pub filled : ℕ → ℕ → ℕ
+filled size held = pick (ltb held size) held size
 
+abbrev pub legalWords : Bool → ℕ → ℕ → List ℕ → Bool
+legalWords ends size held words = all (filled size held) (λ i. legalWord ends (getD words i 0))
+
+-- what a channel-end holds for its program, END too
 abbrev pub heldTokens : Net → ℕ → ℕ → Bool
-heldTokens s n c =
-    let k = s .ends n c in
-    (heldToken k 0 && (heldToken k 1 && (heldToken k 2 && heldToken k 3)))
-    && (heldToken k 4 && (heldToken k 5 && (heldToken k 6 && heldToken k 7)))
+heldTokens s n c = legalWords true endBuffer (s .ends n c .held) (s .ends n c .tokens)
+
+-- what a control unit that serves a circuit has heard: END and PAUSE end a message, and are not kept
+abbrev pub heardTokens : Net → ℕ → ℕ → Bool
+heardTokens s n i =
+    eqb (s .units n 0 .serves .kind) 0 || legalWords false unitBuffer (s .units n 0 .heard) (s .units n 0 .tokens)

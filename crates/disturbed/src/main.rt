@@ -92,10 +92,13 @@ fn put_end(st: &mut [u32], n: usize, c: usize, k: End) {
     }
 }
 
-fn set_heard(st: &mut [u32], n: usize, heard: u32) {
+fn set_heard(st: &mut [u32], n: usize, heard: u32, token: u32) {
     if n < node::count(st) {
         let mut k = unit::at(st, Slot(n));
+        let mut t = k.tokens;
+        t[0] = token;
         k.heard = heard;
+        k.tokens = t;
         unit::put(st, Slot(n), k);
     }
 }
@@ -263,9 +266,9 @@ fn unit_counts() {
     fresh(&mut st);
     set_hop(&mut st, 1, 0, 3, 0, 0);
     set_serves(&mut st, 1, 1, 0);
-    set_heard(&mut st, 1, 12);
+    set_heard(&mut st, 1, 12, 0x01C1);
     report(b"2 twelve tokens heard", &st, &mem);
-    set_heard(&mut st, 1, 11);
+    set_heard(&mut st, 1, 11, 0x01C1);
     report(b"2 eleven tokens heard", &st, &mem);
 }
 
@@ -337,6 +340,18 @@ fn held() {
     report(b"8 PAUSE in a channel-end", &st, &mem);
     set_held(&mut st, 1, 31, 1, 0x0101);
     report(b"8 END in a channel-end", &st, &mem);
+}
+
+fn heard() {
+    let mut st = [0u32; WORDS];
+    let mem = [0u16; TOKENS];
+    fresh(&mut st);
+    set_hop(&mut st, 1, 0, 3, 0, 0);
+    set_serves(&mut st, 1, 1, 0);
+    set_heard(&mut st, 1, 1, 0x0101);
+    report(b"8 END kept by a control unit", &st, &mem);
+    set_heard(&mut st, 1, 1, 0x01C1);
+    report(b"8 READC kept by a control unit", &st, &mem);
 }
 
 fn outputs() {
@@ -417,6 +432,7 @@ fn main() {
     links();
     contents();
     held();
+    heard();
     outputs();
     claims();
     senders();

@@ -1,32 +1,34 @@
 -- What a sound state hands to a call, clause by clause, so that no proof above opens one. Assumes nothing.
 use Prim.Native.Nat.{ℕ, _+_, _*_, _/_, _<_, _≤_}
 use mathlib.Core.Bool.{true, false}
-use mathlib.Core.Logic.{_⊎_, ⊎-elim}
+use mathlib.Core.Logic.{_⊎_, inl, inr, ⊎-elim}
 use mathlib.Core.Path.{_≡_}
 use native.Mathlib.Omega.{arith}
 use lib.Dec.{lit≤}
-use lib.ListN.{length}
+use lib.ListN.{length, getD}
 use borrow.Author.Tests.{lt-ltb, le-leb, not-true}
 use Rattle.laws.proofs.All.{also, as-is, at-most, equal}
-use Rattle.names.specs.Size.{nodes, links, ports, tileLinks, ends, replyPort}
+use Rattle.names.specs.Size.{nodes, links, ports, tileLinks, ends, endBuffer, unitBuffer, replyPort}
 use Rattle.names.specs.declared.Slot.{Slot}
+use Rattle.tokens.specs.Shape.{shapeOf}
+use Rattle.tokens.specs.declared.word.Shape.the-variants.{Body}
 use Rattle.ports.specs.Queue.{capacity, Fair}
 use Rattle.ports.specs.Memory.{place}
 use Rattle.grammar.specs.Stage.{isBad}
 use Rattle.grammar.specs.Walk.{backOf}
 use Rattle.cells.specs.World.{World, shaped, isEmpty, farOf, hop, queue}
 use Rattle.cells.specs.declared.link.Far.the-variants.{At}
-use Rattle.clauses.specs.Contents.{ready, heldTokens}
+use Rattle.clauses.specs.Contents.{ready, legalWord}
 use Rattle.clauses.specs.Pairs.{namedBy, backward, players, openEnd}
 use Rattle.clauses.specs.declared.pairs.Named.the-variants.{One}
 use Rattle.clauses.specs.declared.pairs.Role.{Role}
 use Rattle.clauses.proofs.Meanings.{node-counts, LinkFacts, link-counts, PortFacts, port-counts, EndFacts, end-counts, unit-counts}
-use Rattle.clauses.proofs.Meanings.{Joined, cables, credits, Hears, greetings, rooms, pairs, silences}
+use Rattle.clauses.proofs.Meanings.{Joined, cables, credits, Hears, greetings, rooms, pairs, silences, filled-all, helds, heards, plain}
 use Rattle.sound.specs.Tests.{holdsAt, places}
 use Rattle.sound.specs.Sound.{sound}
 use Rattle.sound.specs.declared.tests.Test.{Test}
-use Rattle.sound.specs.declared.tests.Test.the-variants.{Nodes, Links, Ports, Tiles, Ends, Units}
-use Rattle.sound.specs.declared.tests.Test.the-variants.{Credited, Greeted, Room, Cable, Contents, Held, Agrees, OpenEnd, Silent}
+use Rattle.sound.specs.declared.tests.Test.the-variants.{Nodes, Links, Ports, Tiles, Ends, Units, Credited, Greeted, Room, Cable}
+use Rattle.sound.specs.declared.tests.Test.the-variants.{Contents, Held, Agrees, OpenEnd, Silent, Heard}
 use Rattle.sound.proofs.Sounds.{sound-shaped, sound-says}
 
 module _ (w : World) (s : sound w ≡ true) where
@@ -107,8 +109,16 @@ module _ (w : World) (s : sound w ≡ true) where
     contents-facts p h = not-true _ (rw (is-ready p h) at (says Contents p h))
 
     -- every token that a channel-end holds is legal there
-    pub held-facts : (c : ℕ) → c < ends → heldTokens (w .net) n c ≡ true
-    held-facts c h = says Held c h
+    pub held-facts : (c : ℕ) → c < ends → (i : ℕ) → i < w .net .ends n c .held → legalWord true (getD (w .net .ends n c .tokens) i 0) ≡ true
+    held-facts c h i l = helds (w .net) n c .sure (says Held c h) i (filled-all endBuffer _ i (end-facts c h .held) l)
+
+    -- a control unit that serves has kept tokens that stand past a header and close nothing
+    pub heard-facts : (w .net .units n 0 .serves .kind ≡ 0)
+        ⊎ ((i : ℕ) → i < w .net .units n 0 .heard → shapeOf (getD (w .net .units n 0 .tokens) i 0) ≡ Body)
+    heard-facts =
+        ⊎-elim (λ z. inl z)
+        (λ f. ⊎-elim (λ z. inl z) (λ b. inr (λ i l. plain _ (f i (filled-all unitBuffer _ i b l)))) (unit-facts .1))
+        (heards (w .net) n 0 .sure (says Heard 0 (lit≤ tt)))
 
     -- an open channel-end is aimed, and goes by a port that is taken, or straight to a channel
     pub open-facts : (c : ℕ) → c < ends → openEnd (w .net) n c ≡ true

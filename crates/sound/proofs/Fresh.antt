@@ -7,6 +7,7 @@ use native.Mathlib.Omega.{arith}
 use lib.Dec.{lit≤}
 use lib.ListN.{length, length-replicate}
 use borrow.Author.Tests.{lt-ltb, le-leb, eq-eqb}
+use Rattle.laws.specs.All.{all}
 use Rattle.laws.proofs.All.{each-place, as-is}
 use Rattle.names.specs.Size.{nodes, ports, replyPort}
 use Rattle.ports.specs.Queue.{capacity, ring}
@@ -25,8 +26,8 @@ use Rattle.sound.specs.Tests.{holdsAt, places}
 use Rattle.sound.specs.Questions.{answerAt, placesOf, everywhere}
 use Rattle.sound.specs.Sound.{sound, tight, quiet}
 use Rattle.sound.specs.declared.tests.Test.{Test}
-use Rattle.sound.specs.declared.tests.Test.the-variants.{Nodes, Links, Ports, Tiles, Ends, Units}
-use Rattle.sound.specs.declared.tests.Test.the-variants.{Credited, Greeted, Room, Cable, Contents, Held, Agrees, OpenEnd, Silent}
+use Rattle.sound.specs.declared.tests.Test.the-variants.{Nodes, Links, Ports, Tiles, Ends, Units, Credited, Greeted, Room, Cable}
+use Rattle.sound.specs.declared.tests.Test.the-variants.{Contents, Held, Agrees, OpenEnd, Silent, Heard}
 use Rattle.sound.specs.declared.questions.Question.{Question}
 use Rattle.sound.specs.declared.questions.Question.the-variants.{Tied, Sends, Replied, QuietPort, QuietEnd}
 use Rattle.sound.proofs.Sounds.{sound-from}
@@ -61,6 +62,7 @@ module _ (n : ℕ) (some : 1 ≤ n) (few : n ≤ nodes) where
 
   -- the all-zero records pass every test
   zeros-pass : (t : Test) (m i : ℕ) → m < n → i < places t → holdsAt t (freshWorld n) m i ≡ true
+  unfolding all
   zeros-pass Nodes m i h g = rw (lt-ltb m n h)
   zeros-pass Links m i h g = refl
   zeros-pass Ports m i h g = zero-port i
@@ -76,6 +78,7 @@ module _ (n : ℕ) (some : 1 ≤ n) (few : n ≤ nodes) where
   zeros-pass (Agrees r) m i h g = rw (names-nobody r m i)
   zeros-pass OpenEnd m i h g = refl
   zeros-pass Silent m i h g = refl
+  zeros-pass Heard m i h g = refl
 
   pub fresh-shaped : shaped (freshWorld n) ≡ true
   unfolding shaped

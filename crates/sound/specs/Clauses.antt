@@ -10,8 +10,8 @@ use Rattle.clauses.specs.declared.pairs.Role.the-variants.{PortLink, LinkPort, 
 use Rattle.clauses.specs.declared.pairs.Role.the-variants.{PortClaim, ClaimPort, EndClaim, ClaimEnd, EndPort, PortEnd}
 use Rattle.sound.specs.Tests.{holds, holdsAt, places}
 use Rattle.sound.specs.declared.tests.Test.{Test}
-use Rattle.sound.specs.declared.tests.Test.the-variants.{Nodes, Links, Ports, Tiles, Ends, Units}
-use Rattle.sound.specs.declared.tests.Test.the-variants.{Credited, Greeted, Room, Cable, Contents, Held, Agrees, OpenEnd, Silent}
+use Rattle.sound.specs.declared.tests.Test.the-variants.{Nodes, Links, Ports, Tiles, Ends, Units, Credited, Greeted, Room, Cable}
+use Rattle.sound.specs.declared.tests.Test.the-variants.{Contents, Held, Agrees, OpenEnd, Silent, Heard}
 
 pub record Clause : Type 0 where
   pub number : ℕ
@@ -42,11 +42,12 @@ cables =
     ∷ []
 
 -- 7: "tokens and headers are legal; a port with no circuit is empty or starts with a header, and so does what follows an END or PAUSE;
--- .."; 8: "tokens .. are legal", in a channel-end
+-- .."; 8: "tokens .. are legal", in a channel-end or control unit
 abbrev pub tokens : List Clause
 tokens =
     clause 7 Contents
     ∷ clause 8 Held
+    ∷ clause 8 Heard
     ∷ []
 
 -- 9: "a port's output names that port back and no other"

@@ -6,11 +6,11 @@ use Rattle.names.specs.Size.{links, ports, tileLinks, ends}
 use Rattle.cells.specs.World.{World}
 use Rattle.clauses.specs.Counts.{nodeCounts, linkCounts, portCounts, tileCounts, endCounts, unitCounts}
 use Rattle.clauses.specs.Cables.{cable, credited, greeted, room}
-use Rattle.clauses.specs.Contents.{contents, heldTokens}
+use Rattle.clauses.specs.Contents.{contents, heldTokens, heardTokens}
 use Rattle.clauses.specs.Pairs.{agrees, players, openEnd, silent}
 use Rattle.sound.specs.declared.tests.Test.{Test}
-use Rattle.sound.specs.declared.tests.Test.the-variants.{Nodes, Links, Ports, Tiles, Ends, Units}
-use Rattle.sound.specs.declared.tests.Test.the-variants.{Credited, Greeted, Room, Cable, Contents, Held, Agrees, OpenEnd, Silent}
+use Rattle.sound.specs.declared.tests.Test.the-variants.{Nodes, Links, Ports, Tiles, Ends, Units, Credited, Greeted, Room, Cable}
+use Rattle.sound.specs.declared.tests.Test.the-variants.{Contents, Held, Agrees, OpenEnd, Silent, Heard}
 
 -- the test at place i of node n
 abbrev pub holdsAt : Test → World → ℕ → ℕ → Bool
@@ -29,6 +29,7 @@ holdsAt Held w n i = heldTokens (w .net) n i
 holdsAt (Agrees r) w n i = agrees r (w .net) n i
 holdsAt OpenEnd w n i = openEnd (w .net) n i
 holdsAt Silent w n i = silent (w .net) n 0
+holdsAt Heard w n i = heardTokens (w .net) n 0
 
 -- how many places of a node it is made at: those of one table
 abbrev pub places : Test → ℕ
@@ -47,6 +48,7 @@ places Held = ends
 places (Agrees r) = players r
 places OpenEnd = ends
 places Silent = 1
+places Heard = 1
 
 -- the test at every place of every node
 unfoldable pub holds : Test → World → Bool

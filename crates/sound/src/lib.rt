@@ -55,7 +55,8 @@ fn tokens(st: &[u32], mem: &[u16], after: u32, found: u32) -> u32
     ensures { λ r. ⌜ r ≡ askAll after found tokens (world (now (st .entry)) (now (mem .entry))) ⌝ }
 {
     let c = ask(st, mem, after, found, 7, Test::Contents);
-    ask(st, mem, after, c, 8, Test::Held)
+    let c = ask(st, mem, after, c, 8, Test::Held);
+    ask(st, mem, after, c, 8, Test::Heard)
 }
 
 // A port's output names that port back and no other.

@@ -12,6 +12,7 @@ use clauses::cables::credited;
 use clauses::cables::greeted;
 use clauses::cables::room;
 use clauses::contents::contents;
+use clauses::contents::heard_tokens;
 use clauses::contents::held_tokens;
 use clauses::counts::end_counts;
 use clauses::counts::link_counts;
@@ -32,8 +33,8 @@ ghost use Rattle.sound.specs.Clauses.{circuits, soundClauses, asked};
 pub fn of_node(st: &[u32], mem: &[u16], slot: Slot, i: usize) -> bool
     ensures { λ r. ⌜ r ≡ asked soundClauses 1 (world (now (st .entry)) (now (mem .entry))) (slot .0) i ⌝ }
 {
-    let unit = unit_counts(unit::at(st, slot))
-        & (agrees(st, slot, Role::UnitPort, i) & silent(st, slot));
+    let served = agrees(st, slot, Role::UnitPort, i) & silent(st, slot);
+    let unit = unit_counts(unit::at(st, slot)) & (heard_tokens(st, slot) & served);
     node_counts(node::at(st, slot)) & unit
 }
 

@@ -10,6 +10,7 @@ use clauses::cables::credited;
 use clauses::cables::greeted;
 use clauses::cables::room;
 use clauses::contents::contents;
+use clauses::contents::heard_tokens;
 use clauses::contents::held_tokens;
 use clauses::counts::end_counts;
 use clauses::counts::link_counts;
@@ -62,6 +63,8 @@ pub enum Test {
     OpenEnd,
     // port 12 is empty while the control unit serves a circuit
     Silent,
+    // what a control unit has heard
+    Heard,
 }
 
 // The test at one place.
@@ -84,6 +87,7 @@ pub fn holds_at(st: &[u32], mem: &[u16], t: Test, slot: Slot, i: usize) -> bool
         Test::Agrees(r) => agrees(st, slot, r, i),
         Test::OpenEnd => open_end(st, slot, i),
         Test::Silent => silent(st, slot),
+        Test::Heard => heard_tokens(st, slot),
     }
 }
 
@@ -107,5 +111,6 @@ pub fn places(t: Test) -> usize
         Test::Agrees(r) => players(r),
         Test::OpenEnd => ENDS,
         Test::Silent => 1,
+        Test::Heard => 1,
     }
 }

@@ -5,7 +5,7 @@ use Rattle.sound.proofs.tokens.Tie as tie
 
 returns : tie.Need-returns
 returns c =
-    rw (c .ask2 .ensures, c .before .ask .ensures)
+    rw (c .ask3 .ensures, c .before .ask2 .ensures, c .before .before .ask .ensures)
 
 pub tokens-spec : {M : Type 1} → statement M
-tokens-spec = tie.close (tie.spec (λ c κs. search needs) (λ c κs. search needs) returns)
+tokens-spec = tie.close (tie.spec (λ c κs. search needs) (λ c κs. search needs) (λ c κs. search needs) returns)

@@ -35,6 +35,8 @@ places-spec =
     (λ c. search needs)
     (λ c. search needs)
     (λ c. search needs)
+    (λ c. search needs)
     (λ c. rw (c .before .before .t .given .1, c .players .ensures))
+    (λ c. search needs)
     (λ c. search needs)
     (λ c. search needs))
