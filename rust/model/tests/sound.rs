@@ -318,6 +318,22 @@ fn tokens_are_legal() {
     }
 }
 
+/// In a message that a control unit hears, too; END and PAUSE end it and are not kept.
+#[test]
+fn tokens_that_a_control_unit_has_heard_are_legal() {
+    let hears = |token| move |n: &mut Network| n.nodes[2].control_unit.heard.push(token);
+    for value in 0..=255 {
+        passes(hears(Token::data(value)));
+        match value {
+            END | PAUSE | 0xC2..=0xFF => {
+                fails(Clause::LegalTokens, hears(Token::control(value)));
+            }
+            _ => passes(hears(Token::control(value))),
+        }
+    }
+    fails(Clause::HeaderElsewhere, hears(Token::data(0).in_header(1)));
+}
+
 /// A port without a circuit to try headers in.
 fn waiting(network: &mut Network, tokens: &[Token]) {
     put(network, 1, 5, tokens);

@@ -14,11 +14,12 @@ pub fn disturb(random: &mut Random, network: &mut Network) {
     for _ in 0..1 + random.below(3) {
         let slots = network.nodes.len();
         let slot = random.below(slots);
-        match random.below(5) {
+        match random.below(6) {
             0 => link(random, slots, &mut network.nodes[slot]),
             1 => hold(random, &mut network.nodes[slot]),
             2 => lose(random, &mut network.nodes[slot]),
             3 => port(random, &mut network.nodes[slot]),
+            4 => hear(random, &mut network.nodes[slot]),
             _ => channel_end(random, &mut network.nodes[slot]),
         }
     }
@@ -124,6 +125,21 @@ fn port(random: &mut Random, node: &mut Node) {
         1 => node.control_unit.serves = perhaps(random, port),
         _ => node.ports[random.below(PORTS)].hop = perhaps(random, hop),
     }
+}
+
+/// The token that a control unit heard last becomes another, or a first one is heard.
+fn hear(random: &mut Random, node: &mut Node) {
+    let tokens = [
+        Token::data(random.byte()),
+        Token::control(random.byte()),
+        Token::control(END),
+        Token::control(PAUSE),
+        Token::data(random.byte()).in_header(3),
+    ];
+    let token = random.pick(&tokens).unwrap_or(tokens[0]);
+    let heard = &mut node.control_unit.heard;
+    heard.pop();
+    heard.push(token);
 }
 
 /// A channel-end's aim, open circuit or claim.

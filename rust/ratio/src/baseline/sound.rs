@@ -97,6 +97,7 @@ impl Node {
         unit.serves.kind == 0
             || (unit.serves.kind == 1
                 && unit.heard <= HEARD as u32
+                && unit.tokens_are_legal()
                 && self.ports[REPLY_PORT].held == 0
                 && self
                     .port_of(unit.serves)
@@ -265,9 +266,23 @@ impl ChannelEnd {
             && (self.aim == 2 || (self.aim == 1 && is_channel(self.channel as usize)))
     }
 
-    /// No header, no privileged token but 0xC0 and 0xC1, no PAUSE.
     fn tokens_are_legal(&self) -> bool {
-        let mut held = self.tokens[..self.held as usize].iter();
-        held.all(|token| *token <= 0x01C1 && *token != u32::from(PAUSE))
+        let held = &self.tokens[..self.held as usize];
+        held.iter().all(|token| may_be_kept(*token))
+    }
+}
+
+/// No header, no privileged token but 0xC0 and 0xC1, no PAUSE.
+fn may_be_kept(token: u32) -> bool {
+    token <= 0x01C1 && token != u32::from(PAUSE)
+}
+
+impl Unit {
+    /// END ends a message, as PAUSE does, and is not kept.
+    fn tokens_are_legal(&self) -> bool {
+        let heard = &self.tokens[..self.heard as usize];
+        heard
+            .iter()
+            .all(|token| may_be_kept(*token) && *token != u32::from(END))
     }
 }
