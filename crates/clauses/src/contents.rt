@@ -96,6 +96,10 @@ pub fn held_tokens(st: &[u32], slot: Slot, c: usize) -> bool
     ensures { λ r. ⌜ r ≡ heldTokens (view (now (st .entry))) (slot .0) c ⌝ }
 {
     let k = end::at(st, slot, c);
+    if k.held == 0 {
+        // what holds nothing holds nothing wrong
+        return true;
+    }
     let t = k.tokens;
     legal_words(&t, k.held, true)
 }
@@ -105,9 +109,9 @@ pub fn heard_tokens(st: &[u32], slot: Slot) -> bool
     ensures { λ r. ⌜ r ≡ heardTokens (view (now (st .entry))) (slot .0) 0 ⌝ }
 {
     let k = unit::at(st, slot);
-    let t = k.tokens;
     if k.serves.kind == 0 {
         return true;
     }
+    let t = k.tokens;
     legal_words(&t, k.heard, false)
 }

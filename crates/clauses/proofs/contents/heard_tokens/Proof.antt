@@ -6,12 +6,12 @@ use Rattle.clauses.proofs.contents.heard_tokens.Statement.{statement}
 use Rattle.clauses.proofs.contents.heard_tokens.Tie as tie
 
 returns : tie.Need-returns
-returns c = rw (← c .before .before .before .at .ensures, c .if1 .taken)
+returns c = rw (← c .before .before .at .ensures, c .if1 .taken)
 
 returns-2 : tie.Need-returns-2
 returns-2 c =
-    let serving = c .before .before in
-    let read = serving .before .before .before in
+    let serving = c .before .before .before in
+    let read = serving .before .before in
     let a = read .before .before .args in
     let serves = rw (read .at .ensures) at (ne-eqb (read .at .result .serves .kind) 0 (serving .if1 .left)) in
     rw (serves, c .legal-words .ensures, read .at .ensures, unit-words (a .st .now) (a .slot .0))
