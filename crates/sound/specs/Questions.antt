@@ -1,4 +1,4 @@
--- What is asked at every place of every node: one test of the Sound list, all that the list asks there, a tie, or that it is quiet.
+-- What is asked at every place of every node: one row of the Sound list, all that the list asks there, a tie, or that it is quiet.
 use Prim.Native.Nat.{ℕ}
 use mathlib.Core.Bool.{Bool, _&&_}
 use lib.Dec.{eqb}
@@ -10,7 +10,7 @@ use Rattle.clauses.specs.Ties.{fed, unfed, idle, sends, replied}
 use Rattle.sound.specs.Tests.{holdsAt, places}
 use Rattle.sound.specs.Clauses.{soundClauses, asked}
 use Rattle.sound.specs.declared.questions.Question.{Question}
-use Rattle.sound.specs.declared.questions.Question.the-variants.{Passes, OfNode, OfLink, OfPort, OfTile, OfEnd}
+use Rattle.sound.specs.declared.questions.Question.the-variants.{Row, OfNode, OfLink, OfPort, OfTile, OfEnd}
 use Rattle.sound.specs.declared.questions.Question.the-variants.{Tied, Sends, Replied, QuietPort, QuietEnd}
 
 -- all that the ties ask of a link
@@ -26,7 +26,7 @@ quietEnd s n c = eqb (s .ends n c .held) 0 && (eqb (s .ends n c .claim .kind) 0 
 
 -- the answer at place i of node n
 abbrev pub answerAt : Question → World → ℕ → ℕ → Bool
-answerAt (Passes t) w n i = holdsAt t w n i
+answerAt (Row k t) w n i = holdsAt t w n i
 answerAt OfNode w n i = asked soundClauses 1 w n i
 answerAt OfLink w n i = asked soundClauses links w n i
 answerAt OfPort w n i = asked soundClauses ports w n i
@@ -40,7 +40,7 @@ answerAt QuietEnd w n i = quietEnd (w .net) n i
 
 -- how many places of a node it is asked at
 abbrev pub placesOf : Question → ℕ
-placesOf (Passes t) = places t
+placesOf (Row k t) = places t
 placesOf OfNode = 1
 placesOf OfLink = links
 placesOf OfPort = ports

@@ -15,17 +15,17 @@ ghost use Rattle.sound.specs.Sound.{unsoundClause, sound, tight, quiet};
 
 // A row of the list: what was found before it, else its number, where that is past `after` and its test
 // fails.
-fn ask(st: &[u32], mem: &[u16], after: u32, found: u32, number: u32, t: Test) -> u32
+fn ask(st: &[u32], mem: &[u16], after: u32, found: u32, number: u8, t: Test) -> u32
     ensures { λ r. ⌜ r ≡ ask after found (clause number t) (world (now (st .entry)) (now (mem .entry))) ⌝ }
 {
     if !(found == 0) {
         return found;
     }
-    let passes = (number <= after) | everywhere(st, mem, Question::Passes(t));
+    let passes = (number as u32 <= after) | everywhere(st, mem, Question::Row(number, t));
     if passes {
         return 0;
     }
-    number
+    number as u32
 }
 
 // Counts within their limits.

@@ -28,8 +28,9 @@ ghost use Rattle.cells.specs.World.{world};
 ghost use Rattle.sound.specs.Questions.{tied, quietPort, quietEnd, answerAt, placesOf, everywhere};
 
 pub enum Question {
-    // one test of the Sound list
-    Passes(Test),
+    // one row of the Sound list, its number and its test (four bytes, which pass as one number: of
+    // three the compiler keeps a question in memory, and asks at each place which one it is)
+    Row(u8, Test),
     // all that the Sound list asks of a node, link, port, tile link and channel-end
     OfNode,
     OfLink,
@@ -72,7 +73,7 @@ fn answer_at(st: &[u32], mem: &[u16], q: Question, slot: Slot, i: usize) -> bool
     ensures { λ r. ⌜ r ≡ answerAt q (world (now (st .entry)) (now (mem .entry))) (slot .0) i ⌝ }
 {
     match q {
-        Question::Passes(t) => holds_at(st, mem, t, slot, i),
+        Question::Row(_, t) => holds_at(st, mem, t, slot, i),
         Question::OfNode => of_node(st, mem, slot, i),
         Question::OfLink => of_link(st, mem, slot, i),
         Question::OfPort => of_port(st, mem, slot, i),
@@ -91,7 +92,7 @@ fn places_of(q: Question) -> usize
     ensures { λ r. ⌜ r ≡ placesOf q ⌝ }
 {
     match q {
-        Question::Passes(t) => places(t),
+        Question::Row(_, t) => places(t),
         Question::OfNode => 1,
         Question::OfLink => LINKS,
         Question::OfPort => PORTS,

@@ -9,7 +9,7 @@ use Rattle.cells.specs.World.{World, world}
 use Rattle.sound.specs.Clauses.{Clause, clause, ask}
 use Rattle.sound.specs.Tests.{holds}
 use Rattle.sound.specs.Questions.{everywhere}
-use Rattle.sound.specs.declared.questions.Question.the-variants.{Passes}
+use Rattle.sound.specs.declared.questions.Question.the-variants.{Row}
 use Rattle.sound.proofs.ask.Statement.{statement}
 use Rattle.sound.proofs.ask.Tie as tie
 
@@ -18,7 +18,7 @@ module _ (k f : ℕ) (c : Clause) (w : World) where
   unfolding ask
   found e = rw e
 
-  module _ {b : Bool} (none : eqb f 0 ≡ true) (asked : b ≡ everywhere (Passes (c .test)) w) where
+  module _ {b : Bool} (none : eqb f 0 ≡ true) (asked : b ≡ everywhere (Row (c .number) (c .test)) w) where
     passed : (leb (c .number) k || b) ≡ true → 0 ≡ ask k f c w
     unfolding ask everywhere holds
     passed e = rw (none, ← asked, e)
