@@ -1,5 +1,5 @@
--- What the definitions above take and give: the state as tables, and the token memory. A later change adds a second memory here, and no
--- signature moves.
+-- What the definitions above take and give: the state as tables, and the token memory. A contract speaks of `world st mem`. A second memory
+-- would be a further field of World: crates that never touch it pass it through, and keep their contracts word for word.
 use Prim.Native.Nat.{ℕ, _*_}
 use mathlib.Core.Bool.{Bool, true, false, _&&_}
 use mathlib.Core.List.{List, [], _∷_}

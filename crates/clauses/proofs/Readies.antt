@@ -14,7 +14,8 @@ use Rattle.names.specs.Size.{ports}
 use Rattle.circuits.specs.Circuit.{hopOf}
 use Rattle.circuits.specs.declared.Hop.{Hop}
 use Rattle.circuits.specs.declared.Hop.the-variants as Hops
-use Rattle.ports.specs.Queue.{capacity, Fair, contents, ring}
+use Rattle.ports.specs.Ring.{ring}
+use Rattle.ports.specs.Queue.{capacity, Fair, contents}
 use Rattle.ports.specs.Memory.{place, stretch}
 use Rattle.grammar.specs.Stage.{isBad}
 use Rattle.grammar.specs.Walk.{backOf}

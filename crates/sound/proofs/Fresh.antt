@@ -10,7 +10,8 @@ use lib.ListN.{length, length-replicate}
 use borrow.Author.Tests.{lt-ltb, le-leb, eq-eqb}
 use Rattle.laws.specs.All.{Each}
 use Rattle.names.specs.Size.{nodes, ports, replyPort}
-use Rattle.ports.specs.Queue.{capacity, ring}
+use Rattle.ports.specs.Queue.{capacity}
+use Rattle.ports.specs.Ring.{ring}
 use Rattle.grammar.specs.declared.stage.Stage.the-variants.{Fresh}
 use Rattle.cells.specs.World.{shaped}
 use Rattle.cells.specs.Fresh.{freshWorld}

@@ -24,7 +24,7 @@ use Rattle.tokens.specs.declared.header.Target.{Target}
 use Rattle.tokens.specs.declared.header.Target.the-variants as T
 use Rattle.ports.specs.Queue.{capacity, ring}
 use Rattle.ports.specs.Memory.{place, stretch}
-use Rattle.ports.proofs.Rings.{ring-start, ring-next}
+use Rattle.ports.proofs.Ports.{ring-start, ring-next}
 use Rattle.grammar.specs.Stage.{step, fromFresh, fromTwoDue, fromLastDue, isBad}
 use Rattle.grammar.specs.Walk.{walk}
 use Rattle.grammar.specs.declared.stage.Stage.{Stage}

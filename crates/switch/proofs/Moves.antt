@@ -7,7 +7,7 @@ use Rattle.laws.proofs.Table.{upd-miss}
 use Rattle.names.specs.declared.Slot.{Slot}
 use Rattle.ports.specs.Memory.{place, held}
 use Rattle.ports.specs.declared.Counters.{Counters}
-use Rattle.ports.proofs.Stretches.{elsewhere}
+use Rattle.ports.proofs.Ports.{elsewhere}
 use Rattle.cells.specs.World.{World, farOf, queue}
 use Rattle.cells.specs.declared.port.Port.{Port}
 use Rattle.cells.specs.declared.link.Far.{Far}

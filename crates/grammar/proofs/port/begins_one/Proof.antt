@@ -2,8 +2,8 @@
 use mathlib.Core.Path.{_∙_, sym, ap}
 use native.Mathlib.Omega.{arith}
 use borrow.Author.Needs.{needs}
-use Rattle.ports.specs.Queue.{ring}
-use Rattle.ports.proofs.Rings.{take-removes}
+use Rattle.ports.specs.Ring.{ring}
+use Rattle.ports.proofs.Ports.{take-removes}
 use Rattle.grammar.specs.Stage.{ofOne}
 use Rattle.grammar.specs.Walk.{beginsOne}
 use Rattle.grammar.proofs.port.begins_one.Statement.{statement}

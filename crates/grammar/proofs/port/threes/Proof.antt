@@ -8,7 +8,7 @@ use borrow.Author.Needs.{needs}
 use borrow.Author.Tests.{not-true, not-false}
 use lib.ListN.{getD}
 use Rattle.ports.specs.Queue.{capacity, ring}
-use Rattle.ports.proofs.Rings.{ring-start, ring-next, ring-done}
+use Rattle.ports.proofs.Ports.{ring-start, ring-next, ring-done}
 use Rattle.tokens.specs.Shape.{shapeOf}
 use Rattle.tokens.specs.declared.word.Shape.{Shape}
 use Rattle.grammar.specs.Stage.{ofThree}
@@ -38,19 +38,25 @@ loop-holds c =
 
 returns : tie.Need-returns Inv-loop μ-loop
 returns c =
-    let l = c .before .before .before .before .before .before .before .loop in
-    let a = c .before .before .before .before .before .before .before .before .before .args in
+    let turn = c .before .before .before .before .before .before .before in
+    let l = turn .loop in
+    let a = turn .before .before .args in
+    let x = getD (a .stretch .now) ((a .c .head + l .i) % capacity) 0 in
+    let rest = ring (a .stretch .now) (a .c .head + (l .i + 1)) (a .c .held - (l .i + 1)) in
     let next = ap threes (ring-next (a .stretch .now) (a .c .head) (a .c .held) (l .i) (omega arith)) in
-    omega (arith, l .inv .1, next ∙ stops (getD (a .stretch .now) ((a .c .head + l .i) % capacity) 0) (ring (a .stretch .now) (a .c .head + (l .i + 1)) (a .c .held - (l .i + 1))) (c .before .before .shape-of .ensures) (c .before .of-three .ensures) (not-true _ (c .if2 .taken)))
+    let here = stops x rest (c .before .before .shape-of .ensures) (c .before .of-three .ensures) (not-true _ (c .if2 .taken)) in
+    omega (arith, l .inv .1, next ∙ here)
 
 loop-again : tie.Need-loop-again Inv-loop μ-loop
 loop-again c =
-    let l = c .before .before .before .before .before .before .before .loop in
-    let a = c .before .before .before .before .before .before .before .before .before .args in
-    let next = ap threes (ring-next (a .stretch .now) (a .c .head) (a .c .held) (l .i) (omega arith)) in (
-      omega arith,
-      omega (arith, l .inv .1, next ∙ goes-on (getD (a .stretch .now) ((a .c .head + l .i) % capacity) 0) (ring (a .stretch .now) (a .c .head + (l .i + 1)) (a .c .held - (l .i + 1))) (c .before .before .shape-of .ensures) (c .before .of-three .ensures) (not-false _ (c .if2 .left))),
-    )
+    let turn = c .before .before .before .before .before .before .before in
+    let l = turn .loop in
+    let a = turn .before .before .args in
+    let x = getD (a .stretch .now) ((a .c .head + l .i) % capacity) 0 in
+    let rest = ring (a .stretch .now) (a .c .head + (l .i + 1)) (a .c .held - (l .i + 1)) in
+    let next = ap threes (ring-next (a .stretch .now) (a .c .head) (a .c .held) (l .i) (omega arith)) in
+    let on = goes-on x rest (c .before .before .shape-of .ensures) (c .before .of-three .ensures) (not-false _ (c .if2 .left)) in
+    (omega arith, omega (arith, l .inv .1, next ∙ on))
 
 returns-2 : tie.Need-returns-2 Inv-loop μ-loop
 returns-2 c =
