@@ -18,7 +18,7 @@ use tokens::word::closes;
 use tokens::word::is_pause;
 ghost use mathlib.Core.Path.{_≡_};
 ghost use Prim.Native.Nat.{_+_, _<_};
-ghost use Rattle.names.specs.Size.{ports, ends};
+ghost use Rattle.names.specs.Size.{ports, ends, numbers};
 ghost use Rattle.tokens.specs.Header.{words};
 ghost use Rattle.cells.specs.View.{view, withEnd, withPort};
 ghost use Rattle.cells.specs.World.{world};
@@ -38,7 +38,7 @@ pub fn width_at(st: &[u32], slot: Slot) -> Width
 
 // A node's number.
 pub fn number_at(st: &[u32], slot: Slot) -> NodeNumber
-    requires { ⌜ view (now st) .own (slot .0) 0 .number < 65536 ⌝ }
+    requires { ⌜ view (now st) .own (slot .0) 0 .number < numbers ⌝ }
     ensures { λ r. ⌜ r ≡ numberAt (view (now (st .entry))) (slot .0) ⌝ }
 {
     let k = node::at(st, slot);

@@ -7,7 +7,7 @@ use mathlib.Core.Path.{_≡_, refl, sym, ap, _∙_, subst}
 use Rattle.laws.specs.All.{Means}
 use Rattle.laws.proofs.All.{also, either, denied, as-is, same-as, below, at-most, equal}
 use Rattle.laws.proofs.Order.{never, clash}
-use Rattle.names.specs.Size.{links, endBuffer, replyPort}
+use Rattle.names.specs.Size.{links, endBuffer, unitBuffer, replyPort, networks, directions, numbers}
 use Rattle.names.specs.declared.Slot.{Slot}
 use Rattle.ports.specs.Queue.{capacity}
 use Rattle.tokens.specs.Shape.{legalChannel}
@@ -29,14 +29,14 @@ use Rattle.clauses.specs.declared.pairs.Role.{Role}
 
 -- Counts
 
-pub node-counts : (k : Node) → Means (nodeCounts k) ((k .number < 65536) × ((k .width ≡ 1) ⊎ (k .width ≡ 3)))
-node-counts k = also (below (k .number) 65536) (either (equal (k .width) 1) (equal (k .width) 3))
+pub node-counts : (k : Node) → Means (nodeCounts k) ((k .number < numbers) × ((k .width ≡ 1) ⊎ (k .width ≡ 3)))
+node-counts k = also (below (k .number) numbers) (either (equal (k .width) 1) (equal (k .width) 3))
 
 pub record LinkFacts (k : Link) : Type 0 where
   pub wired : k .wired ≤ 1
   pub enabled : k .enabled ≤ 1
-  pub direction : k .direction < 16
-  pub network : k .network < 4
+  pub direction : k .direction < directions
+  pub network : k .network < networks
   pub greeted : k .greeted ≤ 1
   pub credit : k .credit ≤ capacity
   pub user : k .user .kind ≤ 1
@@ -52,7 +52,7 @@ pub record PortFacts (p : ℕ) (k : Port) : Type 0 where
   pub head : k .counters .head < capacity
   pub held : k .counters .held ≤ capacity
   pub kind : k .circuit .kind ≤ 5
-  pub network : ((tilePort p ≡ true → ⊥) ⊎ (isFree k ≡ true)) ⊎ (k .network < 4)
+  pub network : ((tilePort p ≡ true → ⊥) ⊎ (isFree k ≡ true)) ⊎ (k .network < networks)
   pub sender : (k .sender .kind ≡ 0) ⊎ (k .sender .kind ≡ 2)
 
 pub port-counts : (p : ℕ) (k : Port) → Means (portCounts p k) (PortFacts p k)
@@ -64,8 +64,8 @@ port-counts p k =
 
 -- a destination that is there
 pub record AimFacts (k : End) : Type 0 where
-  pub number : k .number < 65536
-  pub network : k .network < 4
+  pub number : k .number < numbers
+  pub network : k .network < networks
   pub place : (k .aim ≡ 2) ⊎ ((k .aim ≡ 1) × (legalChannel (k .channel) ≡ true))
 
 aim-counts : (k : End) → Means (aimCounts k) ((k .aim ≡ 0) ⊎ AimFacts k)
@@ -89,7 +89,7 @@ end-counts k =
     (λ f. (f .aim, (f .sending, (f .claim, f .held))))
     (also (aim-counts k) (also (at-most _ _) (also (at-most _ _) (at-most _ _))))
 
-pub unit-counts : (k : Unit) → Means (unitCounts k) ((k .serves .kind ≤ 1) × ((k .serves .kind ≡ 0) ⊎ (k .heard ≤ 11)))
+pub unit-counts : (k : Unit) → Means (unitCounts k) ((k .serves .kind ≤ 1) × ((k .serves .kind ≡ 0) ⊎ (k .heard ≤ unitBuffer)))
 unit-counts k = also (at-most _ _) (either (equal _ _) (at-most _ _))
 
 -- Cables and credits

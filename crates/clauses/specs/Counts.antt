@@ -4,7 +4,7 @@
 use Prim.Native.Nat.{ℕ}
 use mathlib.Core.Bool.{Bool, not, _&&_, _||_}
 use lib.Dec.{eqb, ltb, leb}
-use Rattle.names.specs.Size.{links, replyPort, endBuffer, unitBuffer, networks, directions}
+use Rattle.names.specs.Size.{firstTilePort, replyPort, endBuffer, unitBuffer, networks, directions, numbers}
 use Rattle.circuits.specs.Circuit.{legalPeer, legalHopKind}
 use Rattle.circuits.specs.declared.Circuit.{Circuit}
 use Rattle.ports.specs.Queue.{capacity}
@@ -30,7 +30,7 @@ byEnd c = eqb (c .kind) 0 || eqb (c .kind) 2
 
 -- number 0..65535, width one or three (a direction entry cannot leave 0..15)
 abbrev pub nodeCounts : Node → Bool
-nodeCounts k = ltb (k .number) 65536 && (eqb (k .width) 1 || eqb (k .width) 3)
+nodeCounts k = ltb (k .number) numbers && (eqb (k .width) 1 || eqb (k .width) 3)
 
 -- "credit of a link 0..64; network number 0..3; direction 0..15"
 abbrev pub linkCounts : Link → Bool
@@ -42,7 +42,7 @@ linkCounts k =
 
 -- "four links from the tile to the switch (ports 8..11)"
 abbrev pub tilePort : ℕ → Bool
-tilePort p = leb links p && ltb p replyPort
+tilePort p = leb firstTilePort p && ltb p replyPort
 
 -- no circuit, and no token
 abbrev pub isFree : Port → Bool
@@ -65,7 +65,7 @@ tileCounts k = byPort (k .user)
 abbrev pub aimCounts : End → Bool
 aimCounts k =
     eqb (k .aim) 0
-    || (ltb (k .number) 65536 && (ltb (k .network) networks && (eqb (k .aim) 2 || (eqb (k .aim) 1 && legalChannel (k .channel)))))
+    || (ltb (k .number) numbers && (ltb (k .network) networks && (eqb (k .aim) 2 || (eqb (k .aim) 1 && legalChannel (k .channel)))))
 
 -- "channel-end input buffer 8 tokens"
 abbrev pub endCounts : End → Bool

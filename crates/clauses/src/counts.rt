@@ -7,25 +7,23 @@ use cells::tile::Tile;
 use cells::unit::Unit;
 use names::size::DIRECTIONS;
 use names::size::END_BUFFER;
-use names::size::ENDS;
-use names::size::LINKS;
+use names::size::FIRST_TILE_PORT;
 use names::size::NETWORKS;
+use names::size::NUMBERS;
 use names::size::REPLY_PORT;
-use names::size::SINK;
 use names::size::UNIT_BUFFER;
 use ports::Counters;
+use tokens::header::is_channel;
 ghost use mathlib.Core.Path.{_≡_};
 ghost use Rattle.clauses.specs.Counts.{nodeCounts, linkCounts, portNetwork, portCounts, tileCounts, endCounts, unitCounts, aimCounts};
 
-// Channels 0..31, and what one holds, beside words of 32 bits.
-const CHANNELS: u32 = ENDS as u32;
-
+// What a channel-end holds at most, beside words of 32 bits.
 const BUFFER: u32 = END_BUFFER as u32;
 
 pub fn node_counts(k: Node) -> bool
     ensures { λ r. ⌜ r ≡ nodeCounts k ⌝ }
 {
-    (k.number < 65536) & ((k.width == 1) | (k.width == 3))
+    (k.number < NUMBERS) & ((k.width == 1) | (k.width == 3))
 }
 
 pub fn link_counts(k: Link) -> bool
@@ -43,7 +41,7 @@ fn port_network(k: Port, p: usize) -> bool
     ensures { λ r. ⌜ r ≡ portNetwork p k ⌝ }
 {
     let free = (k.circuit.kind == 0) & (k.counters.held == 0);
-    (!((LINKS <= p) & (p < REPLY_PORT)) | free) | (k.network < NETWORKS)
+    (!((FIRST_TILE_PORT <= p) & (p < REPLY_PORT)) | free) | (k.network < NETWORKS)
 }
 
 pub fn port_counts(k: Port, p: usize) -> bool
@@ -65,9 +63,8 @@ fn aim_counts(k: End) -> bool
     ensures { λ r. ⌜ r ≡ aimCounts k ⌝ }
 {
     (k.aim == 0)
-        | ((k.number < 65536)
-            & ((k.network < NETWORKS)
-                & ((k.aim == 2) | ((k.aim == 1) & ((k.channel < CHANNELS) | (k.channel == SINK))))))
+        | ((k.number < NUMBERS)
+            & ((k.network < NETWORKS) & ((k.aim == 2) | ((k.aim == 1) & is_channel(k.channel)))))
 }
 
 pub fn end_counts(k: End) -> bool

@@ -10,6 +10,7 @@ use circuits::hop_of;
 use circuits::peer_of;
 use names::Slot;
 use names::size::ENDS;
+use names::size::FIRST_TILE_PORT;
 use names::size::LINKS;
 use names::size::PORTS;
 use names::size::REPLY_PORT;
@@ -20,13 +21,6 @@ ghost use Rattle.cells.specs.View.{view};
 ghost use Rattle.cells.specs.World.{hop};
 ghost use Rattle.circuits.specs.Circuit.{peerOf};
 ghost use Rattle.clauses.specs.Pairs.{portOf, endOf, claimable, straightTo, linkOf, tileOf, unitOf, claimOf, namedBy, backward, players, isNamed, namesBack, agrees, taken, openBy, openEnd, silent};
-
-// The tile ports 8..11 and the channels 0..31, beside words of 32 bits.
-const FIRST_TILE_PORT: u32 = LINKS as u32;
-
-const AFTER_TILE_PORTS: u32 = REPLY_PORT as u32;
-
-const CHANNELS: u32 = ENDS as u32;
 
 // What is named.
 pub enum Named {
@@ -292,9 +286,11 @@ fn open_by(st: &[u32], slot: Slot, x: Peer) -> bool
 {
     match x {
         Peer::Nobody => true,
-        Peer::Port(p) => ((FIRST_TILE_PORT <= p) & (p < AFTER_TILE_PORTS))
-            & taken(st, slot, p as usize),
-        Peer::End(c) => (c == SINK) | (c < CHANNELS),
+        Peer::Port(p) => {
+            let port = p as usize;
+            ((FIRST_TILE_PORT <= port) & (port < REPLY_PORT)) & taken(st, slot, port)
+        }
+        Peer::End(c) => (c == SINK) | ((c as usize) < ENDS),
     }
 }
 

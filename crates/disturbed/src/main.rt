@@ -2,6 +2,8 @@
 // sound. Each state is a fresh network of two nodes with a few records changed.
 use cells::end;
 use cells::end::End;
+use cells::layout::STRIDE;
+use cells::layout::TOKEN_WORDS;
 use cells::link;
 use cells::link::Link;
 use cells::node;
@@ -14,16 +16,20 @@ use libc::STDOUT_FILENO;
 use names::Slot;
 use names::size::ENDS;
 use names::size::LINKS;
+use names::size::NODES;
 use names::size::PORTS;
+use names::size::REPLY_PORT;
 use names::size::TILE_LINKS;
+use names::size::UNIT_BUFFER;
+use ports::Counters;
 use sound::clause_of;
 use sound::sound_test;
 use sound::tests::everywhere;
 use sound::unsound_clause;
 
-const WORDS: usize = 1508;
+const WORDS: usize = 2 * STRIDE;
 
-const TOKENS: usize = 1664;
+const TOKENS: usize = 2 * TOKEN_WORDS;
 
 fn say(text: &[u8]) {
     io::write_all(STDOUT_FILENO, text);
@@ -190,9 +196,9 @@ fn set_word(st: &mut [u32], mem: &mut [u16], n: usize, p: usize, held: u32, word
     let mut x = port::at(st, Slot(n), p);
     x.counters.held = held;
     put_port(st, n, p, x);
-    if n < 16 {
+    if n < NODES {
         if p < PORTS {
-            let at = (n * PORTS + p) * 64;
+            let at = (n * PORTS + p) * Counters::CAPACITY as usize;
             if at < mem.len() {
                 mem[at] = word;
             }
@@ -207,10 +213,10 @@ fn fresh(st: &mut [u32]) {
 
 fn lengths() {
     let mut st = [0u32; WORDS];
-    let mem = [0u16; 1665];
+    let mem = [0u16; TOKENS + 1];
     fresh(&mut st);
     report(b"1 a memory one word too long", &st, &mem);
-    report(b"1 a memory of the right length", &st, &mem[..1664]);
+    report(b"1 a memory of the right length", &st, &mem[..TOKENS]);
 }
 
 fn node_counts() {
@@ -237,9 +243,9 @@ fn port_counts() {
     let mut st = [0u32; WORDS];
     let mem = [0u16; TOKENS];
     fresh(&mut st);
-    set_hop(&mut st, 1, 12, 6, 0, 0);
+    set_hop(&mut st, 1, REPLY_PORT, 6, 0, 0);
     report(b"2 a circuit of no kind", &st, &mem);
-    set_hop(&mut st, 1, 12, 5, 0, 0);
+    set_hop(&mut st, 1, REPLY_PORT, 5, 0, 0);
     report(b"2 a circuit dropped as NoRoute", &st, &mem);
 }
 
@@ -269,9 +275,9 @@ fn unit_counts() {
     fresh(&mut st);
     set_hop(&mut st, 1, 0, 3, 0, 0);
     set_serves(&mut st, 1, 1, 0);
-    set_heard(&mut st, 1, 12);
+    set_heard(&mut st, 1, UNIT_BUFFER + 1);
     report(b"2 twelve tokens heard", &st, &mem);
-    set_heard(&mut st, 1, 11);
+    set_heard(&mut st, 1, UNIT_BUFFER);
     report(b"2 eleven tokens heard", &st, &mem);
 }
 
@@ -308,10 +314,10 @@ fn room() {
     let mut st = [0u32; WORDS];
     let mut mem = [0u16; TOKENS];
     fresh(&mut st);
-    join(&mut st, 1, 64);
+    join(&mut st, 1, Counters::CAPACITY);
     set_word(&mut st, &mut mem, 1, 3, 1, 0x0227);
     report(b"5 credit 64, one token held at the far end", &st, &mem);
-    join(&mut st, 1, 63);
+    join(&mut st, 1, Counters::CAPACITY - 1);
     report(b"5 credit 63, one token held at the far end", &st, &mem);
 }
 
@@ -329,9 +335,9 @@ fn contents() {
     let mut st = [0u32; WORDS];
     let mut mem = [0u16; TOKENS];
     fresh(&mut st);
-    set_word(&mut st, &mut mem, 1, 12, 1, 0x0027);
+    set_word(&mut st, &mut mem, 1, REPLY_PORT, 1, 0x0027);
     report(b"7 data where a header must stand", &st, &mem);
-    set_word(&mut st, &mut mem, 1, 12, 1, 0x0227);
+    set_word(&mut st, &mut mem, 1, REPLY_PORT, 1, 0x0227);
     report(b"7 a header", &st, &mem);
 }
 
@@ -391,13 +397,13 @@ fn replies() {
     fresh(&mut st);
     set_hop(&mut st, 1, 0, 3, 0, 0);
     set_serves(&mut st, 1, 1, 0);
-    set_word(&mut st, &mut mem, 1, 12, 1, 0x0227);
+    set_word(&mut st, &mut mem, 1, REPLY_PORT, 1, 0x0227);
     report(
         b"12 a reply in port 12 while a circuit is served",
         &st,
         &mem,
     );
-    set_word(&mut st, &mut mem, 1, 12, 0, 0);
+    set_word(&mut st, &mut mem, 1, REPLY_PORT, 0, 0);
     report(b"12 port 12 empty while a circuit is served", &st, &mem);
 }
 

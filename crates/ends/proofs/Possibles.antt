@@ -9,14 +9,16 @@ use lib.Dec.{eqb, ltb, leb}
 use borrow.Author.Tests.{eqb-true, eqb-false, eq-eqb, leb-false, not-false}
 use Rattle.laws.proofs.All.{also, as-is, either, equal, below, Sought, fails, passes, seek}
 use Rattle.laws.proofs.Order.{by-test, clash}
-use Rattle.names.specs.Size.{links, replyPort, ports, ends, endBuffer, sink}
+use Rattle.names.specs.Size.{firstTilePort, tilePorts, replyPort, ports, ends, endBuffer, sink}
 use Rattle.circuits.specs.Circuit.{peerOf}
 use Rattle.circuits.specs.declared.Peer.{Peer}
 use Rattle.circuits.specs.declared.Peer.the-variants as Peers
 use Rattle.tokens.specs.Header.{headerOf, isNarrow, legalTarget}
+use Rattle.tokens.specs.Shape.{legalChannel}
 use Rattle.tokens.specs.Word.{isPause}
 use Rattle.tokens.specs.declared.header.Target.{Target}
 use Rattle.tokens.specs.declared.header.Target.the-variants.{Channel, Unit}
+use Rattle.tokens.proofs.Channels.{legal-channel}
 use Rattle.routing.specs.Way.{wayTo}
 use Rattle.routing.specs.declared.way.Way.{Way}
 use Rattle.routing.specs.declared.way.Way.the-variants.{ThisNode, OtherNode}
@@ -51,9 +53,9 @@ module _ (w : World) (n c t : ℕ) (g : Target) (s : Sends w n c g) where
   port-possible =
       by-test (eqb (lowestFree (w .net) n) replyPort)
       (λ e. rw e tt)
-      (λ e. rw e (found (eqb-false _ _ e) (seek (taken (w .net) n) (replyPort - links) links)))
+      (λ e. rw e (found (eqb-false _ _ e) (seek (taken (w .net) n) tilePorts firstTilePort)))
     where
-      found : (lowestFree (w .net) n ≡ replyPort → ⊥) → Sought (taken (w .net) n) (replyPort - links) links → Room w n (lowestFree (w .net) n) 4
+      found : (lowestFree (w .net) n ≡ replyPort → ⊥) → Sought (taken (w .net) n) tilePorts firstTilePort → Room w n (lowestFree (w .net) n) 4
       found ne (fails h e) = free-room e h
       found ne (passes q h) = absurd (ne q)
 
@@ -71,15 +73,15 @@ module _ (w : World) (n c t : ℕ) (g : Target) (s : Sends w n c g) where
           (λ q. clash (rw (q, f) at e))
           (λ q. omega (arith, leb-false endBuffer (w .net .ends n d .held) q))))
 
-  channel-possible : (d : ℕ) → (ltb d ends || eqb d sink) ≡ true → Possible w n t (channelPlan (w .net) n d t)
+  channel-possible : (d : ℕ) → legalChannel d ≡ true → Possible w n t (channelPlan (w .net) n d t)
   channel-possible d l =
       by-test (eqb d sink)
       (λ e. rw e tt)
       (λ e. rw e (by-test (not (eqb (w .net .ends n d .claim .kind) 0))
       (λ f. rw f tt)
-      (λ f. rw f (straight-possible d (⊎-elim (λ h. h) (λ q. clash (sym (eq-eqb d sink q) ∙ e)) (either (below d ends) (equal d sink) .sure l))))))
+      (λ f. rw f (straight-possible d (⊎-elim (λ h. omega arith) (λ q. clash (sym (eq-eqb d sink q) ∙ e)) (legal-channel d .sure l))))))
 
-  way-possible : (y : Way) (d : ℕ) → (ltb d ends || eqb d sink) ≡ true → Possible w n t (byWay (w .net) n y d t)
+  way-possible : (y : Way) (d : ℕ) → legalChannel d ≡ true → Possible w n t (byWay (w .net) n y d t)
   way-possible ThisNode d l = channel-possible d l
   way-possible (OtherNode b) d l = port-possible
 
@@ -93,7 +95,7 @@ module _ (w : World) (n c t : ℕ) (g : Target) (s : Sends w n c g) where
 
   behind-possible : (p : ℕ) → tilePort p ≡ true → Possible w n t (behindPlan (w .net) n p)
   behind-possible p h =
-      let z = also (as-is (leb links p)) (below p replyPort) .sure h in
+      let z = also (as-is (leb firstTilePort p)) (below p replyPort) .sure h in
       by-test (leb capacity (w .net .ports n p .counters .held))
       (λ e. rw e tt)
       (λ e. rw e (roomy p 1 (omega (arith, z .1)) (omega (arith, leb-false capacity (w .net .ports n p .counters .held) e))))
@@ -135,8 +137,8 @@ module _ (w : World) (n c t : ℕ) (g : Target) (s : Sends w n c g) where
 pub aim-fits : (k : End) → AimFacts k → AimFits k
 aim-fits k f = (f .number, λ e. ⊎-elim (λ z. absurd (one-not-two e z)) (λ z. narrow (z .1)) (f .place))
   where
-    narrow : (ltb (k .channel) ends || eqb (k .channel) sink) ≡ true → k .channel < 256
-    narrow l = ⊎-elim (λ h. omega arith) (λ h. omega arith) (either (below (k .channel) ends) (equal (k .channel) sink) .sure l)
+    narrow : legalChannel (k .channel) ≡ true → k .channel < 256
+    narrow l = ⊎-elim (λ h. omega arith) (λ h. omega arith) (legal-channel (k .channel) .sure l)
 
 module _ (w : World) (n c : ℕ) (s : sound w ≡ true) (h : endAt (w .net) n c ≡ true) where
   -- so does that of a channel-end of a sound state

@@ -5,6 +5,7 @@ use mathlib.Core.List.{List, [], _∷_, _++_}
 use lib.Dec.{eqb}
 use lib.ListN.{getD}
 use Rattle.laws.specs.Row.{tab}
+use Rattle.names.specs.Size.{endBuffer}
 use Rattle.names.specs.No.{NoSuch, Empty, Trap}
 use Rattle.tokens.specs.Word.{valueOf, isControl}
 use Rattle.answers.specs.Rows.{Row, row}
@@ -32,7 +33,7 @@ inputRows s n c k =
 
 -- the others move up, and the word that the last one leaves is cleared
 abbrev pub tookFirst : End → End
-tookFirst k = heldAs k (k .held - 1) (tab 7 (λ i. getD (k .tokens) (suc i) 0) ++ (0 ∷ []))
+tookFirst k = heldAs k (k .held - 1) (tab (endBuffer - 1) (λ i. getD (k .tokens) (suc i) 0) ++ (0 ∷ []))
 
 abbrev pub inputValue : Net → ℕ → ℕ → ℕ
 inputValue s n c = valueOf (firstHeld (s .ends n c))

@@ -1,11 +1,11 @@
 -- What an Output is to do (document 01, "Calls" and 9, 10 of "Numbers for no"): read off the state, with nothing changed.
-use Prim.Native.Nat.{ℕ, _-_, _<_}
+use Prim.Native.Nat.{ℕ, _<_}
 use mathlib.Core.Path.{_≡_}
 use mathlib.Core.Bool.{not, _&&_}
 use lib.Dec.{eqb, leb}
 use Rattle.laws.specs.Pick.{pick}
 use Rattle.laws.specs.All.{failing}
-use Rattle.names.specs.Size.{links, replyPort, endBuffer, sink}
+use Rattle.names.specs.Size.{firstTilePort, tilePorts, replyPort, endBuffer, sink, numbers}
 use Rattle.circuits.specs.Circuit.{peerOf}
 use Rattle.circuits.specs.declared.Peer.{Peer}
 use Rattle.circuits.specs.declared.Peer.the-variants as Peers
@@ -35,7 +35,7 @@ destinationOf k = pick (eqb (k .aim) 0) Unaimed (Aimed (targetOf k))
 
 -- a number of 16 bits and a channel of 8: a sound state has no other
 abbrev pub AimFits : End → Type 0
-AimFits k = (k .number < 65536) × (k .aim ≡ 1 → k .channel < 256)
+AimFits k = (k .number < numbers) × (k .aim ≡ 1 → k .channel < 256)
 
 -- .. while it is aimed
 abbrev pub Fits : End → Type 0
@@ -43,7 +43,7 @@ Fits k = (k .aim ≡ 0 → ⊥) → AimFits k
 
 -- "Otherwise the lowest free port 8..11 is taken"; the reply port where none is free
 abbrev pub lowestFree : Net → ℕ → ℕ
-lowestFree s n = failing (replyPort - links) links (taken s n)
+lowestFree s n = failing tilePorts firstTilePort (taken s n)
 
 abbrev pub portPlan : Net → ℕ → Plan
 portPlan s n = pick (eqb (lowestFree s n) replyPort) Full (Opens (lowestFree s n))

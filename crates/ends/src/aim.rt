@@ -8,17 +8,13 @@ use names::is_number;
 use names::no::NO_SUCH;
 use names::no::OPEN;
 use names::no::VALUE;
-use names::size::ENDS;
 use names::size::NETWORKS;
-use names::size::SINK;
+use tokens::header::is_channel;
 ghost use mathlib.Core.Path.{_≡_};
 ghost use Rattle.answers.specs.Rows.{refusal};
 ghost use Rattle.answers.specs.Out.{out};
 ghost use Rattle.cells.specs.View.{view};
 ghost use Rattle.ends.specs.Aim.{goalRanged, aimedAt, aimRows, aim};
-
-// Channels 0..31, beside words of 32 bits.
-const CHANNELS: u32 = ENDS as u32;
 
 // A destination as it is asked for: a channel of a number, or a number's control unit. Values out of
 // range are refused.
@@ -32,7 +28,7 @@ fn goal_ranged(g: Goal) -> bool
     ensures { λ r. ⌜ r ≡ goalRanged g ⌝ }
 {
     match g {
-        Goal::Channel(m, c) => is_number(m) & ((c < CHANNELS) | (c == SINK)),
+        Goal::Channel(m, c) => is_number(m) & is_channel(c),
         Goal::Unit(m) => is_number(m),
     }
 }

@@ -8,7 +8,7 @@ use circuits::peer_of;
 use clauses::pairs::taken;
 use names::Slot;
 use names::size::END_BUFFER;
-use names::size::LINKS;
+use names::size::FIRST_TILE_PORT;
 use names::size::REPLY_PORT;
 use names::size::SINK;
 use ports::Counters;
@@ -20,6 +20,7 @@ use tokens::header::make_header;
 use tokens::word::is_pause;
 ghost use mathlib.Core.Path.{_≡_};
 ghost use Prim.Native.Nat.{_<_};
+ghost use Rattle.names.specs.Size.{numbers};
 ghost use Rattle.cells.specs.View.{view};
 ghost use Rattle.ends.specs.Plan.{lowestFree, straightPlan, channelPlan, portPlan, targetPlan, openPlan, behindPlan, onPlan, planOf};
 
@@ -45,7 +46,7 @@ pub enum Plan {
 fn lowest_free(st: &[u32], slot: Slot) -> usize
     ensures { λ r. ⌜ r ≡ lowestFree (view (now (st .entry))) (slot .0) ⌝ }
 {
-    for p in LINKS..REPLY_PORT {
+    for p in FIRST_TILE_PORT..REPLY_PORT {
         if !taken(st, slot, p) {
             return p;
         }
@@ -92,7 +93,7 @@ fn channel_plan(st: &[u32], slot: Slot, channel: u8, word: u16) -> Plan
 
 // A circuit opens to a destination that its width can carry.
 fn target_plan(st: &[u32], slot: Slot, g: Target, word: u16) -> Plan
-    requires { ⌜ view (now st) .own (slot .0) 0 .number < 65536 ⌝ }
+    requires { ⌜ view (now st) .own (slot .0) 0 .number < numbers ⌝ }
     ensures { λ r. ⌜ r ≡ targetPlan (view (now (st .entry))) (slot .0) g word ⌝ }
 {
     match g {
@@ -106,7 +107,7 @@ fn target_plan(st: &[u32], slot: Slot, g: Target, word: u16) -> Plan
 
 // "The first opens a circuit. It has the node's width at that moment."
 fn open_plan(st: &[u32], slot: Slot, g: Target, word: u16) -> Plan
-    requires { ⌜ view (now st) .own (slot .0) 0 .number < 65536 ⌝ }
+    requires { ⌜ view (now st) .own (slot .0) 0 .number < numbers ⌝ }
     ensures { λ r. ⌜ r ≡ openPlan (view (now (st .entry))) (slot .0) g word ⌝ }
 {
     if is_narrow(make_header(g, width_at(st, slot))) {
@@ -138,7 +139,7 @@ fn on_plan(st: &[u32], slot: Slot, d: u32, word: u16) -> Plan
 
 // What putting this word out does, for a channel-end that is aimed at g.
 pub fn plan_of(st: &[u32], slot: Slot, c: usize, g: Target, word: u16) -> Plan
-    requires { ⌜ view (now st) .own (slot .0) 0 .number < 65536 ⌝ }
+    requires { ⌜ view (now st) .own (slot .0) 0 .number < numbers ⌝ }
     ensures { λ r. ⌜ r ≡ planOf (view (now (st .entry))) (slot .0) c g word ⌝ }
 {
     let k = end::at(st, slot, c);

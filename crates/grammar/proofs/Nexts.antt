@@ -8,12 +8,12 @@ use native.Mathlib.Omega.{arith}
 use lib.Dec.{ltb, eqb}
 use borrow.Author.Tests.{lt-ltb, le-ltb, ne-eqb}
 use Rattle.laws.proofs.Order.{by-test, order}
-use Rattle.names.specs.Size.{ends, sink}
 use Rattle.tokens.specs.Control.{ssctrl}
 use Rattle.tokens.specs.Word.{closes, controlWord}
 use Rattle.tokens.specs.Shape.{legalChannel, threeShape, shapeOf}
 use Rattle.tokens.specs.declared.word.Shape.{Shape}
 use Rattle.tokens.specs.declared.word.Shape.the-variants as S
+use Rattle.tokens.proofs.Channels.{legal-channel, illegal-channel}
 use Rattle.tokens.proofs.Words.{open-word, closing-word}
 use Rattle.grammar.specs.Stage.{fromBody, fromLastDue}
 use Rattle.grammar.specs.declared.stage.Stage.the-variants.{Bad, Fresh, Body}
@@ -71,28 +71,30 @@ channel w h e = rw (wide w (omega arith) h, e)
 pub no-channel : (w : ℕ) → 0x620 ≤ w → w < 0x6FF → shapeOf w ≡ S.ThreeByte
 unfolding threeShape
 no-channel w h k =
-    rw (wide w (omega arith) (omega arith), le-ltb (w - 0x600) ends (omega arith), ne-eqb (w - 0x600) sink (λ e. omega arith), lt-ltb (w - 0x600) 0x100 (omega arith))
+    rw (wide w (omega arith) (omega arith), illegal-channel (w - 0x600) (omega arith) (λ e. omega arith), lt-ltb (w - 0x600) 0x100 (omega arith))
 
 -- past it SSCTRL alone is a token
 pub nothing : (w : ℕ) → 0x700 ≤ w → (w ≡ 0x7C3 → ⊥) → shapeOf w ≡ S.Wrong
 unfolding threeShape
 nothing w h n =
-    rw (wide w (omega arith) (omega arith), le-ltb (w - 0x600) ends (omega arith), ne-eqb (w - 0x600) sink (λ e. omega arith), le-ltb (w - 0x600) 0x100 (omega arith), ne-eqb (w - 0x600) (controlWord ssctrl) (λ e. n (omega arith)))
+    let none : legalChannel (w - 0x600) ≡ false = illegal-channel (w - 0x600) (omega arith) (λ e. omega arith) in
+    let unmarked : ltb (w - 0x600) 0x100 ≡ false = le-ltb (w - 0x600) 0x100 (omega arith) in
+    rw (wide w (omega arith) (omega arith), none, unmarked, ne-eqb (w - 0x600) (controlWord ssctrl) (λ e. n (omega arith)))
 
 pub past-byte : (P : Shape → Type 0) (w : ℕ) → 0x700 ≤ w → P S.Wrong → P S.Unit → P (shapeOf w)
-unfolding shapeOf threeShape closes
+unfolding shapeOf threeShape legalChannel closes
 past-byte P w h a b = elim (ℕ-discrete w 0x7C3) [ yes e ↦ rw e b | no e ↦ rw (nothing w h e) a ]
 
 -- the last of a header: a channel, the sink, SSCTRL
 pub low-channel : (w : ℕ) → w < 0x620 → legalChannel (w - 0x600) ≡ true
-low-channel w h = rw (lt-ltb (w - 0x600) ends (omega arith))
+low-channel w h = legal-channel (w - 0x600) .back (inl (omega arith))
 
 pub sink-last : Body ≡ fromLastDue (shapeOf 0x6FF)
-unfolding shapeOf threeShape closes
+unfolding shapeOf threeShape legalChannel closes
 sink-last = refl
 
 pub unit-last : Body ≡ fromLastDue (shapeOf 0x7C3)
-unfolding shapeOf threeShape closes
+unfolding shapeOf threeShape legalChannel closes
 unit-last = refl
 
 -- past a header: a token that closes nothing, END or PAUSE, a token of a header or none

@@ -6,10 +6,11 @@ use cells::unit;
 use cells::unit::Unit;
 use names::NodeNumber;
 use names::Slot;
-use names::size::ENDS;
-use names::size::SINK;
 use names::size::UNIT_BUFFER;
 use tokens::header::Target;
+use tokens::header::is_channel;
+use tokens::word::READC;
+use tokens::word::WRITEC;
 use tokens::word::is_pause;
 ghost use mathlib.Core.Path.{_≡_};
 ghost use Prim.Native.Nat.{_+_, _<_};
@@ -18,13 +19,10 @@ ghost use Rattle.tokens.specs.Word.{valueOf};
 ghost use Rattle.cells.specs.View.{view};
 ghost use Rattle.messages.specs.Heard.{hearsWord, listens, token, twoData, two, four, isCommand, hasReply, replyTo, isWrite, isRead, orderOf, messageOf};
 
-// The first token of a message that writes, and of one that reads.
-const WRITE: u32 = 0x01C0;
+// The first token of a message that writes, and of one that reads, beside words of 32 bits.
+const WRITE: u32 = WRITEC as u32;
 
-const READ: u32 = 0x01C1;
-
-// Channels but for the sink, beside words of 32 bits.
-const CHANNELS: u32 = ENDS as u32;
+const READ: u32 = READC as u32;
 
 pub enum Message {
     // no known reply address, or PAUSE at its end
@@ -107,8 +105,7 @@ fn is_command(x: u32) -> bool
 fn has_reply(k: Unit) -> bool
     ensures { λ r. ⌜ r ≡ hasReply k ⌝ }
 {
-    let c = token(k, 3);
-    (4 <= k.heard) & (is_command(token(k, 0)) & (two_data(k, 1) & ((c < CHANNELS) | (c == SINK))))
+    (4 <= k.heard) & (is_command(token(k, 0)) & (two_data(k, 1) & is_channel(token(k, 3))))
 }
 
 fn reply_to(k: Unit) -> Target

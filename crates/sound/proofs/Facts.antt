@@ -8,7 +8,7 @@ use lib.Dec.{lit≤}
 use lib.ListN.{length}
 use borrow.Author.Tests.{lt-ltb, le-leb, not-true}
 use Rattle.laws.proofs.All.{also, as-is, at-most, equal}
-use Rattle.names.specs.Size.{nodes, links, ports, tileLinks, ends, replyPort}
+use Rattle.names.specs.Size.{nodes, links, ports, tileLinks, ends, replyPort, unitBuffer, numbers}
 use Rattle.names.specs.declared.Slot.{Slot}
 use Rattle.ports.specs.Queue.{capacity, Fair}
 use Rattle.ports.specs.Memory.{place}
@@ -39,7 +39,7 @@ module _ (w : World) (s : sound w ≡ true) where
       record { some = z .1 .0; few = z .1 .1 .0; memory = z .1 .1 .1 }
 
   module _ (n : ℕ) (hn : n < w .net .nodes) where
-    pub node-facts : (w .net .own n 0 .number < 65536) × ((w .net .own n 0 .width ≡ 1) ⊎ (w .net .own n 0 .width ≡ 3))
+    pub node-facts : (w .net .own n 0 .number < numbers) × ((w .net .own n 0 .width ≡ 1) ⊎ (w .net .own n 0 .width ≡ 3))
     node-facts = node-counts (w .net .own n 0) .sure (sound-at w s 0 n 0 (lit≤ tt) hn (lit≤ tt))
 
     pub link-facts : (l : ℕ) → l < links → LinkFacts (w .net .links n l)
@@ -54,7 +54,7 @@ module _ (w : World) (s : sound w ≡ true) where
     pub end-facts : (c : ℕ) → c < ends → EndFacts (w .net .ends n c)
     end-facts c h = end-counts (w .net .ends n c) .sure (sound-at w s 4 n c (lit≤ tt) hn h)
 
-    pub unit-facts : (w .net .units n 0 .serves .kind ≤ 1) × ((w .net .units n 0 .serves .kind ≡ 0) ⊎ (w .net .units n 0 .heard ≤ 11))
+    pub unit-facts : (w .net .units n 0 .serves .kind ≤ 1) × ((w .net .units n 0 .serves .kind ≡ 0) ⊎ (w .net .units n 0 .heard ≤ unitBuffer))
     unit-facts = unit-counts (w .net .units n 0) .sure (sound-at w s 5 n 0 (lit≤ tt) hn (lit≤ tt))
 
     pub credit-facts : (l : ℕ) → l < links → (w .net .links n l .credit ≡ 0) ⊎ (w .net .links n l .greeted ≡ 1)

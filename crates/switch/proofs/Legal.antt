@@ -9,10 +9,9 @@ use native.Mathlib.Omega.{arith}
 use lib.Dec.{eqb, ltb}
 use lib.ListN.{getD}
 use borrow.Author.Tests.{ltb-true, ltb-false, eqb-true, eq-eqb}
-use Rattle.laws.proofs.All.{either, below, equal}
 use Rattle.laws.proofs.Order.{by-test, clash}
 use Rattle.laws.proofs.Row.{row-at}
-use Rattle.names.specs.Size.{ports, ends, sink}
+use Rattle.names.specs.Size.{ports, channels, sink}
 use Rattle.circuits.specs.declared.Hop.the-variants.{Shut}
 use Rattle.tokens.specs.Control.{ssctrl}
 use Rattle.tokens.specs.Word.{closes, controlWord, valueOf, isControl, isThree}
@@ -22,6 +21,7 @@ use Rattle.tokens.specs.declared.word.Shape.{Shape}
 use Rattle.tokens.specs.declared.word.Shape.the-variants as S
 use Rattle.tokens.specs.declared.header.Target.{Target}
 use Rattle.tokens.specs.declared.header.Target.the-variants as T
+use Rattle.tokens.proofs.Channels.{legal-channel}
 use Rattle.ports.specs.Queue.{capacity, ring}
 use Rattle.ports.specs.Memory.{place, stretch}
 use Rattle.ports.proofs.Ports.{ring-start, ring-next}
@@ -91,12 +91,12 @@ last-legal : (w : ℕ) → isControl w ≡ false → isBad (fromLastDue (shapeOf
 last-legal w n =
     by-shape (λ x. isBad (fromLastDue x) ≡ false → Door (valueOf w)) w (λ b. clash b) (λ b. clash b) (λ b. clash b) (λ l b. clash b)
     (λ g. by-three (λ x. isBad (fromLastDue x) ≡ false → Door (valueOf w)) (w - 0x600)
-    (λ l b. named g (either (below (w - 0x600) ends) (equal (w - 0x600) sink) .sure l))
+    (λ l b. named g (legal-channel (w - 0x600) .sure l))
     (λ b. clash b)
     (λ e b. clash (sym (unit g e) ∙ n))
     (λ b. clash b))
   where
-    named : 0x600 ≤ w → ((w - 0x600 < ends) ⊎ (w - 0x600 ≡ sink)) → Door (valueOf w)
+    named : 0x600 ≤ w → ((w - 0x600 < channels) ⊎ (w - 0x600 ≡ sink)) → Door (valueOf w)
     named g h = ⊎-elim (λ i. inr (omega arith)) (λ i. inl (omega arith)) h
 
     unit : 0x600 ≤ w → w - 0x600 ≡ 0x1C3 → isControl w ≡ true

@@ -3,15 +3,15 @@ use Prim.Native.Nat.{ℕ, _-_}
 use mathlib.Core.Bool.{Bool, _||_}
 use lib.Dec.{eqb, ltb}
 use Rattle.laws.specs.Pick.{pick}
-use Rattle.names.specs.Size.{ends, sink}
+use Rattle.names.specs.Size.{channels, sink}
 use Rattle.tokens.specs.Control.{ssctrl}
 use Rattle.tokens.specs.Word.{controlWord, closes}
 use Rattle.tokens.specs.declared.word.Shape.{Shape}
 use Rattle.tokens.specs.declared.word.Shape.the-variants.{Wrong, Body, Closing, OneByte, ThreeByte, Channel, Unit}
 
 -- "channel 0..31 or 255"
-abbrev pub legalChannel : ℕ → Bool
-legalChannel c = ltb c ends || eqb c sink
+unfoldable pub legalChannel : ℕ → Bool
+legalChannel c = ltb c channels || eqb c sink
 
 -- a token of a three-byte header, its marks taken off: any data, of control SSCTRL alone
 unfoldable pub threeShape : ℕ → Shape

@@ -1,14 +1,22 @@
 // The word in which a port holds a token: the value in bits 0..7, and in the bits above it what
 // the token is. Bit 8 marks a control token, bit 9 a token of a header, bit 10 (with bit 9) a
 // header of three bytes. The real wire has no such marks.
+use crate::control;
 use crate::header::Width;
 ghost use mathlib.Core.Path.{_≡_};
 ghost use Rattle.tokens.specs.Word.{dataWord, controlWord, headerWord, unitWord, valueOf, isControl, isHeader, isThree, closes, isPause};
 ghost use Rattle.tokens.specs.Shape.{shapeOf, threeShape};
 
-pub const END: u16 = 0x0101;
+// The words of control tokens.
+const CONTROL: u16 = 0x0100;
 
-pub const PAUSE: u16 = 0x0102;
+pub const END: u16 = CONTROL + control::END as u16;
+
+pub const PAUSE: u16 = CONTROL + control::PAUSE as u16;
+
+pub const WRITEC: u16 = CONTROL + control::WRITEC as u16;
+
+pub const READC: u16 = CONTROL + control::READC as u16;
 
 pub fn of_data(v: u8) -> u16
     ensures { λ r. ⌜ r ≡ dataWord v ⌝ }
@@ -19,7 +27,7 @@ pub fn of_data(v: u8) -> u16
 pub fn of_control(v: u8) -> u16
     ensures { λ r. ⌜ r ≡ controlWord v ⌝ }
 {
-    v as u16 + 0x0100
+    v as u16 + CONTROL
 }
 
 // A data token of a header.

@@ -7,7 +7,7 @@ use borrow.Author.Needs.{needs}
 use borrow.Author.Tests.{not-true, not-false}
 use Rattle.laws.specs.All.{failing}
 use Rattle.laws.proofs.All.{failing-here, failing-next, failing-none}
-use Rattle.names.specs.Size.{links, replyPort}
+use Rattle.names.specs.Size.{firstTilePort, replyPort}
 use Rattle.cells.specs.View.{view}
 use Rattle.clauses.specs.Pairs.{taken}
 use Rattle.ends.specs.Plan.{lowestFree}
@@ -15,7 +15,7 @@ use Rattle.ends.proofs.plan.lowest_free.Statement.{statement}
 use Rattle.ends.proofs.plan.lowest_free.Tie as tie
 
 abbrev Inv-loop : tie.InvT-loop
-Inv-loop st slot p₀ p = (links ≤ p) × (p ≤ replyPort) × (failing (replyPort - p) p (taken (view st) (slot .0)) ≡ lowestFree (view st) (slot .0))
+Inv-loop st slot p₀ p = (firstTilePort ≤ p) × (p ≤ replyPort) × (failing (replyPort - p) p (taken (view st) (slot .0)) ≡ lowestFree (view st) (slot .0))
 
 abbrev μ-loop : tie.MeasureT-loop
 μ-loop st slot p₀ p = replyPort - p

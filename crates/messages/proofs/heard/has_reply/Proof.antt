@@ -4,9 +4,17 @@ use Rattle.messages.proofs.heard.has_reply.Statement.{statement}
 use Rattle.messages.proofs.heard.has_reply.Tie as tie
 
 returns : tie.Need-returns
-returns c = rw (c .two-data .ensures, c .before .is-command .ensures, c .before .before .token2 .ensures, c .before .before .before .before .token .ensures)
+returns c =
+    let commanded = c .before .before .before in
+    rw (c .is-channel .ensures, c .before .token2 .ensures, c .before .before .two-data .ensures, commanded .is-command .ensures, commanded .before .token .ensures)
 
 pub has-reply-spec : {M : Type 1} → statement M
 has-reply-spec =
     tie.close
-    (tie.spec (λ c κs. search needs) (λ c κs. search needs) (λ c κs. search needs) (λ c κs. search needs) returns)
+    (tie.spec
+    (λ c κs. search needs)
+    (λ c κs. search needs)
+    (λ c κs. search needs)
+    (λ c κs. search needs)
+    (λ c κs. search needs)
+    returns)
