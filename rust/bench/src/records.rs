@@ -4,6 +4,7 @@
 //! means something. Where there is no such place, all words are 0.
 
 use crate::refusal::Cause;
+use crate::sizes::{END_BUFFER, UNIT_BUFFER};
 
 /// With whom a record has a circuit: two words.
 #[derive(Clone, Copy, Debug, Default, PartialEq, Eq)]
@@ -141,7 +142,7 @@ pub struct ChannelEnd {
     /// How many tokens it holds for Input.
     pub held: u32,
     /// Their words, oldest first.
-    pub tokens: [u32; 8],
+    pub tokens: [u32; END_BUFFER],
 }
 
 impl ChannelEnd {
@@ -164,7 +165,7 @@ pub struct ControlUnit {
     /// How many tokens of a message it has heard, while it serves.
     pub heard: u32,
     /// Their words, oldest first.
-    pub tokens: [u32; 11],
+    pub tokens: [u32; UNIT_BUFFER],
 }
 
 /// Takes the next words of a record.

@@ -4,10 +4,9 @@
 //! there, written down here a second time so that a wrong place in either is found.
 
 use model::answers::Cause;
-use model::network::{
-    ChannelEnd, Claim, ControlUnit, Hop, Link, Network, Node, Port, Sending, PORTS, PORT_CAPACITY,
-};
+use model::network::{ChannelEnd, Claim, ControlUnit, Hop, Link, Network, Node, Port, Sending};
 use model::random::Random;
+use model::sizes::{CHANNEL_END_CAPACITY, HEARD, PORTS, PORT_CAPACITY};
 use model::tokens::{Destination, Kind, Token};
 
 /// The words of a node.
@@ -26,7 +25,12 @@ pub fn write(network: &Network, random: &mut Random) -> (Vec<u32>, Vec<u16>) {
     for (node, stretch) in network.nodes.iter().zip(memory.chunks_mut(NODE_TOKENS)) {
         let heads: [usize; PORTS] = std::array::from_fn(|_| random.below(PORT_CAPACITY));
         state.extend(node_words(node, &heads));
-        for ((port, head), ring) in node.ports.iter().zip(heads).zip(stretch.chunks_mut(64)) {
+        for ((port, head), ring) in node
+            .ports
+            .iter()
+            .zip(heads)
+            .zip(stretch.chunks_mut(PORT_CAPACITY))
+        {
             write_tokens(port, head, ring);
         }
     }
@@ -127,14 +131,14 @@ fn channel_end_words(end: &ChannelEnd) -> Words {
         Some(Claim::ByChannelEnd(sender)) => [2, sender as u32],
     });
     words.push(end.tokens.len() as u32);
-    words.extend(filled(8, end.tokens.iter().map(word)));
+    words.extend(filled(CHANNEL_END_CAPACITY, end.tokens.iter().map(word)));
     words
 }
 
 fn control_unit_words(unit: &ControlUnit) -> Words {
     let mut words = named(1, unit.serves).to_vec();
     words.push(unit.heard.len() as u32);
-    words.extend(filled(11, unit.heard.iter().map(word)));
+    words.extend(filled(HEARD, unit.heard.iter().map(word)));
     words
 }
 

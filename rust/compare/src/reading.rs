@@ -10,11 +10,10 @@
 use bench::sizes::TILE_PORTS;
 use bench::{raw, Circuit, Looks, Peer};
 use model::answers::Cause;
-use model::messages::HEARD;
 use model::network::{
     Aim, ChannelEnd, Claim, ControlUnit, Hop, Link, LinkEnd, Network, Node, Port, Sending,
-    CHANNEL_END_CAPACITY, PORT_CAPACITY,
 };
+use model::sizes::{CHANNEL_END_CAPACITY, HEARD, PORT_CAPACITY};
 use model::tokens::{Destination, Kind, Token};
 
 /// Why words are no state of the model.

@@ -7,12 +7,11 @@ mod common;
 use common::Bench;
 use model::answers::{Answer, Cause};
 use model::calls::{apply, Call};
-use model::network::{
-    Aim, Claim, Hop, LinkEnd, Network, Node, Port, Sending, CHANNEL_ENDS, LINKS, PORTS,
-};
+use model::network::{Aim, Claim, Hop, LinkEnd, Network, Node, Port, Sending};
 use model::random::Random;
 use model::runs::Runner;
 use model::set::Setting;
+use model::sizes::{CHANNEL_ENDS, LINKS, PORTS};
 use model::sound::{failing, first_failing, is_sound, Clause};
 use model::tokens::{Destination, Token};
 

@@ -3,11 +3,12 @@
 //! sound than changed words are.
 
 use model::answers::Cause;
-use model::network::{
-    Aim, Claim, Hop, LinkEnd, Network, Node, Sending, CHANNEL_ENDS, LINKS, PORTS, TILE_LINKS,
-};
+use model::network::{Aim, Claim, Hop, LinkEnd, Network, Node, Sending};
 use model::random::Random;
-use model::tokens::{header, Destination, Token, END, PAUSE};
+use model::sizes::{
+    CHANNELS, CHANNEL_ENDS, HIGHEST_NETWORK, HIGHEST_NUMBER, LINKS, PORTS, TILE_LINKS, TILE_PORTS,
+};
+use model::tokens::{header, Destination, Token, END, PAUSE, SINK};
 
 /// Changes one to three things.
 pub fn disturb(random: &mut Random, network: &mut Network) {
@@ -32,12 +33,12 @@ fn any_port(random: &mut Random) -> usize {
 
 /// A channel, the sink among them, now and then one that is not there.
 fn any_channel(random: &mut Random) -> usize {
-    let odd = [255, 255, 32, 254];
-    let odd = random.pick(&odd).unwrap_or(255);
+    let odd = [SINK, SINK, CHANNELS, SINK - 1];
+    let odd = random.pick(&odd).unwrap_or(SINK);
     if random.chance(15) {
         odd
     } else {
-        random.below(CHANNEL_ENDS)
+        random.below(CHANNELS)
     }
 }
 
@@ -69,7 +70,7 @@ fn link(random: &mut Random, slots: usize, node: &mut Node) {
 fn hold(random: &mut Random, node: &mut Node) {
     let width = random.pick(&[1, 3, 3]).unwrap_or(3);
     let channel = any_channel(random);
-    let number = random.value_below(0x1_0000);
+    let number = random.value_below(HIGHEST_NUMBER + 1);
     let unit = Destination::Control { number };
     let far = Destination::Channel { number, channel };
     let destination = if random.chance(80) { far } else { unit };
@@ -130,7 +131,7 @@ fn port(random: &mut Random, node: &mut Node) {
 fn channel_end(random: &mut Random, node: &mut Node) {
     let sending = [
         Sending::ByPort(any_port(random)),
-        Sending::ByPort(8 + random.below(4)),
+        Sending::ByPort(TILE_PORTS.start + random.below(TILE_PORTS.len())),
         Sending::Straight(any_channel(random)),
     ];
     let claims = [
@@ -139,10 +140,10 @@ fn channel_end(random: &mut Random, node: &mut Node) {
     ];
     let aim = Aim {
         destination: Destination::Channel {
-            number: random.value_below(0x1_0001),
+            number: random.value_below(HIGHEST_NUMBER + 2),
             channel: any_channel(random),
         },
-        network: random.value_below(5),
+        network: random.value_below(HIGHEST_NETWORK + 2),
     };
     let end = &mut node.channel_ends[random.below(6)];
     match random.below(3) {

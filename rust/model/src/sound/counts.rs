@@ -1,9 +1,11 @@
 //! Sound: the length of the memory, counts and indices.
 
 use crate::network::{
-    memory_words, Aim, ChannelEnd, Claim, Hop, Link, Network, Node, Port, Sending, CHANNEL_ENDS,
-    CHANNEL_END_CAPACITY, HIGHEST_DIRECTION, HIGHEST_NETWORK, HIGHEST_NUMBER, LINKS, MOST_CREDIT,
-    MOST_NODES, PORTS, PORT_CAPACITY, TILE_PORTS,
+    memory_words, Aim, ChannelEnd, Claim, Hop, Link, Network, Node, Port, Sending,
+};
+use crate::sizes::{
+    CHANNEL_ENDS, CHANNEL_END_CAPACITY, HIGHEST_DIRECTION, HIGHEST_NETWORK, HIGHEST_NUMBER, LINKS,
+    MOST_CREDIT, MOST_NODES, PORTS, PORT_CAPACITY, TILE_PORTS,
 };
 use crate::tokens::{is_channel, Destination, ONE_BYTE, THREE_BYTES};
 

@@ -1,18 +1,18 @@
 //! The list "Sound": one pass over the nodes, and what a record names is looked up.
 
-use model::network::{
-    HIGHEST_DIRECTION, HIGHEST_NETWORK, HIGHEST_NUMBER, MOST_CREDIT, MOST_NODES, REPLY_PORT,
+use model::sizes::{
+    HEARD, HIGHEST_DIRECTION, HIGHEST_NETWORK, HIGHEST_NUMBER, MOST_CREDIT, MOST_NODES, REPLY_PORT,
     TILE_PORTS,
 };
 use model::tokens::SINK;
 
 use super::records::{
-    is_channel, ChannelEnd, Circuit, Hop, Link, Network, Node, Peer, Port, Unit, END, HEARD,
-    NO_ROUTE, OUTWARD, PAUSE, TO_CHANNEL, TO_UNIT,
+    is_channel, ChannelEnd, Circuit, Hop, Link, Network, Node, Peer, Port, Unit, END, NO_ROUTE,
+    OUTWARD, PAUSE, TO_CHANNEL, TO_UNIT,
 };
 
-const PORT_CAPACITY: u32 = model::network::PORT_CAPACITY as u32;
-const END_CAPACITY: u32 = model::network::CHANNEL_END_CAPACITY as u32;
+const PORT_CAPACITY: u32 = model::sizes::PORT_CAPACITY as u32;
+const END_CAPACITY: u32 = model::sizes::CHANNEL_END_CAPACITY as u32;
 
 /// Where a walk over a port's tokens is.
 #[derive(Clone, Copy)]

@@ -1,6 +1,6 @@
 //! A network read from the lent words of the proved library, and written as them.
 
-use model::network::{MOST_NODES, PORT_CAPACITY};
+use model::sizes::{MOST_NODES, PORT_CAPACITY};
 
 use compare::layout::{NODE_TOKENS, NODE_WORDS};
 
