@@ -55,7 +55,8 @@ module _ (w : World) (n c t : ℕ) (g : Target) (s : Sends w n c g) where
       (λ e. rw e tt)
       (λ e. rw e (found (eqb-false _ _ e) (seek (taken (w .net) n) tilePorts firstTilePort)))
     where
-      found : (lowestFree (w .net) n ≡ replyPort → ⊥) → Sought (taken (w .net) n) tilePorts firstTilePort → Room w n (lowestFree (w .net) n) 4
+      found : (lowestFree (w .net) n ≡ replyPort → ⊥) → Sought (taken (w .net) n) tilePorts firstTilePort
+          → Room w n (lowestFree (w .net) n) 4
       found ne (fails h e) = free-room e h
       found ne (passes q h) = absurd (ne q)
 

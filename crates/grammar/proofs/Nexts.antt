@@ -71,7 +71,8 @@ channel w h e = rw (wide w (omega arith) h, e)
 pub no-channel : (w : ℕ) → 0x620 ≤ w → w < 0x6FF → shapeOf w ≡ S.ThreeByte
 unfolding threeShape
 no-channel w h k =
-    rw (wide w (omega arith) (omega arith), illegal-channel (w - 0x600) (omega arith) (λ e. omega arith), lt-ltb (w - 0x600) 0x100 (omega arith))
+    let none : legalChannel (w - 0x600) ≡ false = illegal-channel (w - 0x600) (omega arith) (λ e. omega arith) in
+    rw (wide w (omega arith) (omega arith), none, lt-ltb (w - 0x600) 0x100 (omega arith))
 
 -- past it SSCTRL alone is a token
 pub nothing : (w : ℕ) → 0x700 ≤ w → (w ≡ 0x7C3 → ⊥) → shapeOf w ≡ S.Wrong

@@ -54,7 +54,8 @@ module _ (w : World) (s : sound w ≡ true) where
     pub end-facts : (c : ℕ) → c < ends → EndFacts (w .net .ends n c)
     end-facts c h = end-counts (w .net .ends n c) .sure (sound-at w s 4 n c (lit≤ tt) hn h)
 
-    pub unit-facts : (w .net .units n 0 .serves .kind ≤ 1) × ((w .net .units n 0 .serves .kind ≡ 0) ⊎ (w .net .units n 0 .heard ≤ unitBuffer))
+    pub unit-facts : (w .net .units n 0 .serves .kind ≤ 1)
+        × ((w .net .units n 0 .serves .kind ≡ 0) ⊎ (w .net .units n 0 .heard ≤ unitBuffer))
     unit-facts = unit-counts (w .net .units n 0) .sure (sound-at w s 5 n 0 (lit≤ tt) hn (lit≤ tt))
 
     pub credit-facts : (l : ℕ) → l < links → (w .net .links n l .credit ≡ 0) ⊎ (w .net .links n l .greeted ≡ 1)

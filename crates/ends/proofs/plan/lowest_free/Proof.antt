@@ -15,7 +15,10 @@ use Rattle.ends.proofs.plan.lowest_free.Statement.{statement}
 use Rattle.ends.proofs.plan.lowest_free.Tie as tie
 
 abbrev Inv-loop : tie.InvT-loop
-Inv-loop st slot p₀ p = (firstTilePort ≤ p) × (p ≤ replyPort) × (failing (replyPort - p) p (taken (view st) (slot .0)) ≡ lowestFree (view st) (slot .0))
+Inv-loop st slot p₀ p =
+    (firstTilePort ≤ p)
+    × (p ≤ replyPort)
+    × (failing (replyPort - p) p (taken (view st) (slot .0)) ≡ lowestFree (view st) (slot .0))
 
 abbrev μ-loop : tie.MeasureT-loop
 μ-loop st slot p₀ p = replyPort - p

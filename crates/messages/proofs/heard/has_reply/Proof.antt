@@ -5,8 +5,9 @@ use Rattle.messages.proofs.heard.has_reply.Tie as tie
 
 returns : tie.Need-returns
 returns c =
-    let commanded = c .before .before .before in
-    rw (c .is-channel .ensures, c .before .token2 .ensures, c .before .before .two-data .ensures, commanded .is-command .ensures, commanded .before .token .ensures)
+    let asked = c .before .before in
+    rw (c .is-channel .ensures, c .before .token2 .ensures)
+    (rw (asked .two-data .ensures, asked .before .is-command .ensures, asked .before .before .token .ensures))
 
 pub has-reply-spec : {M : Type 1} → statement M
 has-reply-spec =
