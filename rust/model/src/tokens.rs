@@ -129,7 +129,7 @@ impl Destination {
     }
 }
 
-/// The channels there are: 0..31 and the sink.
+/// The channels that a destination can name: 0..31 and the sink.
 pub fn is_channel(channel: usize) -> bool {
     channel < CHANNELS || channel == SINK
 }

@@ -201,7 +201,7 @@ pub fn closes(token: u16) -> bool {
     token == END || token == PAUSE
 }
 
-/// The channels that there are: 0..31 and the sink.
+/// The channels that a destination can name: 0..31 and the sink.
 pub fn is_channel(channel: usize) -> bool {
     channel < CHANNELS || channel == SINK
 }
