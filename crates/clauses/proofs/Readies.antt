@@ -1,4 +1,4 @@
--- A port that is ready: the memory reaches past its stretch, its counters are those of a ring, and a stage read off its tokens is that of the
+-- A port that is ready: the memory reaches past its stretch, its counters are those of a ring, and the stages read off its tokens are those of the
 -- port. Assumes nothing.
 use Prim.Native.Nat.{ℕ, _+_, _*_, _/_, _≤_, _<_}
 use mathlib.Core.Bool.{true, false, not, _&&_}
@@ -7,7 +7,6 @@ use mathlib.Core.Path.{_≡_, refl, sym, ap}
 use native.Mathlib.Omega.{arith}
 use lib.Dec.{ltb, leb}
 use lib.ListN.{length}
-use Rattle.laws.specs.Pick.{pick}
 use Rattle.laws.proofs.All.{both, below, at-most}
 use Rattle.laws.proofs.Order.{by-test}
 use Rattle.names.specs.Size.{ports}
@@ -17,12 +16,11 @@ use Rattle.circuits.specs.declared.Hop.the-variants as Hops
 use Rattle.ports.specs.Queue.{capacity, Fair, contents, ring}
 use Rattle.ports.specs.Memory.{place, stretch}
 use Rattle.grammar.specs.Stage.{isBad}
-use Rattle.grammar.specs.Walk.{backOf}
-use Rattle.grammar.specs.declared.stage.Stage.{Stage}
-use Rattle.grammar.specs.declared.stage.Stage.the-variants.{Bad}
+use Rattle.grammar.specs.Walk.{backOf, stagesOf}
+use Rattle.grammar.specs.declared.port.Stages.{Stages}
 use Rattle.cells.specs.World.{World, hop, queue}
 use Rattle.cells.specs.declared.port.Port.{Port}
-use Rattle.clauses.specs.Contents.{ready}
+use Rattle.clauses.specs.Contents.{ready, stages}
 use Rattle.clauses.specs.Contents as Contents
 
 module _ (w : World) (n p : ℕ) where
@@ -50,14 +48,14 @@ module _ (w : World) (n p : ℕ) where
     pub fair : Fair (w .net .ports n p .counters)
     fair = let z = is-ready e in record { head-in = z .head; held-in = z .held }
 
-    -- a stage that is read off the port's record and its stretch
-    pub read-off : (f : Hop → List ℕ → Stage) {k : Port} {h : Hop} {s : List ℕ} {r : Stage}
+    -- what is read off the port's record and its stretch
+    pub read-off : {k : Port} {h : Hop} {s : List ℕ} {r : Stages}
         → k ≡ w .net .ports n p
         → h ≡ hopOf (k .circuit) (k .tile)
         → s ≡ stretch (w .memory) (place n p)
-        → r ≡ f h (contents (k .counters) s)
-        → r ≡ pick (ready w n p) (f (hop (w .net) n p) (queue w n p)) Bad
-    read-off f ek eh es er = rw (er, es, eh, ek, e)
+        → r ≡ stagesOf h (contents (k .counters) s)
+        → r ≡ stages w n p
+    read-off ek eh es er = rw (er, es, eh, ek, e)
 
 -- a port that holds nothing holds nothing wrong
 nothing-wrong : (h : Hop) → isBad (backOf h []) ≡ false

@@ -1,15 +1,18 @@
 -- What ports and channel-ends hold (document 01, "Sound").
 use Prim.Native.Nat.{ℕ, _*_, _/_}
 use mathlib.Core.Bool.{Bool, not, _&&_, _||_}
+use mathlib.Core.List.{List}
 use lib.Dec.{eqb, ltb, leb}
 use lib.ListN.{length, getD}
 use Rattle.laws.specs.Pick.{pick}
 use Rattle.names.specs.Size.{ports}
 use Rattle.tokens.specs.Control.{pause}
 use Rattle.tokens.specs.Word.{controlWord}
+use Rattle.circuits.specs.declared.Hop.{Hop}
 use Rattle.ports.specs.Queue.{capacity}
 use Rattle.grammar.specs.Stage.{isBad}
 use Rattle.grammar.specs.Walk.{frontOf, backOf}
+use Rattle.grammar.specs.declared.port.Stages.{Stages}
 use Rattle.grammar.specs.declared.stage.Stage.{Stage}
 use Rattle.grammar.specs.declared.stage.Stage.the-variants.{Bad}
 use Rattle.cells.specs.View.{Net}
@@ -22,12 +25,19 @@ ready w n p =
     let c = w .net .ports n p .counters in
     ltb n (length (w .memory) / (ports * capacity)) && (ltb p ports && (ltb (c .head) capacity && leb (c .held) capacity))
 
--- where a port's tokens begin and end, to one who walks over them
+-- what a walk over a port's tokens finds; nothing good where there are none to be walked over
+abbrev pub stageAt : (Hop → List ℕ → Stage) → World → ℕ → ℕ → Stage
+stageAt f w n p = pick (ready w n p) (f (hop (w .net) n p) (queue w n p)) Bad
+
+-- where it begins and where it ends
 abbrev pub front : World → ℕ → ℕ → Stage
-front w n p = pick (ready w n p) (frontOf (hop (w .net) n p) (queue w n p)) Bad
+front w n p = stageAt frontOf w n p
 
 abbrev pub back : World → ℕ → ℕ → Stage
-back w n p = pick (ready w n p) (backOf (hop (w .net) n p) (queue w n p)) Bad
+back w n p = stageAt backOf w n p
+
+abbrev pub stages : World → ℕ → ℕ → Stages
+stages w n p = record { front = front w n p; back = back w n p }
 
 -- "tokens and headers are legal; a port with no circuit is empty or starts with a header, and so does what follows an END or PAUSE; such a
 -- header is short only at its port's end; header tokens stand elsewhere only at the front of a circuit still sending its header outward or

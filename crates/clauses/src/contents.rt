@@ -4,6 +4,7 @@ use cells::end::End;
 use cells::layout::TOKEN_WORDS;
 use cells::port;
 use circuits::hop_of;
+use grammar::port::Stages;
 use grammar::stage::Stage;
 use grammar::stage::is_bad;
 use names::Slot;
@@ -15,7 +16,7 @@ ghost use Prim.Native.Nat.{_<_};
 ghost use Rattle.names.specs.Size.{endBuffer};
 ghost use Rattle.cells.specs.View.{view};
 ghost use Rattle.cells.specs.World.{world};
-ghost use Rattle.clauses.specs.Contents.{ready, front, back, contents, legalHeld, heldToken, heldTokens};
+ghost use Rattle.clauses.specs.Contents.{ready, stages, front, back, contents, legalHeld, heldToken, heldTokens};
 
 // The memory has this port's stretch, and its counters are those of a ring.
 fn ready(st: &[u32], mem: &[u16], slot: Slot, p: usize) -> bool
@@ -27,26 +28,36 @@ fn ready(st: &[u32], mem: &[u16], slot: Slot, p: usize) -> bool
             & ((k.counters.head < Counters::CAPACITY) & (k.counters.held <= Counters::CAPACITY)))
 }
 
-// Where a port's circuit stands before its first token.
+// Where a port's tokens begin and end, to one who walks over them.
+fn stages(st: &[u32], mem: &[u16], slot: Slot, p: usize) -> Stages
+    ensures { λ r. ⌜ r ≡ stages (world (now (st .entry)) (now (mem .entry))) (slot .0) p ⌝ }
+{
+    if ready(st, mem, slot, p) {
+        let k = port::at(st, slot, p);
+        return grammar::port::stages_of(
+            hop_of(k.circuit, k.tile),
+            stretch(mem, slot, p),
+            k.counters,
+        );
+    }
+    Stages {
+        front: Stage::Bad,
+        back: Stage::Bad,
+    }
+}
+
 pub fn front(st: &[u32], mem: &[u16], slot: Slot, p: usize) -> Stage
     ensures { λ r. ⌜ r ≡ front (world (now (st .entry)) (now (mem .entry))) (slot .0) p ⌝ }
 {
-    if ready(st, mem, slot, p) {
-        let k = port::at(st, slot, p);
-        return grammar::port::front(hop_of(k.circuit, k.tile), stretch(mem, slot, p), k.counters);
-    }
-    Stage::Bad
+    let s = stages(st, mem, slot, p);
+    s.front
 }
 
-// And past its last.
 pub fn back(st: &[u32], mem: &[u16], slot: Slot, p: usize) -> Stage
     ensures { λ r. ⌜ r ≡ back (world (now (st .entry)) (now (mem .entry))) (slot .0) p ⌝ }
 {
-    if ready(st, mem, slot, p) {
-        let k = port::at(st, slot, p);
-        return grammar::port::back(hop_of(k.circuit, k.tile), stretch(mem, slot, p), k.counters);
-    }
-    Stage::Bad
+    let s = stages(st, mem, slot, p);
+    s.back
 }
 
 // The sentences of the list on what may stand in a port.

@@ -15,7 +15,7 @@ use Rattle.tokens.specs.Shape.{legalChannel, threeShape, shapeOf}
 use Rattle.tokens.specs.declared.word.Shape.{Shape}
 use Rattle.tokens.specs.declared.word.Shape.the-variants as S
 use Rattle.tokens.proofs.Words.{open-word, closing-word}
-use Rattle.grammar.specs.Stage.{fromBody, fromLastDue}
+use Rattle.grammar.specs.Stage.{isLast, step}
 use Rattle.grammar.specs.declared.stage.Stage.the-variants.{Bad, Fresh, Body}
 
 -- below the marks of a header
@@ -87,30 +87,30 @@ past-byte P w h a b = elim (ℕ-discrete w 0x7C3) [ yes e ↦ rw e b | no e ↦ 
 pub low-channel : (w : ℕ) → w < 0x620 → legalChannel (w - 0x600) ≡ true
 low-channel w h = rw (lt-ltb (w - 0x600) ends (omega arith))
 
-pub sink-last : Body ≡ fromLastDue (shapeOf 0x6FF)
+pub sink-last : true ≡ isLast (shapeOf 0x6FF)
 unfolding shapeOf threeShape closes
 sink-last = refl
 
-pub unit-last : Body ≡ fromLastDue (shapeOf 0x7C3)
+pub unit-last : true ≡ isLast (shapeOf 0x7C3)
 unfolding shapeOf threeShape closes
 unit-last = refl
 
 -- past a header: a token that closes nothing, END or PAUSE, a token of a header or none
-pub stays : (w : ℕ) → closes w ≡ false → w < 0x1C2 → Body ≡ fromBody (shapeOf w)
+pub stays : (w : ℕ) → closes w ≡ false → w < 0x1C2 → Body ≡ step Body (shapeOf w)
 unfolding shapeOf
 stays w e h = rw (e, lt-ltb w 0x1C2 h)
 
-pub closed : (w : ℕ) → 0x101 ≤ w → w ≤ 0x102 → Fresh ≡ fromBody (shapeOf w)
+pub closed : (w : ℕ) → 0x101 ≤ w → w ≤ 0x102 → Fresh ≡ step Body (shapeOf w)
 unfolding shapeOf
 closed w h k = rw (closing-word w h k)
 
-three-bad : (m : ℕ) → Bad ≡ fromBody (threeShape m)
+three-bad : (m : ℕ) → Bad ≡ step Body (threeShape m)
 unfolding threeShape
 three-bad m =
     by-test (legalChannel m) (λ e. rw e)
     (λ e. rw e (by-test (ltb m 0x100) (λ f. rw f) (λ f. rw f (by-test (eqb m (controlWord ssctrl)) (λ g. rw g) (λ g. rw g)))))
 
-pub breaks : (w : ℕ) → 0x1C2 ≤ w → Bad ≡ fromBody (shapeOf w)
+pub breaks : (w : ℕ) → 0x1C2 ≤ w → Bad ≡ step Body (shapeOf w)
 unfolding shapeOf
 breaks w h =
     rw (open-word w (inr (omega arith)), le-ltb w 0x1C2 h)

@@ -25,7 +25,7 @@ use Rattle.tokens.specs.declared.header.Target.the-variants as T
 use Rattle.ports.specs.Queue.{capacity, ring}
 use Rattle.ports.specs.Memory.{place, stretch}
 use Rattle.ports.proofs.Rings.{ring-start, ring-next}
-use Rattle.grammar.specs.Stage.{step, fromFresh, fromTwoDue, fromLastDue, isBad}
+use Rattle.grammar.specs.Stage.{step, isBad}
 use Rattle.grammar.specs.Walk.{walk}
 use Rattle.grammar.specs.declared.stage.Stage.{Stage}
 use Rattle.grammar.specs.declared.stage.Stage.the-variants.{Bad, Fresh, Body, OneDue, ThreeDue, TwoDue, LastDue}
@@ -68,16 +68,16 @@ good-before TwoDue q e = refl
 good-before LastDue q e = refl
 
 -- the first of three bytes, the second, the last
-two-due : (w : ℕ) → isThree w ≡ true → isBad (fromFresh (shapeOf w)) ≡ false → fromFresh (shapeOf w) ≡ TwoDue
+two-due : (w : ℕ) → isThree w ≡ true → isBad (step Fresh (shapeOf w)) ≡ false → step Fresh (shapeOf w) ≡ TwoDue
 two-due w t =
-    by-shape (λ x. isBad (fromFresh x) ≡ false → fromFresh x ≡ TwoDue) w (λ b. clash b) (λ b. clash b) (λ b. clash b)
+    by-shape (λ x. isBad (step Fresh x) ≡ false → step Fresh x ≡ TwoDue) w (λ b. clash b) (λ b. clash b) (λ b. clash b)
     (λ l b. absurd (small l (eqb-true (w / 1024 % 2) 1 t)))
-    (λ g. by-three (λ x. isBad (fromFresh x) ≡ false → fromFresh x ≡ TwoDue) (w - 0x600) (λ l b. refl) (λ b. refl) (λ l b. clash b) (λ b. clash b))
+    (λ g. by-three (λ x. isBad (step Fresh x) ≡ false → step Fresh x ≡ TwoDue) (w - 0x600) (λ l b. refl) (λ b. refl) (λ l b. clash b) (λ b. clash b))
   where
     small : {w : ℕ} → w < 0x300 → w / 1024 % 2 ≡ 1 → ⊥
     small l e = omega arith
 
-last-due : (x : Shape) → isBad (fromTwoDue x) ≡ false → fromTwoDue x ≡ LastDue
+last-due : (x : Shape) → isBad (step TwoDue x) ≡ false → step TwoDue x ≡ LastDue
 last-due S.Wrong b = clash b
 last-due S.Body b = clash b
 last-due S.Closing b = clash b
@@ -87,10 +87,10 @@ last-due S.Channel b = refl
 last-due S.Unit b = clash b
 
 -- a last byte that is no control is a channel that is there
-last-legal : (w : ℕ) → isControl w ≡ false → isBad (fromLastDue (shapeOf w)) ≡ false → Door (valueOf w)
+last-legal : (w : ℕ) → isControl w ≡ false → isBad (step LastDue (shapeOf w)) ≡ false → Door (valueOf w)
 last-legal w n =
-    by-shape (λ x. isBad (fromLastDue x) ≡ false → Door (valueOf w)) w (λ b. clash b) (λ b. clash b) (λ b. clash b) (λ l b. clash b)
-    (λ g. by-three (λ x. isBad (fromLastDue x) ≡ false → Door (valueOf w)) (w - 0x600)
+    by-shape (λ x. isBad (step LastDue x) ≡ false → Door (valueOf w)) w (λ b. clash b) (λ b. clash b) (λ b. clash b) (λ l b. clash b)
+    (λ g. by-three (λ x. isBad (step LastDue x) ≡ false → Door (valueOf w)) (w - 0x600)
     (λ l b. named g (either (below (w - 0x600) ends) (equal (w - 0x600) sink) .sure l))
     (λ b. clash b)
     (λ e b. clash (sym (unit g e) ∙ n))
