@@ -11,9 +11,8 @@ use Rattle.laws.proofs.Order.{by-test, order}
 use Rattle.names.specs.Size.{ends, sink}
 use Rattle.tokens.specs.Control.{ssctrl}
 use Rattle.tokens.specs.Word.{closes, controlWord}
-use Rattle.tokens.specs.Shape.{legalChannel, threeShape, shapeOf}
-use Rattle.tokens.specs.declared.word.Shape.{Shape}
-use Rattle.tokens.specs.declared.word.Shape.the-variants as S
+use Rattle.tokens.specs.Shape.{Shape, legalChannel, threeShape, shapeOf}
+use Rattle.tokens.specs.Shape as S
 use Rattle.tokens.proofs.Words.{open-word, closing-word}
 use Rattle.grammar.specs.Stage.{isLast, step}
 use Rattle.grammar.specs.declared.stage.Stage.the-variants.{Bad, Fresh, Body}

@@ -2,7 +2,7 @@
 ghost use mathlib.Core.Path.{_≡_};
 ghost use Rattle.laws.specs.Pick.{pick};
 ghost use Rattle.tokens.specs.Shape.{shapeOf};
-ghost use Rattle.tokens.specs.declared.word.Shape.the-variants as S;
+ghost use Rattle.tokens.specs.Shape as S;
 ghost use Rattle.grammar.specs.Stage.{ofOne, isByte, isLast, ofThree, step, due, isBad, stageNumber, sameStage, crossed};
 ghost use Rattle.grammar.specs.declared.stage.Stage.the-variants.{Bad, Fresh, Body};
 

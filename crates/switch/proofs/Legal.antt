@@ -16,10 +16,9 @@ use Rattle.names.specs.Size.{ports, ends, sink}
 use Rattle.circuits.specs.declared.Hop.the-variants.{Shut}
 use Rattle.tokens.specs.Control.{ssctrl}
 use Rattle.tokens.specs.Word.{closes, controlWord, valueOf, isControl, isThree}
-use Rattle.tokens.specs.Shape.{legalChannel, threeShape, shapeOf}
+use Rattle.tokens.specs.Shape.{Shape, legalChannel, threeShape, shapeOf}
 use Rattle.tokens.specs.Header.{readOne, readThree}
-use Rattle.tokens.specs.declared.word.Shape.{Shape}
-use Rattle.tokens.specs.declared.word.Shape.the-variants as S
+use Rattle.tokens.specs.Shape as S
 use Rattle.tokens.specs.declared.header.Target.{Target}
 use Rattle.tokens.specs.declared.header.Target.the-variants as T
 use Rattle.ports.specs.Queue.{capacity, ring}

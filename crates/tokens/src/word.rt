@@ -4,7 +4,6 @@
 use crate::header::Width;
 ghost use mathlib.Core.Path.{_≡_};
 ghost use Rattle.tokens.specs.Word.{dataWord, controlWord, headerWord, unitWord, valueOf, isControl, isHeader, isThree, closes, isPause};
-ghost use Rattle.tokens.specs.Shape.{shapeOf, threeShape};
 
 pub const END: u16 = 0x0101;
 
@@ -78,50 +77,4 @@ pub fn is_pause(word: u16) -> bool
     ensures { λ r. ⌜ r ≡ isPause word ⌝ }
 {
     word == PAUSE
-}
-
-// What a word is to the grammar of a port's contents.
-pub enum Shape {
-    // no legal token
-    Wrong,
-    // a token past the header that closes nothing
-    Body,
-    // END or PAUSE
-    Closing,
-    // a header of one byte
-    OneByte,
-    // a byte of a three-byte header that is no channel
-    ThreeByte,
-    // a byte of a three-byte header that is a channel too
-    Channel,
-    // SSCTRL
-    Unit,
-}
-
-// A token of a three-byte header, its marks taken off.
-fn three_shape(token: u16) -> Shape
-    ensures { λ r. ⌜ r ≡ threeShape token ⌝ }
-{
-    match token {
-        0x0000..=0x001F => Shape::Channel,
-        0x0020..=0x00FE => Shape::ThreeByte,
-        0x00FF => Shape::Channel,
-        0x0100..=0x01C2 => Shape::Wrong,
-        0x01C3 => Shape::Unit,
-        0x01C4..=0xFFFF => Shape::Wrong,
-    }
-}
-
-pub fn shape_of(word: u16) -> Shape
-    ensures { λ r. ⌜ r ≡ shapeOf word ⌝ }
-{
-    match word {
-        0x0000..=0x0100 => Shape::Body,
-        0x0101..=0x0102 => Shape::Closing,
-        0x0103..=0x01C1 => Shape::Body,
-        0x01C2..=0x01FF => Shape::Wrong,
-        0x0200..=0x02FF => Shape::OneByte,
-        0x0300..=0x05FF => Shape::Wrong,
-        0x0600..=0xFFFF => three_shape(word - 0x0600),
-    }
 }
