@@ -1,17 +1,17 @@
 -- The acts that calls are composed of, each on one record of the state and at most one word of token memory.
 use Prim.Native.Nat.{ℕ, _+_, _%_, _<_, _≤_}
 use mathlib.Core.Path.{_≡_}
-use mathlib.Core.Bool.{true}
+use mathlib.Core.Bool.{Bool, true, not, _&&_}
 use mathlib.Core.List.{List, [], _∷_}
 use mathlib.Core.Logic.{_⊎_}
-use lib.Dec.{eqb}
+use lib.Dec.{eqb, leb}
 use lib.ListN.{length, getD, set}
 use Rattle.laws.specs.Pick.{pick}
-use Rattle.names.specs.Size.{ports, endBuffer}
+use Rattle.names.specs.Size.{ports, ends, endBuffer, sink}
 use Rattle.names.specs.declared.NodeNumber.{NodeNumber}
 use Rattle.circuits.specs.Circuit.{circuit, ofPeer, ofHop, tileOf}
-use Rattle.circuits.specs.declared.Circuit.{Circuit}
 use Rattle.circuits.specs.declared.Peer.{Peer}
+use Rattle.circuits.specs.declared.Peer.the-variants.{Nobody}
 use Rattle.circuits.specs.declared.Hop.{Hop}
 use Rattle.tokens.specs.Word.{closes, isPause}
 use Rattle.tokens.specs.declared.header.Width.{Width}
@@ -20,7 +20,7 @@ use Rattle.ports.specs.Queue.{capacity, Fair, putCounters, takeCounters}
 use Rattle.ports.specs.Memory.{place, putMemory, takeMemory, firstOf}
 use Rattle.cells.specs.View.{Net, withPort, withLink, withTile, withEnd}
 use Rattle.cells.specs.World.{World}
-use Rattle.cells.specs.Changes.{countersAs, circuitAs, portNetworkAs, userAs, tileUserAs, claimAs, heldAs}
+use Rattle.cells.specs.Changes.{countersAs, circuitAs, portNetworkAs, senderAs, userAs, tileUserAs, sendingAs, claimAs, heldAs}
 use Rattle.cells.specs.declared.port.Port.{Port}
 use Rattle.cells.specs.declared.end.End.{End}
 
@@ -91,24 +91,55 @@ shutPort k =
 abbrev pub shut : Net → ℕ → ℕ → Net
 shut s n p = withPort s n p (shutPort (s .ports n p))
 
--- who uses a link outward, a tile link, a channel-end
+-- the network of the circuit that has taken a port
+abbrev pub networked : Net → ℕ → ℕ → ℕ → Net
+networked s n p v = withPort s n p (portNetworkAs (s .ports n p) v)
+
+-- who uses a link outward, and a tile link
 abbrev pub linkedTo : Net → ℕ → ℕ → Peer → Net
 linkedTo s n l x = withLink s n l (userAs (s .links n l) (ofPeer x))
 
 abbrev pub tiledTo : Net → ℕ → ℕ → Peer → Net
 tiledTo s n t x = withTile s n t (tileUserAs (s .tiles n t) (ofPeer x))
 
-abbrev pub claimedBy : Net → ℕ → ℕ → Peer → Net
-claimedBy s n c x = withEnd s n c (claimAs (s .ends n c) (ofPeer x))
+-- whose open circuit goes by a port, and where a channel-end's open circuit goes
+abbrev pub sentBy : Net → ℕ → ℕ → Peer → Net
+sentBy s n p x = withPort s n p (senderAs (s .ports n p) (ofPeer x))
 
--- "until END or PAUSE": a circuit after a token, nobody where the token closes it
-abbrev pub still : ℕ → Circuit → Circuit
-still t x = pick (closes t) (circuit 0 0) x
+abbrev pub sendsTo : Net → ℕ → ℕ → Peer → Net
+sendsTo s n c x = withEnd s n c (sendingAs (s .ends n c) (ofPeer x))
+
+-- "until END or PAUSE": who has a circuit after a token, nobody where the token closes it
+abbrev pub still : ℕ → Peer → Peer
+still t x = pick (closes t) Nobody x
+
+-- who claims a channel: "the sink never is"
+abbrev pub claimedBy : Net → ℕ → ℕ → Peer → Net
+claimedBy s n c x = pick (eqb c sink) s (withEnd s n c (claimAs (s .ends n c) (ofPeer x)))
+
+abbrev pub channelClaimed : Net → ℕ → ℕ → Bool
+channelClaimed s n c = not (eqb c sink) && not (eqb (s .ends n c .claim .kind) 0)
+
+-- "8 are held, unless it is PAUSE or the channel is the sink"
+abbrev pub channelFull : Net → ℕ → ℕ → ℕ → Bool
+channelFull s n c t = not (eqb c sink) && (leb endBuffer (s .ends n c .held) && not (isPause t))
 
 -- "PAUSE is never stored in a channel-end; END is."
 abbrev pub kept : End → ℕ → End
 kept k t = pick (isPause t) k (heldAs k (k .held + 1) (set (k .tokens) (k .held) t))
 
+-- a channel is handed a token: "Channel 255 is the sink: it takes and forgets"
+abbrev pub handed : Net → ℕ → ℕ → ℕ → Net
+handed s n c t = pick (eqb c sink) s (withEnd s n c (kept (s .ends n c) t))
+
 -- there is room for what is kept
 abbrev pub Keeps : End → ℕ → Type 0
 Keeps k t = (isPause t ≡ true) ⊎ (k .held < endBuffer)
+
+-- the sink, or a channel-end that is there
+abbrev pub Door : ℕ → Type 0
+Door c = (c ≡ sink) ⊎ (c < ends)
+
+-- .. that has room for what it keeps of a token
+abbrev pub Given : Net → ℕ → ℕ → ℕ → Type 0
+Given s n c t = (c ≡ sink) ⊎ ((c < ends) × Keeps (s .ends n c) t)

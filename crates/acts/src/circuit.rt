@@ -10,11 +10,12 @@ use circuits::of_hop;
 use circuits::of_peer;
 use circuits::tile_of;
 use names::Slot;
+use names::size::SINK;
 ghost use mathlib.Core.Path.{_≡_};
 ghost use Prim.Native.Nat.{_<_};
-ghost use Rattle.names.specs.Size.{links, ports, tileLinks, ends};
+ghost use Rattle.names.specs.Size.{links, ports, tileLinks};
 ghost use Rattle.cells.specs.View.{view};
-ghost use Rattle.acts.specs.Acts.{hopped, shutPort, shut, linkedTo, tiledTo, claimedBy};
+ghost use Rattle.acts.specs.Acts.{hopped, shutPort, shut, linkedTo, tiledTo, claimedBy, channelClaimed, Door};
 
 // Where a port's circuit goes.
 pub fn set_hop(st: &mut [u32], slot: Slot, p: usize, h: Hop)
@@ -68,11 +69,22 @@ pub fn set_tile_user(st: &mut [u32], slot: Slot, t: usize, x: Peer)
     tile::put(st, slot, t, k);
 }
 
-// Who sends to a channel-end.
-pub fn set_claim(st: &mut [u32], slot: Slot, c: usize, x: Peer)
-    requires { ⌜ (slot .0 < view (now st) .nodes) × (c < ends) ⌝ }
+// The channel is claimed: the sink never is.
+pub fn channel_claimed(st: &[u32], slot: Slot, c: usize) -> bool
+    ensures { λ r. ⌜ r ≡ channelClaimed (view (now (st .entry))) (slot .0) c ⌝ }
+{
+    let k = end::at(st, slot, c);
+    !(c == SINK as usize) & !(k.claim.kind == 0)
+}
+
+// Who claims it.
+pub fn claim(st: &mut [u32], slot: Slot, c: usize, x: Peer)
+    requires { ⌜ (slot .0 < view (now st) .nodes) × Door c ⌝ }
     ensures { λ r. ⌜ view (now (st .exit)) ≡ claimedBy (view (now (st .entry))) (slot .0) c x ⌝ }
 {
+    if c == SINK as usize {
+        return;
+    }
     let mut k = end::at(st, slot, c);
     k.claim = of_peer(x);
     end::put(st, slot, c, k);

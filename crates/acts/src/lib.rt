@@ -5,9 +5,12 @@ use cells::end;
 use cells::end::End;
 use cells::node;
 use cells::port;
-use circuits::Circuit;
+use circuits::Peer;
+use circuits::of_peer;
 use names::NodeNumber;
 use names::Slot;
+use names::size::END_BUFFER;
+use names::size::SINK;
 use ports::Counters;
 use ports::put_at;
 use ports::stretch;
@@ -20,10 +23,12 @@ ghost use mathlib.Core.Path.{_≡_};
 ghost use Prim.Native.Nat.{_+_, _<_};
 ghost use Rattle.names.specs.Size.{ports, ends};
 ghost use Rattle.tokens.specs.Header.{words};
-ghost use Rattle.cells.specs.View.{view, withEnd, withPort};
+ghost use Rattle.cells.specs.View.{view};
 ghost use Rattle.cells.specs.World.{world};
-ghost use Rattle.cells.specs.Changes.{sendingAs, senderAs, portNetworkAs};
-ghost use Rattle.acts.specs.Acts.{widthAt, numberAt, Room, pushed, pushedAll, Holds, wordAt, firstAt, popped, still, Keeps, kept};
+ghost use Rattle.acts.specs.Acts.{widthAt, numberAt, Room, pushed, pushedAll, Holds, wordAt, firstAt, popped, networked, sentBy, sendsTo, still, channelFull, Keeps, kept, Given, handed};
+
+// What a channel-end holds at most, beside words of 32 bits.
+const BUFFER: u32 = END_BUFFER as u32;
 
 // The width of a node's headers, at this moment.
 pub fn width_at(st: &[u32], slot: Slot) -> Width
@@ -95,18 +100,26 @@ pub fn pop(st: &mut [u32], mem: &mut [u16], slot: Slot, p: usize) -> u16
     taken.token
 }
 
-// A circuit that is open until its END or PAUSE: nobody where this word closes it.
-pub fn still(word: u16, x: Circuit) -> Circuit
+// Who has a circuit until its END or PAUSE: nobody where this word closes it.
+pub fn still(word: u16, x: Peer) -> Peer
     ensures { λ r. ⌜ r ≡ still word x ⌝ }
 {
     if closes(word) {
-        return Circuit { kind: 0, index: 0 };
+        return Peer::Nobody;
     }
     x
 }
 
+// A channel has no room for this word; the sink always has.
+pub fn channel_full(st: &[u32], slot: Slot, c: usize, word: u16) -> bool
+    ensures { λ r. ⌜ r ≡ channelFull (view (now (st .entry))) (slot .0) c word ⌝ }
+{
+    let k = end::at(st, slot, c);
+    !(c == SINK as usize) & ((BUFFER <= k.held) & !is_pause(word))
+}
+
 // A channel-end that is handed a token: it keeps every one but PAUSE. Its buffer has room for those.
-pub fn keep(k: End, word: u16) -> End
+fn keep(k: End, word: u16) -> End
     requires { ⌜ Keeps k word ⌝ }
     ensures { λ r. ⌜ r ≡ kept k word ⌝ }
 {
@@ -122,30 +135,42 @@ pub fn keep(k: End, word: u16) -> End
     j
 }
 
+// A channel is handed a token; the sink forgets it.
+pub fn give(st: &mut [u32], slot: Slot, c: usize, word: u16)
+    requires { ⌜ (slot .0 < view (now st) .nodes) × Given (view (now st)) (slot .0) c word ⌝ }
+    ensures { λ r. ⌜ view (now (st .exit)) ≡ handed (view (now (st .entry))) (slot .0) c word ⌝ }
+{
+    if c == SINK as usize {
+        return;
+    }
+    let k = keep(end::at(st, slot, c), word);
+    end::put(st, slot, c, k);
+}
+
 // Where a channel-end's open circuit goes.
-pub fn set_sending(st: &mut [u32], slot: Slot, c: usize, x: Circuit)
+pub fn set_sending(st: &mut [u32], slot: Slot, c: usize, x: Peer)
     requires { ⌜ (slot .0 < view (now st) .nodes) × (c < ends) ⌝ }
-    ensures { λ r. ⌜ view (now (st .exit)) ≡ withEnd (view (now (st .entry))) (slot .0) c (sendingAs (view (now (st .entry)) .ends (slot .0) c) x) ⌝ }
+    ensures { λ r. ⌜ view (now (st .exit)) ≡ sendsTo (view (now (st .entry))) (slot .0) c x ⌝ }
 {
     let mut k = end::at(st, slot, c);
-    k.sending = x;
+    k.sending = of_peer(x);
     end::put(st, slot, c, k);
 }
 
 // The channel-end whose open circuit goes by a port.
-pub fn set_sender(st: &mut [u32], slot: Slot, p: usize, x: Circuit)
+pub fn set_sender(st: &mut [u32], slot: Slot, p: usize, x: Peer)
     requires { ⌜ (slot .0 < view (now st) .nodes) × (p < ports) ⌝ }
-    ensures { λ r. ⌜ view (now (st .exit)) ≡ withPort (view (now (st .entry))) (slot .0) p (senderAs (view (now (st .entry)) .ports (slot .0) p) x) ⌝ }
+    ensures { λ r. ⌜ view (now (st .exit)) ≡ sentBy (view (now (st .entry))) (slot .0) p x ⌝ }
 {
     let mut k = port::at(st, slot, p);
-    k.sender = x;
+    k.sender = of_peer(x);
     port::put(st, slot, p, k);
 }
 
 // The network of the circuit that has taken a port.
 pub fn set_network(st: &mut [u32], slot: Slot, p: usize, v: u32)
     requires { ⌜ (slot .0 < view (now st) .nodes) × (p < ports) ⌝ }
-    ensures { λ r. ⌜ view (now (st .exit)) ≡ withPort (view (now (st .entry))) (slot .0) p (portNetworkAs (view (now (st .entry)) .ports (slot .0) p) v) ⌝ }
+    ensures { λ r. ⌜ view (now (st .exit)) ≡ networked (view (now (st .entry))) (slot .0) p v ⌝ }
 {
     let mut k = port::at(st, slot, p);
     k.network = v;

@@ -4,21 +4,17 @@ use Prim.Native.Nat.{ℕ, _<_}
 use mathlib.Core.Path.{_≡_, refl, ap, _∙_}
 use mathlib.Core.List.{List, [], _∷_}
 use lib.Dec.{lit≤}
-use Rattle.names.specs.Size.{ends}
 use Rattle.tokens.specs.Header.{headerOf, words}
 use Rattle.tokens.specs.declared.header.Header.{Header}
 use Rattle.tokens.specs.declared.header.Header.the-variants as H
 use Rattle.tokens.specs.declared.header.Target.{Target}
-use Rattle.circuits.specs.Circuit.{ofPeer}
-use Rattle.circuits.specs.declared.Circuit.{Circuit}
+use Rattle.circuits.specs.declared.Peer.{Peer}
 use Rattle.circuits.specs.declared.Peer.the-variants as Peers
-use Rattle.cells.specs.View.{Net, withEnd}
-use Rattle.cells.specs.Changes.{claimAs, sendingAs}
-use Rattle.cells.specs.declared.end.End.{End}
+use Rattle.cells.specs.View.{Net}
 use Rattle.cells.specs.World.{World}
-use Rattle.acts.specs.Acts.{Room, pushed, pushedAll, widthAt, kept, still}
+use Rattle.acts.specs.Acts.{Room, pushed, pushedAll, widthAt, networked, still, claimedBy, handed, sendsTo}
 use Rattle.acts.proofs.Pushes.{less, room-left}
-use Rattle.ends.specs.Output.{goesBy, networked, opensBy, goesBehind, claims, goesStraight}
+use Rattle.ends.specs.Output.{goesBy, opensBy, goesBehind, goesStraight}
 
 -- a push leaves the number of nodes
 pushed-nodes : (w : World) (n p t : ℕ) → pushed w n p t .net .nodes ≡ w .net .nodes
@@ -70,19 +66,14 @@ opens-gives w s y z m n c p t v g h a b e d f =
       memory = ap (λ (x : World). x .memory) q j;
     }
 
-pub straight-gives : (s y z : Net) (n c d t : ℕ) (k far : End) (a b : Circuit)
-    → k ≡ s .ends n d
-    → far ≡ kept k t
-    → a ≡ still t (ofPeer (Peers.End c))
-    → y ≡ withEnd s n d (claimAs far a)
-    → b ≡ still t (ofPeer (Peers.End d))
-    → z ≡ withEnd y n c (sendingAs (y .ends n c) b)
-    → z ≡ goesStraight s n c d t
-straight-gives s y z n c d t k far a b hk hf ha hy hb hz =
-    let q : y ≡ claims s n c d t =
-    hy
-    ∙ ap (λ (x : End). withEnd s n d (claimAs x a)) (hf ∙ ap (λ (x : End). kept x t) hk)
-    ∙ ap (λ (x : Circuit). withEnd s n d (claimAs (kept (s .ends n d) t) x)) ha in
-    hz
-    ∙ ap (λ (x : Circuit). withEnd y n c (sendingAs (y .ends n c) x)) hb
-    ∙ ap (λ (x : Net). withEnd x n c (sendingAs (x .ends n c) (still t (ofPeer (Peers.End d))))) q
+pub straight-gives : (s y z v : Net) (n c d t : ℕ) (a b : Peer)
+    → y ≡ handed s n d t
+    → a ≡ still t (Peers.End c)
+    → z ≡ claimedBy y n d a
+    → b ≡ still t (Peers.End d)
+    → v ≡ sendsTo z n c b
+    → v ≡ goesStraight s n c d t
+straight-gives s y z v n c d t a b hy ha hz hb hv =
+    let q : z ≡ claimedBy (handed s n d t) n d (still t (Peers.End c)) =
+    hz ∙ ap (claimedBy y n d) ha ∙ ap (λ (x : Net). claimedBy x n d (still t (Peers.End c))) hy in
+    hv ∙ ap (sendsTo z n c) hb ∙ ap (λ (x : Net). sendsTo x n c (still t (Peers.End d))) q

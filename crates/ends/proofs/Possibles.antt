@@ -1,20 +1,19 @@
 -- The plan of an Output on a sound state can be carried out. Assumes nothing.
 use Prim.{tt}
 use Prim.Native.Nat.{ℕ, _+_, _-_, _<_, _≤_}
-use mathlib.Core.Path.{_≡_, sym, _∙_}
-use mathlib.Core.Bool.{true, false, not, _&&_, _||_}
+use mathlib.Core.Path.{_≡_}
+use mathlib.Core.Bool.{true, false, not, _||_}
 use mathlib.Core.Logic.{inl, inr, ⊎-elim}
 use native.Mathlib.Omega.{arith}
 use lib.Dec.{eqb, ltb, leb}
-use borrow.Author.Tests.{eqb-true, eqb-false, eq-eqb, leb-false, not-false}
+use borrow.Author.Tests.{eqb-true, eqb-false, leb-false, not-false}
 use Rattle.laws.proofs.All.{also, as-is, either, equal, below, Sought, fails, passes, seek}
-use Rattle.laws.proofs.Order.{by-test, clash}
-use Rattle.names.specs.Size.{links, replyPort, ports, ends, endBuffer, sink}
+use Rattle.laws.proofs.Order.{by-test}
+use Rattle.names.specs.Size.{links, replyPort, ports, ends, sink}
 use Rattle.circuits.specs.Circuit.{peerOf}
 use Rattle.circuits.specs.declared.Peer.{Peer}
 use Rattle.circuits.specs.declared.Peer.the-variants as Peers
 use Rattle.tokens.specs.Header.{headerOf, isNarrow, legalTarget}
-use Rattle.tokens.specs.Word.{isPause}
 use Rattle.tokens.specs.declared.header.Target.{Target}
 use Rattle.tokens.specs.declared.header.Target.the-variants.{Channel, Unit}
 use Rattle.routing.specs.Way.{wayTo}
@@ -26,16 +25,20 @@ use Rattle.cells.specs.declared.end.End.{End}
 use Rattle.clauses.specs.Counts.{tilePort}
 use Rattle.clauses.specs.Pairs.{taken, openBy}
 use Rattle.clauses.proofs.Meanings.{AimFacts}
-use Rattle.acts.specs.Acts.{Room, Keeps, widthAt, numberAt}
+use Rattle.acts.specs.Acts.{widthAt, numberAt, channelClaimed, channelFull, Room, Door}
+use Rattle.acts.proofs.Doors.{given-room}
 use Rattle.sound.specs.Sound.{sound}
 use Rattle.sound.proofs.Facts.{end-facts, open-facts, fair, reaches}
 use Rattle.ends.specs.Ends.{endAt}
-use Rattle.ends.specs.Plan.{AimFits, Fits, targetOf, lowestFree, portPlan, straightPlan, channelPlan, byWay, targetPlan, openPlan, behindPlan, onPlan, byPeer, planOf}
+use Rattle.ends.specs.Plan.{AimFits, Fits, targetOf, lowestFree, portPlan, straightPlan, channelPlan, byWay, targetPlan, openPlan, behindPlan, byPeer, planOf}
 use Rattle.ends.specs.Output.{Possible, Sends}
 use Rattle.ends.proofs.There.{is-there}
 
 one-not-two : {a : ℕ} → a ≡ 1 → a ≡ 2 → ⊥
 one-not-two e f = omega arith
+
+legal-door : (d : ℕ) → (ltb d ends || eqb d sink) ≡ true → Door d
+legal-door d l = ⊎-elim (λ h. inr h) (λ h. inl h) (either (below d ends) (equal d sink) .sure l)
 
 module _ (w : World) (n c t : ℕ) (g : Target) (s : Sends w n c g) where
   -- a port of the node, with room
@@ -57,34 +60,19 @@ module _ (w : World) (n c t : ℕ) (g : Target) (s : Sends w n c g) where
       found ne (fails h e) = free-room e h
       found ne (passes q h) = absurd (ne q)
 
-  straight-possible : (d : ℕ) → d < ends → Possible w n t (straightPlan (w .net) n d t)
+  straight-possible : (d : ℕ) → Door d → Possible w n t (straightPlan (w .net) n d t)
   straight-possible d h =
-      by-test (leb endBuffer (w .net .ends n d .held) && not (isPause t))
-      (λ e. rw e tt)
-      (λ e. rw e (h, keeps e))
-    where
-      keeps : (leb endBuffer (w .net .ends n d .held) && not (isPause t)) ≡ false → Keeps (w .net .ends n d) t
-      keeps e =
-          by-test (isPause t)
-          (λ f. inl f)
-          (λ f. inr (by-test (leb endBuffer (w .net .ends n d .held))
-          (λ q. clash (rw (q, f) at e))
-          (λ q. omega (arith, leb-false endBuffer (w .net .ends n d .held) q))))
+      by-test (channelFull (w .net) n d t) (λ e. rw e tt) (λ e. rw e (given-room (w .net) n d t h e))
 
-  channel-possible : (d : ℕ) → (ltb d ends || eqb d sink) ≡ true → Possible w n t (channelPlan (w .net) n d t)
-  channel-possible d l =
-      by-test (eqb d sink)
-      (λ e. rw e tt)
-      (λ e. rw e (by-test (not (eqb (w .net .ends n d .claim .kind) 0))
-      (λ f. rw f tt)
-      (λ f. rw f (straight-possible d (⊎-elim (λ h. h) (λ q. clash (sym (eq-eqb d sink q) ∙ e)) (either (below d ends) (equal d sink) .sure l))))))
+  channel-possible : (d : ℕ) → Door d → Possible w n t (channelPlan (w .net) n d t)
+  channel-possible d h = by-test (channelClaimed (w .net) n d) (λ e. rw e tt) (λ e. rw e (straight-possible d h))
 
-  way-possible : (y : Way) (d : ℕ) → (ltb d ends || eqb d sink) ≡ true → Possible w n t (byWay (w .net) n y d t)
+  way-possible : (y : Way) (d : ℕ) → Door d → Possible w n t (byWay (w .net) n y d t)
   way-possible ThisNode d l = channel-possible d l
   way-possible (OtherNode b) d l = port-possible
 
   target-possible : (x : Target) → legalTarget x ≡ true → Possible w n t (targetPlan (w .net) n x t)
-  target-possible (Channel m d) l = way-possible (wayTo (widthAt (w .net) n) m (numberAt (w .net) n)) d l
+  target-possible (Channel m d) l = way-possible (wayTo (widthAt (w .net) n) m (numberAt (w .net) n)) d (legal-door d l)
   target-possible (Unit m) l = port-possible
 
   open-possible : legalTarget g ≡ true → Possible w n t (openPlan (w .net) n g t)
@@ -98,16 +86,10 @@ module _ (w : World) (n c t : ℕ) (g : Target) (s : Sends w n c g) where
       (λ e. rw e tt)
       (λ e. rw e (roomy p 1 (omega (arith, z .1)) (omega (arith, leb-false capacity (w .net .ports n p .counters .held) e))))
 
-  on-possible : (d : ℕ) → (eqb d sink || ltb d ends) ≡ true → Possible w n t (onPlan (w .net) n d t)
-  on-possible d h =
-      by-test (eqb d sink)
-      (λ e. rw e tt)
-      (λ e. rw e (straight-possible d (⊎-elim (λ q. clash (sym (eq-eqb d sink q) ∙ e)) (λ q. q) (either (equal d sink) (below d ends) .sure h))))
-
   peer-possible : (x : Peer) → openBy (w .net) n x ≡ true → legalTarget g ≡ true → Possible w n t (byPeer (w .net) n x g t)
   peer-possible Peers.Nobody h l = open-possible l
   peer-possible (Peers.Port p) h l = behind-possible p (also (as-is (tilePort p)) (as-is (taken (w .net) n p)) .sure h .0)
-  peer-possible (Peers.End d) h l = on-possible d h
+  peer-possible (Peers.End d) h l = straight-possible d (either (equal d sink) (below d ends) .sure h)
 
   -- a channel-end that is open goes where it can go
   opened : openBy (w .net) n (peerOf (w .net .ends n c .sending)) ≡ true

@@ -3,7 +3,8 @@ use crate::Token;
 use crate::end_at;
 use crate::plan::Plan;
 use crate::plan::plan_of;
-use acts::keep;
+use acts::circuit::claim;
+use acts::give;
 use acts::push;
 use acts::push_header;
 use acts::set_network;
@@ -15,14 +16,12 @@ use answers::Answer;
 use cells::end;
 use cells::end::End;
 use circuits::Peer;
-use circuits::of_peer;
 use names::NodeNumber;
 use names::Slot;
 use names::no::FULL;
 use names::no::NARROW;
 use names::no::NO_SUCH;
 use names::no::UNAIMED;
-use names::size::SINK;
 use tokens::control::output_no;
 use tokens::header::Header;
 use tokens::header::Target;
@@ -33,14 +32,15 @@ ghost use mathlib.Core.Path.{_≡_};
 ghost use mathlib.Core.Bool.{true};
 ghost use Prim.Native.Nat.{_<_};
 ghost use Rattle.names.specs.Size.{ports, ends};
-ghost use Rattle.answers.specs.Out.{out};
-ghost use Rattle.acts.specs.Acts.{Room, pushed, pushedAll, Keeps};
+ghost use Rattle.answers.specs.Out.{out, attempt};
+ghost use Rattle.answers.specs.declared.Answer.the-variants.{Done};
+ghost use Rattle.acts.specs.Acts.{Room, pushed, pushedAll, Given};
 ghost use Rattle.tokens.specs.Header.{words};
 ghost use Rattle.cells.specs.View.{view};
 ghost use Rattle.cells.specs.World.{world};
 ghost use Rattle.sound.specs.Sound.{sound};
 ghost use Rattle.ends.specs.Plan.{AimFits, Fits, targetOf, destinationOf};
-ghost use Rattle.ends.specs.Output.{wordOf, isUnit, tokenNo, goesBy, goesStraight, forgets, opensBy, goesBehind, Possible, carried, Sends, sent, output};
+ghost use Rattle.ends.specs.Output.{wordOf, isUnit, tokenNo, goesBy, opensBy, goesBehind, goesStraight, performed, planRows, sendRows, sent, output, Possible, Sends};
 
 // A channel-end's destination.
 pub enum Destination {
@@ -102,10 +102,8 @@ fn go_by(st: &mut [u32], slot: Slot, c: usize, p: usize, word: u16)
     requires { ⌜ (slot .0 < view (now st) .nodes) × (c < ends) × (p < ports) ⌝ }
     ensures { λ r. ⌜ view (now (st .exit)) ≡ goesBy (view (now (st .entry))) (slot .0) c p word ⌝ }
 {
-    let sender = still(word, of_peer(Peer::End(c as u32)));
-    let sending = still(word, of_peer(Peer::Port(p as u32)));
-    set_sender(st, slot, p, sender);
-    set_sending(st, slot, c, sending);
+    set_sender(st, slot, p, still(word, Peer::End(c as u32)));
+    set_sending(st, slot, c, still(word, Peer::Port(p as u32)));
 }
 
 // Header and token into the port that is taken.
@@ -138,23 +136,14 @@ fn go_behind(st: &mut [u32], mem: &mut [u16], slot: Slot, c: usize, p: usize, wo
     go_by(st, slot, c, p, word);
 }
 
-// Straight to channel-end d, which is claimed until this word closes the circuit.
+// Straight to channel d, which is claimed until this word closes the circuit.
 fn go_straight(st: &mut [u32], slot: Slot, c: usize, d: usize, word: u16)
-    requires { ⌜ (slot .0 < view (now st) .nodes) × (c < ends) × (d < ends) × Keeps (view (now st) .ends (slot .0) d) word ⌝ }
+    requires { ⌜ (slot .0 < view (now st) .nodes) × (c < ends) × Given (view (now st)) (slot .0) d word ⌝ }
     ensures { λ r. ⌜ view (now (st .exit)) ≡ goesStraight (view (now (st .entry))) (slot .0) c d word ⌝ }
 {
-    let mut far = keep(end::at(st, slot, d), word);
-    far.claim = still(word, of_peer(Peer::End(c as u32)));
-    end::put(st, slot, d, far);
-    set_sending(st, slot, c, still(word, of_peer(Peer::End(d as u32))));
-}
-
-// To the sink of the node.
-fn forget(st: &mut [u32], slot: Slot, c: usize, word: u16)
-    requires { ⌜ (slot .0 < view (now st) .nodes) × (c < ends) ⌝ }
-    ensures { λ r. ⌜ view (now (st .exit)) ≡ forgets (view (now (st .entry))) (slot .0) c word ⌝ }
-{
-    set_sending(st, slot, c, still(word, of_peer(Peer::End(SINK))));
+    give(st, slot, d, word);
+    claim(st, slot, d, still(word, Peer::End(c as u32)));
+    set_sending(st, slot, c, still(word, Peer::End(d as u32)));
 }
 
 // A plan carried out.
@@ -168,7 +157,7 @@ fn carry(
     plan: Plan,
 ) -> Answer
     requires { ⌜ (slot .0 < view (now st) .nodes) × (c < ends) × Possible (world (now st) (now mem)) (slot .0) word plan ⌝ }
-    ensures { λ r. ⌜ out r (world (now (st .exit)) (now (mem .exit))) ≡ carried (world (now (st .entry)) (now (mem .entry))) (slot .0) c g word plan ⌝ }
+    ensures { λ r. ⌜ out r (world (now (st .exit)) (now (mem .exit))) ≡ attempt (planRows plan) (world (now (st .entry)) (now (mem .entry))) (out Done (performed (world (now (st .entry)) (now (mem .entry))) (slot .0) c g word plan)) ⌝ }
 {
     match plan {
         Plan::Narrow => return Answer::No(NARROW),
@@ -176,7 +165,6 @@ fn carry(
         Plan::Opens(p) => open_by(st, mem, slot, c, g, p, word),
         Plan::Behind(p) => go_behind(st, mem, slot, c, p, word),
         Plan::Straight(d) => go_straight(st, slot, c, d, word),
-        Plan::Forgotten => forget(st, slot, c, word),
     }
     Answer::Done
 }
@@ -184,7 +172,7 @@ fn carry(
 // A token towards a destination.
 fn send(st: &mut [u32], mem: &mut [u16], slot: Slot, c: usize, g: Target, x: Token) -> Answer
     requires { ⌜ Sends (world (now st) (now mem)) (slot .0) c g ⌝ }
-    ensures { λ r. ⌜ out r (world (now (st .exit)) (now (mem .exit))) ≡ sent (world (now (st .entry)) (now (mem .entry))) (slot .0) c g x ⌝ }
+    ensures { λ r. ⌜ out r (world (now (st .exit)) (now (mem .exit))) ≡ attempt (sendRows (view (now (st .entry))) (slot .0) c g x) (world (now (st .entry)) (now (mem .entry))) (out Done (sent (world (now (st .entry)) (now (mem .entry))) (slot .0) c g x)) ⌝ }
 {
     let no = token_no(x, g);
     if no != 0 {

@@ -1,15 +1,15 @@
 -- "What a Step does" (document 01), decided: read off the state and the port's tokens, with nothing changed.
 use Prim.Native.Nat.{ℕ}
 use mathlib.Core.Bool.{Bool, true, false, not, _&&_, _||_}
-use lib.Dec.{eqb, ltb, leb}
+use lib.Dec.{eqb, ltb}
 use Rattle.laws.specs.Pick.{pick}
 use Rattle.laws.specs.All.{failing}
-use Rattle.names.specs.Size.{links, tileLinks, replyPort, endBuffer, sink}
+use Rattle.names.specs.Size.{links, tileLinks, replyPort}
 use Rattle.names.specs.declared.NodeNumber.{NodeNumber}
 use Rattle.circuits.specs.declared.Cause.the-variants.{Split, NoRoute}
 use Rattle.circuits.specs.declared.Hop.{Hop}
 use Rattle.circuits.specs.declared.Hop.the-variants as Hops
-use Rattle.tokens.specs.Word.{isThree, isPause}
+use Rattle.tokens.specs.Word.{isThree}
 use Rattle.tokens.specs.Header.{readOne, readThree}
 use Rattle.tokens.specs.declared.header.Width.{Width}
 use Rattle.tokens.specs.declared.header.Width.the-variants.{One, Three}
@@ -22,7 +22,7 @@ use Rattle.routing.specs.declared.way.Way.the-variants.{ThisNode, OtherNode}
 use Rattle.cells.specs.View.{Net}
 use Rattle.cells.specs.World.{World, hop}
 use Rattle.clauses.specs.Cables.{enabled}
-use Rattle.acts.specs.Acts.{widthAt, numberAt, wordAt}
+use Rattle.acts.specs.Acts.{widthAt, numberAt, wordAt, channelClaimed, channelFull}
 use Rattle.plans.specs.declared.Plan.{Plan}
 use Rattle.plans.specs.declared.Plan.the-variants.{Idle, Wait, OpenOut, OpenChannel, OpenUnit, Refuse, MoveOut, Hand, Hear, Drop}
 
@@ -79,7 +79,7 @@ lowestTile s n = failing tileLinks 0 (tileUsed s n)
 abbrev pub channelPlan : Net → ℕ → ℕ → Plan
 channelPlan s n c =
     pick (eqb (lowestTile s n) tileLinks) Wait
-    (pick (not (eqb c sink) && not (eqb (s .ends n c .claim .kind) 0)) Wait (OpenChannel c (lowestTile s n)))
+    (pick (channelClaimed s n c) Wait (OpenChannel c (lowestTile s n)))
 
 -- "Waiting while it serves a circuit or port 12 is not empty, else Opened"
 abbrev pub unitPlan : Net → ℕ → Plan
@@ -115,7 +115,7 @@ outPlan s n l = pick (eqb (s .links n l .credit) 0) Wait (MoveOut l)
 
 -- "To a channel: Waiting if 8 are held, unless it is PAUSE or the channel is the sink, else Moved."
 abbrev pub handPlan : Net → ℕ → ℕ → ℕ → ℕ → Plan
-handPlan s n c t x = pick (not (eqb c sink) && (leb endBuffer (s .ends n c .held) && not (isPause x))) Wait (Hand c t)
+handPlan s n c t x = pick (channelFull s n c x) Wait (Hand c t)
 
 abbrev pub byHop : World → ℕ → ℕ → Hop → Plan
 byHop w n p Hops.Shut = headerPlan w n p

@@ -10,10 +10,11 @@ use crate::read::number_in;
 use crate::read::same_width;
 use crate::read::size_of;
 use crate::read::target_at;
+use acts::channel_full;
+use acts::circuit::channel_claimed;
 use acts::number_at;
 use acts::width_at;
 use acts::word_at;
-use cells::end;
 use cells::link;
 use cells::node;
 use cells::port;
@@ -22,24 +23,18 @@ use circuits::Cause;
 use circuits::Hop;
 use circuits::hop_of;
 use names::Slot;
-use names::size::END_BUFFER;
 use names::size::LINKS;
 use names::size::REPLY_PORT;
-use names::size::SINK;
 use names::size::TILE_LINKS;
 use routing::way::Way;
 use routing::way::way_to;
 use tokens::header::Target;
-use tokens::word::is_pause;
 ghost use mathlib.Core.Path.{_≡_};
 ghost use Prim.Native.Nat.{_<_};
 ghost use Rattle.acts.specs.Acts.{Holds};
 ghost use Rattle.cells.specs.View.{view};
 ghost use Rattle.cells.specs.World.{world};
 ghost use Rattle.plans.specs.Plan.{routePlan, channelPlan, unitPlan, herePlan, byWay, wayPlan, headerPlan, outPlan, handPlan, byHop, planOf};
-
-// What a channel-end holds at most, beside words of 32 bits.
-const BUFFER: u32 = END_BUFFER as u32;
 
 pub enum Plan {
     // nothing is held
@@ -86,9 +81,7 @@ fn channel_plan(st: &[u32], slot: Slot, c: usize) -> Plan
     if t == TILE_LINKS {
         return Plan::Wait;
     }
-    let k = end::at(st, slot, c);
-    let claimed = !(c == SINK as usize) & !(k.claim.kind == 0);
-    if claimed {
+    if channel_claimed(st, slot, c) {
         return Plan::Wait;
     }
     Plan::OpenChannel(c, t)
@@ -168,9 +161,7 @@ fn out_plan(st: &[u32], slot: Slot, l: usize) -> Plan
 fn hand_plan(st: &[u32], slot: Slot, c: usize, t: usize, word: u16) -> Plan
     ensures { λ r. ⌜ r ≡ handPlan (view (now (st .entry))) (slot .0) c t word ⌝ }
 {
-    let k = end::at(st, slot, c);
-    let full = !(c == SINK as usize) & ((BUFFER <= k.held) & !is_pause(word));
-    if full {
+    if channel_full(st, slot, c, word) {
         return Plan::Wait;
     }
     Plan::Hand(c, t)

@@ -5,14 +5,13 @@ use Prim.Native.Nat.{ℕ, _+_, _<_, _≤_}
 use mathlib.Core.Path.{_≡_, refl, sym, ap, _∙_}
 use mathlib.Core.Bool.{true, false}
 use mathlib.Core.List.{List}
-use mathlib.Core.Logic.{inl, inr, ⊎-elim}
 use native.Mathlib.Omega.{arith}
 use lib.Dec.{eqb, ltb}
 use lib.ListN.{length-set}
 use Rattle.laws.specs.Table.{upd}
 use Rattle.laws.proofs.Order.{by-test}
 use Rattle.laws.proofs.Table.{upd-same, upd-all}
-use Rattle.names.specs.Size.{links, ports, replyPort, sink, ends}
+use Rattle.names.specs.Size.{links, ports, replyPort, sink}
 use Rattle.circuits.specs.Circuit.{ofPeer, ofHop, tileOf}
 use Rattle.circuits.specs.declared.Hop.{Hop}
 use Rattle.circuits.specs.declared.Hop.the-variants as Hops
@@ -26,13 +25,13 @@ use Rattle.cells.specs.Changes.{countersAs, circuitAs, userAs}
 use Rattle.cells.specs.declared.port.Port.{Port}
 use Rattle.cells.specs.declared.link.Far.{Far}
 use Rattle.cells.specs.declared.link.Far.the-variants.{Nowhere, At}
-use Rattle.acts.specs.Acts.{Room, Holds, pushed, popped, withNet, firstAt, hopped, shutPort, shut}
+use Rattle.acts.specs.Acts.{Room, Holds, pushed, popped, withNet, firstAt, hopped, shutPort, shut, Given}
 use Rattle.grants.specs.Grants.{considered}
 use Rattle.answers.specs.Out.{Out, out}
 use Rattle.answers.specs.declared.Answer.the-variants.{Moved}
 use Rattle.messages.specs.Heard.{listens}
 use Rattle.messages.specs.Ended.{longest, Ready, ended}
-use Rattle.switch.specs.Step.{consideredAt, grantsUp, took, closesOut, closesUnit, paid, arrives, crosses, movesOut, gives, Given, hears, Door, FarRoom, Takes, opensChannel, opensUnit}
+use Rattle.switch.specs.Step.{consideredAt, grantsUp, took, closesOut, closesUnit, paid, arrives, crosses, movesOut, hears, FarRoom, Takes, opensChannel, opensUnit}
 use Rattle.switch.proofs.Takes.{up-nodes, up-ports, up-far}
 
 -- counters of a port that can take k more tokens
@@ -191,13 +190,6 @@ pub moves-gives : (w z y : World) (n p l x : ℕ) → x ≡ firstAt w n p
     → z ≡ movesOut w n p l
 moves-gives w z y n p l x q d h =
     h ∙ ap (crosses y n l) q ∙ ap (λ (v : World). crosses v n l (firstAt w n p)) d
-
--- a channel that is given a token
-pub gives-nodes : (s : Net) (n c x : ℕ) → gives s n c x .nodes ≡ s .nodes
-gives-nodes s n c x = by-test (eqb c sink) (λ e. rw e) (λ e. rw e)
-
-pub door : (s : Net) (n c x : ℕ) → Given s n c x → Door c
-door s n c x g = ⊎-elim (λ e. inl e) (λ h. inr (h .0)) g
 
 -- A circuit that opens leaves what there is to take
 hopped-counters : (s : Net) (n p : ℕ) (h : Hop) → hopped s n p h .ports n p .counters ≡ s .ports n p .counters

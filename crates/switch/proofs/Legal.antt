@@ -29,11 +29,10 @@ use Rattle.grammar.specs.Walk.{walk}
 use Rattle.grammar.specs.declared.stage.Stage.{Stage}
 use Rattle.grammar.specs.declared.stage.Stage.the-variants.{Bad, Fresh, Body, OneDue, ThreeDue, TwoDue, LastDue}
 use Rattle.cells.specs.World.{World, hop, queue}
-use Rattle.acts.specs.Acts.{wordAt}
+use Rattle.acts.specs.Acts.{wordAt, Door}
 use Rattle.sound.specs.Sound.{sound}
 use Rattle.sound.proofs.Facts.{contents-facts}
 use Rattle.plans.specs.Plan.{targetAt}
-use Rattle.switch.specs.Step.{Door}
 
 -- by what a word is
 by-shape : (P : Shape → Type 0) (w : ℕ) → P S.Closing → P S.Body → P S.Wrong → (w < 0x300 → P S.OneByte) → (0x600 ≤ w → P (threeShape (w - 0x600))) → P (shapeOf w)

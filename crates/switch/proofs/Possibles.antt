@@ -2,20 +2,19 @@
 use Prim.{tt}
 use Prim.Native.Nat.{ℕ, _+_, _%_, _<_, _≤_}
 use mathlib.Core.Path.{_≡_, refl, sym, ap}
-use mathlib.Core.Bool.{true, false, not, _&&_, _||_}
+use mathlib.Core.Bool.{true, false, not, _||_}
 use mathlib.Core.Logic.{inl, inr, ⊎-elim}
 use native.Mathlib.Omega.{arith}
-use lib.Dec.{eqb, ltb, leb, lit≤}
+use lib.Dec.{eqb, ltb, lit≤}
 use lib.ListN.{getD}
-use borrow.Author.Tests.{eqb-true, eqb-false, ltb-true, ltb-false, leb-false}
+use borrow.Author.Tests.{eqb-true, eqb-false, ltb-true, ltb-false}
 use Rattle.laws.proofs.All.{Sought, fails, passes, seek}
 use Rattle.laws.proofs.Order.{by-test, clash, never}
-use Rattle.names.specs.Size.{links, ports, replyPort, tileLinks, ends, endBuffer, sink}
+use Rattle.names.specs.Size.{links, ports, replyPort, tileLinks, sink}
 use Rattle.circuits.specs.Circuit.{peerOf}
 use Rattle.circuits.specs.declared.Circuit.{Circuit}
 use Rattle.circuits.specs.declared.Hop.{Hop}
 use Rattle.circuits.specs.declared.Hop.the-variants as Hops
-use Rattle.tokens.specs.Word.{isPause}
 use Rattle.tokens.specs.declared.header.Width.{Width}
 use Rattle.tokens.specs.declared.header.Width.the-variants as Widths
 use Rattle.tokens.specs.declared.header.Target.{Target}
@@ -32,12 +31,13 @@ use Rattle.cells.specs.declared.link.Far.the-variants.{Nowhere, At}
 use Rattle.clauses.specs.declared.pairs.Role.the-variants.{PortLink, PortTile, PortUnit, PortClaim}
 use Rattle.clauses.specs.declared.pairs.Named.the-variants.{Nothing, One}
 use Rattle.clauses.specs.Pairs.{portOf}
-use Rattle.acts.specs.Acts.{widthAt, numberAt, wordAt, firstAt, Holds}
+use Rattle.acts.specs.Acts.{widthAt, numberAt, wordAt, firstAt, channelClaimed, channelFull, Holds, Door}
+use Rattle.acts.proofs.Doors.{given-room}
 use Rattle.messages.specs.Ended.{Ready}
 use Rattle.sound.specs.Sound.{sound}
 use Rattle.sound.proofs.Facts.{fair, reaches, cable-facts, room-facts, pair-facts, silent-facts}
 use Rattle.plans.specs.Plan.{markedWidth, sizeOf, sameWidth, targetAt, networkAt, lowestLink, routePlan, lowestTile, tileUsed, channelPlan, unitPlan, herePlan, numberIn, byWay, wayPlan, headerPlan, outPlan, handPlan, byHop, planOf}
-use Rattle.switch.specs.Step.{Takes, Door, Given, FarRoom, Possible}
+use Rattle.switch.specs.Step.{Takes, FarRoom, Possible}
 use Rattle.switch.proofs.Legal.{LegalDoor, legal-target}
 use Rattle.switch.proofs.Cabled.{cabled}
 
@@ -71,7 +71,7 @@ module _ (w : World) (s : sound w ≡ true) (n p : ℕ) (hn : n < w .net .nodes)
   channel-possible c d t =
       by-test (eqb (lowestTile (w .net) n) tileLinks)
       (λ e. rw e tt)
-      (λ e. rw e (by-test (not (eqb c sink) && not (eqb (w .net .ends n c .claim .kind) 0))
+      (λ e. rw e (by-test (channelClaimed (w .net) n c)
       (λ f. rw f tt)
       (λ f. rw f (tile-there (eqb-false _ _ e), d, t))))
 
@@ -138,20 +138,12 @@ module _ (w : World) (s : sound w ≡ true) (n p : ℕ) (hn : n < w .net .nodes)
   hand-possible c t h e =
       let tile = pair-facts w s n hn PortTile p hp t (rw e) .0 in
       let x = first (fair w s n hn p hp .head-in) in
-      by-test (not (eqb c sink) && (leb endBuffer (w .net .ends n c .held) && not (isPause (wordAt w n p 0))))
+      by-test (channelFull (w .net) n c (wordAt w n p 0))
       (λ f. rw f tt)
-      (λ f. rw f (tile, rw (← x) (given f), takes 1 h))
+      (λ f. rw f (tile, rw (← x) (given-room (w .net) n c (wordAt w n p 0) there f), takes 1 h))
     where
-      keeps : eqb c sink ≡ false → (leb endBuffer (w .net .ends n c .held) && not (isPause (wordAt w n p 0))) ≡ false → Given (w .net) n c (wordAt w n p 0)
-      keeps k f =
-          inr (
-            pair-facts w s n hn PortClaim p hp c (rw (e, k)) .0,
-            by-test (isPause (wordAt w n p 0)) (λ q. inl q)
-                (λ q. inr (by-test (leb endBuffer (w .net .ends n c .held)) (λ r. clash (rw (r, q) at f)) (λ r. omega (arith, leb-false endBuffer (w .net .ends n c .held) r)))),
-          )
-
-      given : (not (eqb c sink) && (leb endBuffer (w .net .ends n c .held) && not (isPause (wordAt w n p 0)))) ≡ false → Given (w .net) n c (wordAt w n p 0)
-      given f = by-test (eqb c sink) (λ k. inl (eqb-true c sink k)) (λ k. keeps k (rw k at f))
+      there : Door c
+      there = by-test (eqb c sink) (λ k. inl (eqb-true c sink k)) (λ k. inr (pair-facts w s n hn PortClaim p hp c (rw (e, k)) .0))
 
   -- to the control unit: port 12 is empty
   no-reply : hop (w .net) n p ≡ Hops.Unit → w .net .ports n replyPort .counters .held ≡ 0

@@ -1,26 +1,23 @@
 -- "What a Step does" (document 01), done: a plan carried out by the acts.
 use Prim.{Unit}
 use Prim.Native.Nat.{ℕ, _-_, _<_}
-use mathlib.Core.Path.{_≡_}
 use mathlib.Core.Bool.{Bool, not, _&&_}
 use mathlib.Core.List.{List, [], _∷_}
-use mathlib.Core.Logic.{_⊎_}
-use lib.Dec.{eqb, ltb}
+use lib.Dec.{ltb}
 use Rattle.laws.specs.Pick.{pick}
-use Rattle.names.specs.Size.{links, ports, tileLinks, ends, sink}
+use Rattle.names.specs.Size.{links, ports, tileLinks}
 use Rattle.circuits.specs.Circuit.{ofPeer}
-use Rattle.circuits.specs.declared.Peer.{Peer}
 use Rattle.circuits.specs.declared.Peer.the-variants as Peers
 use Rattle.circuits.specs.declared.Hop.the-variants as Hops
 use Rattle.tokens.specs.Word.{closes}
 use Rattle.tokens.specs.declared.header.Width.{Width}
 use Rattle.tokens.specs.declared.header.Width.the-variants.{One, Three}
-use Rattle.cells.specs.View.{Net, withLink, withEnd, withUnit}
+use Rattle.cells.specs.View.{Net, withLink, withUnit}
 use Rattle.cells.specs.World.{World, farOf}
 use Rattle.cells.specs.Changes.{creditAs, servesAs, heardAs}
 use Rattle.cells.specs.declared.link.Far.{Far}
 use Rattle.cells.specs.declared.link.Far.the-variants.{Nowhere, At}
-use Rattle.acts.specs.Acts.{withNet, widthAt, Room, pushed, Holds, firstAt, popped, hopped, shut, linkedTo, tiledTo, claimedBy, kept, Keeps}
+use Rattle.acts.specs.Acts.{withNet, widthAt, Room, pushed, Holds, firstAt, popped, hopped, shut, linkedTo, tiledTo, claimedBy, handed, Door, Given}
 use Rattle.grants.specs.Grants.{considered, Cabled}
 use Rattle.messages.specs.Heard.{listens}
 use Rattle.messages.specs.Ended.{ended, Ready}
@@ -57,13 +54,10 @@ stripped w n p Three = took (took (took w n p) n p) n p
 abbrev pub opensOut : Net → ℕ → ℕ → ℕ → Net
 opensOut s n p l = linkedTo (hopped s n p (Hops.Out l)) n l (Peers.Port p)
 
--- who a channel is claimed by: "the sink never is"
-abbrev pub claimedFor : Net → ℕ → ℕ → Peer → Net
-claimedFor s n c x = pick (eqb c sink) s (claimedBy s n c x)
-
+-- "this node's channel .. Opened"
 abbrev pub opensChannel : Net → ℕ → ℕ → ℕ → ℕ → Net
 opensChannel s n p c t =
-    claimedFor (tiledTo (hopped s n p (Hops.Channel c t)) n t (Peers.Port p)) n c (Peers.Port p)
+    claimedBy (tiledTo (hopped s n p (Hops.Channel c t)) n t (Peers.Port p)) n c (Peers.Port p)
 
 -- the control unit serves this port, and has heard nothing of its message
 abbrev pub serves : Net → ℕ → ℕ → Net
@@ -77,7 +71,7 @@ abbrev pub closesOut : Net → ℕ → ℕ → ℕ → ℕ → Net
 closesOut s n p l x = pick (closes x) (linkedTo (shut s n p) n l Peers.Nobody) s
 
 abbrev pub closesChannel : Net → ℕ → ℕ → ℕ → ℕ → ℕ → Net
-closesChannel s n p c t x = pick (closes x) (claimedFor (tiledTo (shut s n p) n t Peers.Nobody) n c Peers.Nobody) s
+closesChannel s n p c t x = pick (closes x) (claimedBy (tiledTo (shut s n p) n t Peers.Nobody) n c Peers.Nobody) s
 
 abbrev pub idle : Net → ℕ → Net
 idle s n = withUnit s n (servesAs (s .units n 0) (ofPeer Peers.Nobody))
@@ -107,13 +101,10 @@ abbrev pub movesOut : World → ℕ → ℕ → ℕ → World
 movesOut w n p l =
     crosses (withNet (took w n p) (closesOut (took w n p .net) n p l (firstAt w n p))) n l (firstAt w n p)
 
--- "PAUSE is never stored in a channel-end; END is." The sink forgets.
-abbrev pub gives : Net → ℕ → ℕ → ℕ → Net
-gives s n c x = pick (eqb c sink) s (withEnd s n c (kept (s .ends n c) x))
-
+-- "To a channel: .. Moved"
 abbrev pub hands : World → ℕ → ℕ → ℕ → ℕ → World
 hands w n p c t =
-    withNet (took w n p) (closesChannel (gives (took w n p .net) n c (firstAt w n p)) n p c t (firstAt w n p))
+    withNet (took w n p) (closesChannel (handed (took w n p .net) n c (firstAt w n p)) n p c t (firstAt w n p))
 
 -- "To the control unit: Moved, but for the two end answers": "The hop closes first, with any grant that the taking of its last token brings",
 -- and then the message is at its end
@@ -146,14 +137,6 @@ performed w n p (Drop x) = out (Answers.Dropped x) (drops w n p)
 pub record Takes (w : World) (n p k : ℕ) : Type 0 where
   pub holds : Holds w n p k
   pub up : Up (w .net) n p
-
--- the sink, or a channel-end that is there
-abbrev pub Door : ℕ → Type 0
-Door c = (c ≡ sink) ⊎ (c < ends)
-
--- .. that has room for what it keeps of a token
-abbrev pub Given : Net → ℕ → ℕ → ℕ → Type 0
-Given s n c x = (c ≡ sink) ⊎ ((c < ends) × Keeps (s .ends n c) x)
 
 -- where the cable of a link leads there is room for a token
 abbrev pub FarRoom : World → Far → Type 0

@@ -1,5 +1,5 @@
 // Circuits opened, and what they hold freed where END or PAUSE has passed.
-use acts::circuit::set_claim;
+use acts::circuit::claim;
 use acts::circuit::set_hop;
 use acts::circuit::set_tile_user;
 use acts::circuit::set_user;
@@ -9,13 +9,13 @@ use circuits::Hop;
 use circuits::Peer;
 use circuits::of_peer;
 use names::Slot;
-use names::size::SINK;
 use tokens::word::closes;
 ghost use mathlib.Core.Path.{_≡_};
 ghost use Prim.Native.Nat.{_<_};
 ghost use Rattle.names.specs.Size.{links, ports, tileLinks};
+ghost use Rattle.acts.specs.Acts.{Door};
 ghost use Rattle.cells.specs.View.{view};
-ghost use Rattle.switch.specs.Step.{opensOut, claimedFor, opensChannel, serves, opensUnit, closesOut, closesChannel, idle, closesUnit, closesDropped, Door};
+ghost use Rattle.switch.specs.Step.{opensOut, opensChannel, serves, opensUnit, closesOut, closesChannel, idle, closesUnit, closesDropped};
 
 // Outward by a link.
 pub fn open_out(st: &mut [u32], slot: Slot, p: usize, l: usize)
@@ -24,17 +24,6 @@ pub fn open_out(st: &mut [u32], slot: Slot, p: usize, l: usize)
 {
     set_hop(st, slot, p, Hop::Out(l as u32));
     set_user(st, slot, l, Peer::Port(p as u32));
-}
-
-// Who a channel is claimed by: the sink never is.
-fn claim(st: &mut [u32], slot: Slot, c: usize, x: Peer)
-    requires { ⌜ (slot .0 < view (now st) .nodes) × Door c ⌝ }
-    ensures { λ r. ⌜ view (now (st .exit)) ≡ claimedFor (view (now (st .entry))) (slot .0) c x ⌝ }
-{
-    if c == SINK as usize {
-        return;
-    }
-    set_claim(st, slot, c, x);
 }
 
 // To a channel by a tile link.

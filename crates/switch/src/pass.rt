@@ -4,10 +4,9 @@ use crate::open::close_dropped;
 use crate::open::close_out;
 use crate::open::close_unit;
 use crate::take::take;
-use acts::keep;
+use acts::give;
 use acts::push;
 use answers::Answer;
-use cells::end;
 use cells::link;
 use cells::link::Far;
 use cells::link::far_of;
@@ -15,17 +14,16 @@ use grants::consider;
 use messages::end_message;
 use messages::heard::listen;
 use names::Slot;
-use names::size::SINK;
 use tokens::word::closes;
 ghost use mathlib.Core.Path.{_≡_};
 ghost use Prim.Native.Nat.{_-_, _<_};
 ghost use Rattle.names.specs.Size.{links, ports, tileLinks};
 ghost use Rattle.cells.specs.View.{view};
 ghost use Rattle.cells.specs.World.{world, farOf};
-ghost use Rattle.acts.specs.Acts.{firstAt};
+ghost use Rattle.acts.specs.Acts.{firstAt, Given};
 ghost use Rattle.answers.specs.Out.{out};
 ghost use Rattle.messages.specs.Ended.{Ready};
-ghost use Rattle.switch.specs.Step.{paid, arrives, pays, crosses, movesOut, gives, Given, hands, hears, drops, Takes, Door, FarRoom};
+ghost use Rattle.switch.specs.Step.{paid, arrives, pays, crosses, movesOut, hands, hears, drops, Takes, FarRoom};
 
 // The token is put at the far end of the cable.
 fn arrive(st: &mut [u32], mem: &mut [u16], f: Far, word: u16)
@@ -76,18 +74,6 @@ pub fn move_out(st: &mut [u32], mem: &mut [u16], slot: Slot, p: usize, l: usize)
     let word = take(st, mem, slot, p);
     close_out(st, slot, p, l, word);
     cross(st, mem, slot, l, word);
-}
-
-// A channel is handed a token; the sink forgets it.
-fn give(st: &mut [u32], slot: Slot, c: usize, word: u16)
-    requires { ⌜ (slot .0 < view (now st) .nodes) × Given (view (now st)) (slot .0) c word ⌝ }
-    ensures { λ r. ⌜ view (now (st .exit)) ≡ gives (view (now (st .entry))) (slot .0) c word ⌝ }
-{
-    if c == SINK as usize {
-        return;
-    }
-    let k = keep(end::at(st, slot, c), word);
-    end::put(st, slot, c, k);
 }
 
 // "To a channel: .. Moved."

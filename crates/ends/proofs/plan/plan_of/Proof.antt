@@ -6,15 +6,24 @@ use Rattle.ends.proofs.plan.plan_of.Tie as tie
 
 returns : tie.Need-returns
 unfolding planOf
-returns c = rw (← c .before .before .before .before .at .ensures, ← c .before .before .before .peer-of .ensures, c .before .enum-told .given .1) (c .open-plan .ensures)
+returns c =
+    let told = c .before in
+    let read = told .before .before in
+    rw (← read .before .at .ensures, ← read .peer-of .ensures, told .enum-told .given .1) (c .open-plan .ensures)
 
 returns-2 : tie.Need-returns-2
 unfolding planOf
-returns-2 c = rw (← c .before .before .before .before .before .at .ensures, ← c .before .before .before .before .peer-of .ensures, c .before .before .p .given .1) (c .behind-plan .ensures)
+returns-2 c =
+    let told = c .before .before in
+    let read = told .before .before in
+    rw (← read .before .at .ensures, ← read .peer-of .ensures, told .p .given .1) (c .behind-plan .ensures)
 
 returns-3 : tie.Need-returns-3
 unfolding planOf
-returns-3 c = rw (← c .before .before .before .before .before .at .ensures, ← c .before .before .before .before .peer-of .ensures, c .before .before .d .given .1) (c .on-plan .ensures)
+returns-3 c =
+    let told = c .before .before in
+    let read = told .before .before in
+    rw (← read .before .at .ensures, ← read .peer-of .ensures, told .d .given .1) (c .straight-plan .ensures)
 
 pub plan-of-spec : {M : Type 1} → statement M
 plan-of-spec =
@@ -27,6 +36,7 @@ plan-of-spec =
     (λ c. search needs)
     (λ c. search needs)
     (λ c κs. search needs)
+    (λ c. search needs)
     (λ c. search needs)
     (λ c κs. search needs)
     returns

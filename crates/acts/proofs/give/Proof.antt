@@ -1,9 +1,9 @@
--- `switch::pass::give` meets its contract. Assumes nothing.
+-- `acts::give` meets its contract. Assumes nothing.
 use mathlib.Core.Logic.{⊎-elim}
 use borrow.Author.Needs.{needs}
 use borrow.Author.Tests.{eq-eqb, ne-eqb}
-use Rattle.switch.proofs.pass.give.Statement.{statement}
-use Rattle.switch.proofs.pass.give.Tie as tie
+use Rattle.acts.proofs.give.Statement.{statement}
+use Rattle.acts.proofs.give.Tie as tie
 
 returns : tie.Need-returns
 returns c = rw (eq-eqb _ _ (c .if1 .taken))
