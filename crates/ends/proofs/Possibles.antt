@@ -1,13 +1,14 @@
 -- The plan of an Output on a sound state can be carried out. Assumes nothing.
 use Prim.{tt}
-use Prim.Native.Nat.{ℕ, _+_, _-_, _<_, _≤_}
+use Prim.Native.Nat.{ℕ, _+_, _<_, _≤_}
 use mathlib.Core.Path.{_≡_}
 use mathlib.Core.Bool.{true, false, not, _||_}
 use mathlib.Core.Logic.{inl, inr, ⊎-elim}
 use native.Mathlib.Omega.{arith}
 use lib.Dec.{eqb, ltb, leb}
-use borrow.Author.Tests.{eqb-true, eqb-false, leb-false, not-false}
-use Rattle.laws.proofs.All.{also, as-is, either, equal, below, Sought, fails, passes, seek}
+use borrow.Author.Tests.{eqb-true, eqb-false, leb-false}
+use Rattle.laws.specs.All.{first}
+use Rattle.laws.proofs.All.{also, as-is, either, equal, below, first-passes, first-found}
 use Rattle.laws.proofs.Order.{by-test}
 use Rattle.names.specs.Size.{links, replyPort, ports, ends, sink}
 use Rattle.circuits.specs.Circuit.{peerOf}
@@ -30,12 +31,15 @@ use Rattle.acts.proofs.Doors.{given-room}
 use Rattle.sound.specs.Sound.{sound}
 use Rattle.sound.proofs.Facts.{end-facts, open-facts, fair, reaches}
 use Rattle.ends.specs.Ends.{endAt}
-use Rattle.ends.specs.Plan.{AimFits, Fits, targetOf, lowestFree, portPlan, straightPlan, channelPlan, byWay, targetPlan, openPlan, behindPlan, byPeer, planOf}
+use Rattle.ends.specs.Plan.{AimFits, Fits, targetOf, freePort, lowestFree, portPlan, straightPlan, channelPlan, byWay, targetPlan, openPlan, behindPlan, byPeer, planOf}
 use Rattle.ends.specs.Output.{Possible, Sends}
 use Rattle.ends.proofs.There.{is-there}
 
 one-not-two : {a : ℕ} → a ≡ 1 → a ≡ 2 → ⊥
 one-not-two e f = omega arith
+
+tile-there : (p : ℕ) → tilePort p ≡ true → p < ports
+tile-there p e = let z = also (as-is (leb links p)) (below p replyPort) .sure e in omega (arith, z .1)
 
 legal-door : (d : ℕ) → (ltb d ends || eqb d sink) ≡ true → Door d
 legal-door d l = ⊎-elim (λ h. inr h) (λ h. inl h) (either (below d ends) (equal d sink) .sure l)
@@ -45,20 +49,17 @@ module _ (w : World) (n c t : ℕ) (g : Target) (s : Sends w n c g) where
   roomy : (p k : ℕ) → p < ports → w .net .ports n p .counters .held + k ≤ capacity → Room w n p k
   roomy p k h r = record { node = s .node; port = h; fair = fair w (s .all) n (s .node) p h; room = r; reaches = reaches w (s .all) n (s .node) p h }
 
-  free-room : taken (w .net) n (lowestFree (w .net) n) ≡ false → lowestFree (w .net) n < replyPort → Room w n (lowestFree (w .net) n) 4
-  free-room e h =
-      let z = also (equal (w .net .ports n (lowestFree (w .net) n) .circuit .kind) 0) (equal (w .net .ports n (lowestFree (w .net) n) .counters .held) 0) .sure (not-false _ e) in
-      roomy (lowestFree (w .net) n) 4 (omega arith) (omega (arith, z .1))
+  free-room : (p : ℕ) → freePort (w .net) n p ≡ true → Room w n p 4
+  free-room p e =
+      let z = also (as-is (tilePort p)) (also (equal (w .net .ports n p .circuit .kind) 0) (equal (w .net .ports n p .counters .held) 0)) .sure e in
+      roomy p 4 (tile-there p (z .0)) (omega (arith, z .1 .1))
 
   port-possible : Possible w n t (portPlan (w .net) n)
   port-possible =
+      let f = freePort (w .net) n in
       by-test (eqb (lowestFree (w .net) n) replyPort)
       (λ e. rw e tt)
-      (λ e. rw e (found (eqb-false _ _ e) (seek (taken (w .net) n) (replyPort - links) links)))
-    where
-      found : (lowestFree (w .net) n ≡ replyPort → ⊥) → Sought (taken (w .net) n) (replyPort - links) links → Room w n (lowestFree (w .net) n) 4
-      found ne (fails h e) = free-room e h
-      found ne (passes q h) = absurd (ne q)
+      (λ e. rw e (free-room (first replyPort f) (first-passes f replyPort (first-found f replyPort (eqb-false _ _ e)))))
 
   straight-possible : (d : ℕ) → Door d → Possible w n t (straightPlan (w .net) n d t)
   straight-possible d h =
@@ -81,10 +82,9 @@ module _ (w : World) (n c t : ℕ) (g : Target) (s : Sends w n c g) where
 
   behind-possible : (p : ℕ) → tilePort p ≡ true → Possible w n t (behindPlan (w .net) n p)
   behind-possible p h =
-      let z = also (as-is (leb links p)) (below p replyPort) .sure h in
       by-test (leb capacity (w .net .ports n p .counters .held))
       (λ e. rw e tt)
-      (λ e. rw e (roomy p 1 (omega (arith, z .1)) (omega (arith, leb-false capacity (w .net .ports n p .counters .held) e))))
+      (λ e. rw e (roomy p 1 (tile-there p h) (omega (arith, leb-false capacity (w .net .ports n p .counters .held) e))))
 
   peer-possible : (x : Peer) → openBy (w .net) n x ≡ true → legalTarget g ≡ true → Possible w n t (byPeer (w .net) n x g t)
   peer-possible Peers.Nobody h l = open-possible l

@@ -1,10 +1,11 @@
 -- What an Output is to do (document 01, "Calls" and 9, 10 of "Numbers for no"): read off the state, with nothing changed.
-use Prim.Native.Nat.{ℕ, _-_, _<_}
+use Prim.Native.Nat.{ℕ, _<_}
 use mathlib.Core.Path.{_≡_}
+use mathlib.Core.Bool.{Bool, _&&_}
 use lib.Dec.{eqb, leb}
 use Rattle.laws.specs.Pick.{pick}
-use Rattle.laws.specs.All.{failing}
-use Rattle.names.specs.Size.{links, replyPort}
+use Rattle.laws.specs.All.{first}
+use Rattle.names.specs.Size.{replyPort}
 use Rattle.circuits.specs.Circuit.{peerOf}
 use Rattle.circuits.specs.declared.Peer.{Peer}
 use Rattle.circuits.specs.declared.Peer.the-variants as Peers
@@ -17,7 +18,7 @@ use Rattle.routing.specs.declared.way.Way.the-variants.{ThisNode, OtherNode}
 use Rattle.ports.specs.Queue.{capacity}
 use Rattle.cells.specs.View.{Net}
 use Rattle.cells.specs.declared.end.End.{End}
-use Rattle.clauses.specs.Pairs.{taken}
+use Rattle.clauses.specs.Counts.{tilePort, isFree}
 use Rattle.acts.specs.Acts.{widthAt, numberAt, channelClaimed, channelFull}
 use Rattle.ends.specs.declared.output.Destination.{Destination}
 use Rattle.ends.specs.declared.output.Destination.the-variants.{Unaimed, Aimed}
@@ -39,9 +40,12 @@ AimFits k = (k .number < 65536) × (k .aim ≡ 1 → k .channel < 256)
 abbrev pub Fits : End → Type 0
 Fits k = (k .aim ≡ 0 → ⊥) → AimFits k
 
--- "Otherwise the lowest free port 8..11 is taken"; the reply port where none is free
+-- "Otherwise the lowest free port 8..11 is taken"; the reply port, 12, where none is free
+abbrev pub freePort : Net → ℕ → ℕ → Bool
+freePort s n p = tilePort p && isFree (s .ports n p)
+
 abbrev pub lowestFree : Net → ℕ → ℕ
-lowestFree s n = failing (replyPort - links) links (taken s n)
+lowestFree s n = first replyPort (freePort s n)
 
 abbrev pub portPlan : Net → ℕ → Plan
 portPlan s n = pick (eqb (lowestFree s n) replyPort) Full (Opens (lowestFree s n))

@@ -3,7 +3,7 @@ use Prim.Native.Nat.{ℕ}
 use mathlib.Core.Bool.{Bool, true, false, not, _&&_, _||_}
 use lib.Dec.{eqb, ltb}
 use Rattle.laws.specs.Pick.{pick}
-use Rattle.laws.specs.All.{failing}
+use Rattle.laws.specs.All.{first}
 use Rattle.names.specs.Size.{links, tileLinks, replyPort}
 use Rattle.names.specs.declared.NodeNumber.{NodeNumber}
 use Rattle.circuits.specs.declared.Cause.the-variants.{Split, NoRoute}
@@ -53,27 +53,27 @@ networkAt s n p = pick (ltb p links) (s .links n p .network) (pick (eqb p replyP
 abbrev pub candidate : Net → ℕ → ℕ → ℕ → ℕ → Bool
 candidate s n d v l = enabled s n l && (eqb (s .links n l .direction) d && eqb (s .links n l .network) v)
 
--- a candidate, that no circuit uses outward if it is to be free
-abbrev pub suits : Net → ℕ → ℕ → ℕ → Bool → ℕ → Bool
-suits s n d v free l = candidate s n d v l && (not free || eqb (s .links n l .user .kind) 0)
+-- "in use outward"
+abbrev pub freeCandidate : Net → ℕ → ℕ → ℕ → ℕ → Bool
+freeCandidate s n d v l = candidate s n d v l && eqb (s .links n l .user .kind) 0
 
--- the lowest such link; 8 where there is none
-abbrev pub lowestLink : Net → ℕ → ℕ → ℕ → Bool → ℕ
-lowestLink s n d v free = failing links 0 (λ l. not (suits s n d v free l))
+-- "the lowest-numbered free one"; 8 where there is none
+abbrev pub lowestLink : Net → ℕ → ℕ → ℕ → ℕ
+lowestLink s n d v = first links (freeCandidate s n d v)
 
 -- "No candidate: the circuit is discarded, cause NoRoute. Candidates, all in use outward: it waits. Otherwise the lowest-numbered free one is
 -- taken"
 abbrev pub routePlan : Net → ℕ → ℕ → ℕ → Plan
 routePlan s n d v =
-    pick (ltb (lowestLink s n d v true) links) (OpenOut (lowestLink s n d v true))
-    (pick (ltb (lowestLink s n d v false) links) Wait (Refuse NoRoute))
+    pick (ltb (lowestLink s n d v) links) (OpenOut (lowestLink s n d v))
+    (pick (ltb (first links (candidate s n d v)) links) Wait (Refuse NoRoute))
 
 -- the lowest free tile link; 4 where there is none
-abbrev pub tileUsed : Net → ℕ → ℕ → Bool
-tileUsed s n t = not (eqb (s .tiles n t .user .kind) 0)
+abbrev pub tileFree : Net → ℕ → ℕ → Bool
+tileFree s n t = eqb (s .tiles n t .user .kind) 0
 
 abbrev pub lowestTile : Net → ℕ → ℕ
-lowestTile s n = failing tileLinks 0 (tileUsed s n)
+lowestTile s n = first tileLinks (tileFree s n)
 
 -- "Waiting if no tile link is free, then Waiting if the channel is claimed (the sink never is), else Opened"
 abbrev pub channelPlan : Net → ℕ → ℕ → Plan

@@ -8,7 +8,8 @@ use native.Mathlib.Omega.{arith}
 use lib.Dec.{eqb, ltb, lit≤}
 use lib.ListN.{getD}
 use borrow.Author.Tests.{eqb-true, eqb-false, ltb-true, ltb-false}
-use Rattle.laws.proofs.All.{Sought, fails, passes, seek}
+use Rattle.laws.specs.All.{first}
+use Rattle.laws.proofs.All.{first-found}
 use Rattle.laws.proofs.Order.{by-test, clash, never}
 use Rattle.names.specs.Size.{links, ports, replyPort, tileLinks, sink}
 use Rattle.circuits.specs.Circuit.{peerOf}
@@ -36,7 +37,7 @@ use Rattle.acts.proofs.Doors.{given-room}
 use Rattle.messages.specs.Ended.{Ready}
 use Rattle.sound.specs.Sound.{sound}
 use Rattle.sound.proofs.Facts.{fair, reaches, cable-facts, room-facts, pair-facts, silent-facts}
-use Rattle.plans.specs.Plan.{markedWidth, sizeOf, sameWidth, targetAt, networkAt, lowestLink, routePlan, lowestTile, tileUsed, channelPlan, unitPlan, herePlan, numberIn, byWay, wayPlan, headerPlan, outPlan, handPlan, byHop, planOf}
+use Rattle.plans.specs.Plan.{markedWidth, sizeOf, sameWidth, targetAt, networkAt, candidate, lowestLink, routePlan, lowestTile, tileFree, channelPlan, unitPlan, herePlan, numberIn, byWay, wayPlan, headerPlan, outPlan, handPlan, byHop, planOf}
 use Rattle.switch.specs.Step.{Takes, FarRoom, Possible}
 use Rattle.switch.proofs.Legal.{LegalDoor, legal-target}
 use Rattle.switch.proofs.Cabled.{cabled}
@@ -56,16 +57,9 @@ module _ (w : World) (s : sound w ≡ true) (n p : ℕ) (hn : n < w .net .nodes)
 
   route-possible : (d v : ℕ) → Possible w n p (routePlan (w .net) n d v)
   route-possible d v =
-      by-test (ltb (lowestLink (w .net) n d v true) links)
+      by-test (ltb (lowestLink (w .net) n d v) links)
       (λ e. rw e (ltb-true _ _ e))
-      (λ e. rw e (by-test (ltb (lowestLink (w .net) n d v false) links) (λ f. rw f tt) (λ f. rw f tt)))
-
-  tile-there : (lowestTile (w .net) n ≡ tileLinks → ⊥) → lowestTile (w .net) n < tileLinks
-  tile-there ne = found (seek (tileUsed (w .net) n) tileLinks 0)
-    where
-      found : Sought (tileUsed (w .net) n) tileLinks 0 → lowestTile (w .net) n < tileLinks
-      found (fails h e) = h
-      found (passes q h) = absurd (ne q)
+      (λ e. rw e (by-test (ltb (first links (candidate (w .net) n d v)) links) (λ f. rw f tt) (λ f. rw f tt)))
 
   channel-possible : (c : ℕ) → Door c → Takes w n p (sizeOf (widthAt (w .net) n)) → Possible w n p (channelPlan (w .net) n c)
   channel-possible c d t =
@@ -73,7 +67,7 @@ module _ (w : World) (s : sound w ≡ true) (n p : ℕ) (hn : n < w .net .nodes)
       (λ e. rw e tt)
       (λ e. rw e (by-test (channelClaimed (w .net) n c)
       (λ f. rw f tt)
-      (λ f. rw f (tile-there (eqb-false _ _ e), d, t))))
+      (λ f. rw f (first-found (tileFree (w .net) n) tileLinks (eqb-false _ _ e), d, t))))
 
   unit-possible : Takes w n p (sizeOf (widthAt (w .net) n)) → Possible w n p (unitPlan (w .net) n)
   unit-possible t =
@@ -129,15 +123,15 @@ module _ (w : World) (s : sound w ≡ true) (n p : ℕ) (hn : n < w .net .nodes)
       (λ f. rw f (there, takes 1 h, far-room l (farOf (w .net .links n l)) refl there (eqb-false _ _ f)))
 
   -- to a channel
-  first : w .net .ports n p .counters .head < capacity → wordAt w n p 0 ≡ firstAt w n p
-  first h =
+  oldest : w .net .ports n p .counters .head < capacity → wordAt w n p 0 ≡ firstAt w n p
+  oldest h =
       let e : (w .net .ports n p .counters .head + 0) % capacity ≡ w .net .ports n p .counters .head = omega arith in
       ap (λ (i : ℕ). getD (w .memory) (place n p + i) 0) e
 
   hand-possible : (c t : ℕ) → 1 ≤ w .net .ports n p .counters .held → hop (w .net) n p ≡ Hops.Channel c t → Possible w n p (handPlan (w .net) n c t (wordAt w n p 0))
   hand-possible c t h e =
       let tile = pair-facts w s n hn PortTile p hp t (rw e) .0 in
-      let x = first (fair w s n hn p hp .head-in) in
+      let x = oldest (fair w s n hn p hp .head-in) in
       by-test (channelFull (w .net) n c (wordAt w n p 0))
       (λ f. rw f tt)
       (λ f. rw f (tile, rw (← x) (given-room (w .net) n c (wordAt w n p 0) there f), takes 1 h))
