@@ -11,7 +11,8 @@ use Rattle.names.specs.Size.{endBuffer, sink}
 use Rattle.circuits.specs.declared.Peer.{Peer}
 use Rattle.tokens.specs.Word.{isPause}
 use Rattle.cells.specs.View.{Net}
-use Rattle.acts.specs.Acts.{claimedBy, channelFull, handed, Keeps, Door, Given}
+use Rattle.acts.specs.Acts.{claimedBy, channelFull, handed}
+use Rattle.acts.specs.Needs.{Keeps, Door, Given}
 
 module _ (s : Net) (n c : ℕ) where
   pub handed-nodes : (t : ℕ) → handed s n c t .nodes ≡ s .nodes

@@ -15,7 +15,8 @@ use Rattle.ports.specs.Memory.{place}
 use Rattle.cells.specs.World.{World}
 use Rattle.cells.specs.declared.port.Port.{Port}
 use Rattle.cells.specs.declared.end.End.{End}
-use Rattle.acts.specs.Acts.{Room, pushed, pushedAll, popped, Keeps}
+use Rattle.acts.specs.Acts.{pushed, pushedAll, popped}
+use Rattle.acts.specs.Needs.{Room, Keeps}
 
 -- room for k is room for less
 pub less : {w : World} {n p : ℕ} (k j : ℕ) → j ≤ k → Room w n p k → Room w n p j

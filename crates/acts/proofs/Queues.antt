@@ -7,7 +7,8 @@ use Rattle.ports.specs.Memory.{place, held, putMemory, takeMemory}
 use Rattle.ports.specs.declared.Counters.{Counters}
 use Rattle.ports.proofs.Stretches.{put-here, take-here}
 use Rattle.cells.specs.World.{World, queue}
-use Rattle.acts.specs.Acts.{Room, Holds, pushed, popped, firstAt}
+use Rattle.acts.specs.Acts.{pushed, popped, firstAt}
+use Rattle.acts.specs.Needs.{Room, Holds}
 use Rattle.acts.proofs.Pushes.{pushed-counters, popped-counters}
 
 pub pushed-queue : (w : World) (n p t : ℕ) → Room w n p 1 → queue (pushed w n p t) n p ≡ queue w n p ++ (t ∷ [])

@@ -1,13 +1,11 @@
 -- The acts that calls are composed of, each on one record of the state and at most one word of token memory.
-use Prim.Native.Nat.{ℕ, _+_, _%_, _<_, _≤_}
-use mathlib.Core.Path.{_≡_}
-use mathlib.Core.Bool.{Bool, true, not, _&&_}
+use Prim.Native.Nat.{ℕ, _+_, _%_}
+use mathlib.Core.Bool.{Bool, not, _&&_}
 use mathlib.Core.List.{List, [], _∷_}
-use mathlib.Core.Logic.{_⊎_}
 use lib.Dec.{eqb, leb}
-use lib.ListN.{length, getD, set}
+use lib.ListN.{getD, set}
 use Rattle.laws.specs.Pick.{pick}
-use Rattle.names.specs.Size.{ports, ends, endBuffer, sink}
+use Rattle.names.specs.Size.{endBuffer, sink}
 use Rattle.names.specs.declared.NodeNumber.{NodeNumber}
 use Rattle.circuits.specs.Circuit.{circuit, ofPeer, ofHop, tileOf}
 use Rattle.circuits.specs.declared.Peer.{Peer}
@@ -16,7 +14,7 @@ use Rattle.circuits.specs.declared.Hop.{Hop}
 use Rattle.tokens.specs.Word.{closes, isPause}
 use Rattle.tokens.specs.declared.header.Width.{Width}
 use Rattle.tokens.specs.declared.header.Width.the-variants.{One, Three}
-use Rattle.ports.specs.Queue.{capacity, Fair, putCounters, takeCounters}
+use Rattle.ports.specs.Queue.{capacity, putCounters, takeCounters}
 use Rattle.ports.specs.Memory.{place, putMemory, takeMemory, firstOf}
 use Rattle.cells.specs.View.{Net, withPort, withLink, withTile, withEnd}
 use Rattle.cells.specs.World.{World}
@@ -35,14 +33,6 @@ widthAt s n = pick (eqb (s .own n 0 .width) 1) One Three
 abbrev pub numberAt : Net → ℕ → NodeNumber
 numberAt s n = record { 0 = s .own n 0 .number }
 
--- port p of node n is there and can take k more tokens
-pub record Room (w : World) (n p k : ℕ) : Type 0 where
-  pub node : n < w .net .nodes
-  pub port : p < ports
-  pub fair : Fair (w .net .ports n p .counters)
-  pub room : w .net .ports n p .counters .held + k ≤ capacity
-  pub reaches : place n p + capacity ≤ length (w .memory)
-
 -- a token is put into a port, behind those held
 unfoldable pub pushed : World → ℕ → ℕ → ℕ → World
 pushed w n p t =
@@ -59,14 +49,6 @@ pushedAll w n p (t ∷ ts) = pushedAll (pushed w n p t) n p ts
 -- the i-th token of a port, oldest first
 abbrev pub wordAt : World → ℕ → ℕ → ℕ → ℕ
 wordAt w n p i = getD (w .memory) (place n p + (w .net .ports n p .counters .head + i) % capacity) 0
-
--- port p of node n is there and holds k tokens at least
-pub record Holds (w : World) (n p k : ℕ) : Type 0 where
-  pub node : n < w .net .nodes
-  pub port : p < ports
-  pub fair : Fair (w .net .ports n p .counters)
-  pub held : k ≤ w .net .ports n p .counters .held
-  pub reaches : place n p + capacity ≤ length (w .memory)
 
 -- the oldest token of a port is taken
 abbrev pub firstAt : World → ℕ → ℕ → ℕ
@@ -131,15 +113,3 @@ kept k t = pick (isPause t) k (heldAs k (k .held + 1) (set (k .tokens) (k .held)
 -- a channel is handed a token: "Channel 255 is the sink: it takes and forgets"
 abbrev pub handed : Net → ℕ → ℕ → ℕ → Net
 handed s n c t = pick (eqb c sink) s (withEnd s n c (kept (s .ends n c) t))
-
--- there is room for what is kept
-abbrev pub Keeps : End → ℕ → Type 0
-Keeps k t = (isPause t ≡ true) ⊎ (k .held < endBuffer)
-
--- the sink, or a channel-end that is there
-abbrev pub Door : ℕ → Type 0
-Door c = (c ≡ sink) ⊎ (c < ends)
-
--- .. that has room for what it keeps of a token
-abbrev pub Given : Net → ℕ → ℕ → ℕ → Type 0
-Given s n c t = (c ≡ sink) ⊎ ((c < ends) × Keeps (s .ends n c) t)

@@ -15,7 +15,8 @@ ghost use mathlib.Core.Path.{_≡_};
 ghost use Prim.Native.Nat.{_<_};
 ghost use Rattle.names.specs.Size.{links, ports, tileLinks};
 ghost use Rattle.cells.specs.View.{view};
-ghost use Rattle.acts.specs.Acts.{hopped, shutPort, shut, linkedTo, tiledTo, claimedBy, channelClaimed, Door};
+ghost use Rattle.acts.specs.Acts.{hopped, shutPort, shut, linkedTo, tiledTo, claimedBy, channelClaimed};
+ghost use Rattle.acts.specs.Needs.{Door};
 
 // Where a port's circuit goes.
 pub fn set_hop(st: &mut [u32], slot: Slot, p: usize, h: Hop)

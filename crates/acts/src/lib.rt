@@ -25,7 +25,8 @@ ghost use Rattle.names.specs.Size.{ports, ends};
 ghost use Rattle.tokens.specs.Header.{words};
 ghost use Rattle.cells.specs.View.{view};
 ghost use Rattle.cells.specs.World.{world};
-ghost use Rattle.acts.specs.Acts.{widthAt, numberAt, Room, pushed, pushedAll, Holds, wordAt, firstAt, popped, networked, sentBy, sendsTo, still, channelFull, Keeps, kept, Given, handed};
+ghost use Rattle.acts.specs.Acts.{widthAt, numberAt, pushed, pushedAll, wordAt, firstAt, popped, networked, sentBy, sendsTo, still, channelFull, kept, handed};
+ghost use Rattle.acts.specs.Needs.{NumberFits, Room, Holds, Keeps, Given};
 
 // What a channel-end holds at most, beside words of 32 bits.
 const BUFFER: u32 = END_BUFFER as u32;
@@ -43,7 +44,7 @@ pub fn width_at(st: &[u32], slot: Slot) -> Width
 
 // A node's number.
 pub fn number_at(st: &[u32], slot: Slot) -> NodeNumber
-    requires { ⌜ view (now st) .own (slot .0) 0 .number < 65536 ⌝ }
+    requires { ⌜ NumberFits (view (now st)) (slot .0) ⌝ }
     ensures { λ r. ⌜ r ≡ numberAt (view (now (st .entry))) (slot .0) ⌝ }
 {
     let k = node::at(st, slot);

@@ -12,7 +12,8 @@ use Rattle.circuits.specs.declared.Peer.{Peer}
 use Rattle.circuits.specs.declared.Peer.the-variants as Peers
 use Rattle.cells.specs.View.{Net}
 use Rattle.cells.specs.World.{World}
-use Rattle.acts.specs.Acts.{Room, pushed, pushedAll, widthAt, networked, still, claimedBy, handed, sendsTo}
+use Rattle.acts.specs.Acts.{pushed, pushedAll, widthAt, networked, still, claimedBy, handed, sendsTo}
+use Rattle.acts.specs.Needs.{Room}
 use Rattle.acts.proofs.Pushes.{less, room-left}
 use Rattle.ends.specs.Output.{goesBy, opensBy, goesBehind, goesStraight}
 

@@ -26,13 +26,14 @@ use Rattle.cells.specs.declared.end.End.{End}
 use Rattle.clauses.specs.Counts.{tilePort}
 use Rattle.clauses.specs.Pairs.{taken, openBy}
 use Rattle.clauses.proofs.Meanings.{AimFacts}
-use Rattle.acts.specs.Acts.{widthAt, numberAt, channelClaimed, channelFull, Room, Door}
+use Rattle.acts.specs.Acts.{widthAt, numberAt, channelClaimed, channelFull}
+use Rattle.acts.specs.Needs.{Room, Door}
 use Rattle.acts.proofs.Doors.{given-room}
 use Rattle.sound.specs.Sound.{sound}
 use Rattle.sound.proofs.Facts.{end-facts, open-facts, fair, reaches}
 use Rattle.ends.specs.Ends.{endAt}
-use Rattle.ends.specs.Plan.{AimFits, Fits, targetOf, freePort, lowestFree, portPlan, straightPlan, channelPlan, byWay, targetPlan, openPlan, behindPlan, byPeer, planOf}
-use Rattle.ends.specs.Output.{Possible, Sends}
+use Rattle.ends.specs.Plan.{targetOf, freePort, lowestFree, portPlan, straightPlan, channelPlan, byWay, targetPlan, openPlan, behindPlan, byPeer, planOf}
+use Rattle.ends.specs.Needs.{AimFits, Fits, Possible, Sends}
 use Rattle.ends.proofs.There.{is-there}
 
 one-not-two : {a : ℕ} → a ≡ 1 → a ≡ 2 → ⊥

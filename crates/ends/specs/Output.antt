@@ -1,11 +1,8 @@
 -- "Output a token." (document 01, "Calls"): a plan carried out by the acts, and when it is refused.
-use Prim.{Unit}
-use Prim.Native.Nat.{ℕ, _<_}
-use mathlib.Core.Path.{_≡_}
+use Prim.Native.Nat.{ℕ}
 use mathlib.Core.Bool.{Bool, true, false, not}
 use mathlib.Core.List.{List, [], _∷_}
 use lib.Dec.{eqb}
-use Rattle.names.specs.Size.{ends}
 use Rattle.names.specs.No as Names
 use Rattle.circuits.specs.declared.Peer.the-variants as Peers
 use Rattle.tokens.specs.Control.{outputNo}
@@ -18,8 +15,7 @@ use Rattle.answers.specs.Out.{Out, out, attempt}
 use Rattle.answers.specs.declared.Answer.the-variants.{Done}
 use Rattle.cells.specs.View.{Net}
 use Rattle.cells.specs.World.{World}
-use Rattle.acts.specs.Acts.{withNet, widthAt, Room, pushed, pushedAll, networked, sentBy, sendsTo, still, claimedBy, handed, Given}
-use Rattle.sound.specs.Sound.{sound}
+use Rattle.acts.specs.Acts.{withNet, widthAt, pushed, pushedAll, networked, sentBy, sendsTo, still, claimedBy, handed}
 use Rattle.ends.specs.Ends.{endAt}
 use Rattle.ends.specs.Plan.{targetOf, planOf}
 use Rattle.ends.specs.declared.Token.{Token}
@@ -107,19 +103,3 @@ outputMade w n c x = sent w n c (targetOf (w .net .ends n c)) x
 
 unfoldable pub output : World → ℕ → ℕ → Token → Out World
 output w n c x = attempt (outputRows (w .net) n c x) w (out Done (outputMade w n c x))
-
--- What the code has on its way: a plan that can be carried out
-abbrev pub Possible : World → ℕ → ℕ → Plan → Type 0
-Possible w n t Narrow = Unit
-Possible w n t Full = Unit
-Possible w n t (Opens p) = Room w n p 4
-Possible w n t (Behind p) = Room w n p 1
-Possible w n t (Straight d) = Given (w .net) n d t
-
--- a channel-end that is there and aimed at g, of a state that is sound
-pub record Sends (w : World) (n c : ℕ) (g : Target) : Type 0 where
-  pub all : sound w ≡ true
-  pub node : n < w .net .nodes
-  pub end : c < ends
-  pub aimed : w .net .ends n c .aim ≡ 0 → ⊥
-  pub target : g ≡ targetOf (w .net .ends n c)

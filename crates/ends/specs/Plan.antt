@@ -1,6 +1,5 @@
 -- What an Output is to do (document 01, "Calls" and 9, 10 of "Numbers for no"): read off the state, with nothing changed.
-use Prim.Native.Nat.{ℕ, _<_}
-use mathlib.Core.Path.{_≡_}
+use Prim.Native.Nat.{ℕ}
 use mathlib.Core.Bool.{Bool, _&&_}
 use lib.Dec.{eqb, leb}
 use Rattle.laws.specs.Pick.{pick}
@@ -31,14 +30,6 @@ targetOf k = pick (eqb (k .aim) 1) (Channel (record { 0 = k .number }) (k .chann
 
 abbrev pub destinationOf : End → Destination
 destinationOf k = pick (eqb (k .aim) 0) Unaimed (Aimed (targetOf k))
-
--- a number of 16 bits and a channel of 8: a sound state has no other
-abbrev pub AimFits : End → Type 0
-AimFits k = (k .number < 65536) × (k .aim ≡ 1 → k .channel < 256)
-
--- .. while it is aimed
-abbrev pub Fits : End → Type 0
-Fits k = (k .aim ≡ 0 → ⊥) → AimFits k
 
 -- "Otherwise the lowest free port 8..11 is taken"; the reply port, 12, where none is free
 abbrev pub freePort : Net → ℕ → ℕ → Bool

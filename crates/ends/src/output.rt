@@ -34,13 +34,15 @@ ghost use Prim.Native.Nat.{_<_};
 ghost use Rattle.names.specs.Size.{ports, ends};
 ghost use Rattle.answers.specs.Out.{out, attempt};
 ghost use Rattle.answers.specs.declared.Answer.the-variants.{Done};
-ghost use Rattle.acts.specs.Acts.{Room, pushed, pushedAll, Given};
+ghost use Rattle.acts.specs.Acts.{pushed, pushedAll};
+ghost use Rattle.acts.specs.Needs.{Room, Given};
 ghost use Rattle.tokens.specs.Header.{words};
 ghost use Rattle.cells.specs.View.{view};
 ghost use Rattle.cells.specs.World.{world};
 ghost use Rattle.sound.specs.Sound.{sound};
-ghost use Rattle.ends.specs.Plan.{AimFits, Fits, targetOf, destinationOf};
-ghost use Rattle.ends.specs.Output.{wordOf, isUnit, tokenNo, goesBy, opensBy, goesBehind, goesStraight, performed, planRows, sendRows, sent, output, Possible, Sends};
+ghost use Rattle.ends.specs.Plan.{targetOf, destinationOf};
+ghost use Rattle.ends.specs.Needs.{AimFits, Fits, Possible, Sends};
+ghost use Rattle.ends.specs.Output.{wordOf, isUnit, tokenNo, goesBy, opensBy, goesBehind, goesStraight, performed, planRows, sendRows, sent, output};
 
 // A channel-end's destination.
 pub enum Destination {

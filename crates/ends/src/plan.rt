@@ -18,7 +18,7 @@ use tokens::header::Target;
 use tokens::header::is_narrow;
 use tokens::header::make_header;
 ghost use mathlib.Core.Path.{_≡_};
-ghost use Prim.Native.Nat.{_<_};
+ghost use Rattle.acts.specs.Needs.{NumberFits};
 ghost use Rattle.cells.specs.View.{view};
 ghost use Rattle.ends.specs.Plan.{lowestFree, straightPlan, channelPlan, portPlan, targetPlan, openPlan, behindPlan, planOf};
 
@@ -80,7 +80,7 @@ fn channel_plan(st: &[u32], slot: Slot, channel: u8, word: u16) -> Plan
 
 // A circuit opens to a destination that its width can carry.
 fn target_plan(st: &[u32], slot: Slot, g: Target, word: u16) -> Plan
-    requires { ⌜ view (now st) .own (slot .0) 0 .number < 65536 ⌝ }
+    requires { ⌜ NumberFits (view (now st)) (slot .0) ⌝ }
     ensures { λ r. ⌜ r ≡ targetPlan (view (now (st .entry))) (slot .0) g word ⌝ }
 {
     match g {
@@ -94,7 +94,7 @@ fn target_plan(st: &[u32], slot: Slot, g: Target, word: u16) -> Plan
 
 // "The first opens a circuit. It has the node's width at that moment."
 fn open_plan(st: &[u32], slot: Slot, g: Target, word: u16) -> Plan
-    requires { ⌜ view (now st) .own (slot .0) 0 .number < 65536 ⌝ }
+    requires { ⌜ NumberFits (view (now st)) (slot .0) ⌝ }
     ensures { λ r. ⌜ r ≡ openPlan (view (now (st .entry))) (slot .0) g word ⌝ }
 {
     if is_narrow(make_header(g, width_at(st, slot))) {
@@ -116,7 +116,7 @@ fn behind_plan(st: &[u32], slot: Slot, p: usize) -> Plan
 
 // What putting this word out does, for a channel-end that is aimed at g.
 pub fn plan_of(st: &[u32], slot: Slot, c: usize, g: Target, word: u16) -> Plan
-    requires { ⌜ view (now st) .own (slot .0) 0 .number < 65536 ⌝ }
+    requires { ⌜ NumberFits (view (now st)) (slot .0) ⌝ }
     ensures { λ r. ⌜ r ≡ planOf (view (now (st .entry))) (slot .0) c g word ⌝ }
 {
     let k = end::at(st, slot, c);

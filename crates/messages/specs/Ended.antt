@@ -11,8 +11,7 @@ use Rattle.tokens.specs.declared.header.Target.{Target}
 use Rattle.answers.specs.Out.{Out, out}
 use Rattle.answers.specs.declared.Answer.the-variants as Answers
 use Rattle.cells.specs.World.{World}
-use Rattle.acts.specs.Acts.{withNet, widthAt, pushed, pushedAll, Room}
-use Rattle.settings.specs.Set.{AllCabled}
+use Rattle.acts.specs.Acts.{withNet, widthAt, pushed, pushedAll}
 use Rattle.messages.specs.Register.{fieldsOf, readOf}
 use Rattle.messages.specs.Heard.{messageOf}
 use Rattle.messages.specs.Write.{accepted, written}
@@ -33,10 +32,6 @@ abbrev pub said : Reply → List ℕ
 said Nack = controlWord nack ∷ []
 said Ack = controlWord ack ∷ []
 said (Value v) = controlWord ack ∷ bytes v
-
--- the longest reply: a header of three bytes, ACK, four bytes, END
-abbrev pub longest : ℕ
-longest = 9
 
 -- a reply in port 12
 abbrev pub replied : World → ℕ → Header → Reply → World
@@ -62,8 +57,3 @@ obeyed w n (Write g r v) =
 -- node n's control unit, at END or PAUSE
 unfoldable pub ended : World → ℕ → ℕ → Out World
 ended w n x = obeyed w n (messageOf (w .net .units n 0) x)
-
--- What the code has on its way: the node is there, a reply finds room, and cables lead to links that are there
-pub record Ready (w : World) (n : ℕ) : Type 0 where
-  pub room : Room w n replyPort longest
-  pub cabled : AllCabled (w .net)

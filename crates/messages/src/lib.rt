@@ -20,7 +20,8 @@ ghost use Rattle.laws.specs.Pick.{pick};
 ghost use Rattle.answers.specs.Out.{out};
 ghost use Rattle.cells.specs.World.{world};
 ghost use Rattle.messages.specs.declared.reply.Reply.the-variants.{Nack, Ack};
-ghost use Rattle.messages.specs.Ended.{obeyed, ended, Ready};
+ghost use Rattle.messages.specs.Ended.{obeyed, ended};
+ghost use Rattle.messages.specs.Needs.{Ready};
 
 // A write that was accepted is acknowledged.
 fn verdict(accepted: bool) -> Reply

@@ -19,8 +19,10 @@ ghost use Prim.Native.Nat.{_≤_};
 ghost use Rattle.names.specs.Size.{replyPort};
 ghost use Rattle.answers.specs.Out.{out};
 ghost use Rattle.cells.specs.World.{world};
-ghost use Rattle.acts.specs.Acts.{Room, pushedAll};
-ghost use Rattle.messages.specs.Ended.{byte, bytes, said, longest, replied, sent};
+ghost use Rattle.acts.specs.Acts.{pushedAll};
+ghost use Rattle.acts.specs.Needs.{Room};
+ghost use Rattle.messages.specs.Ended.{byte, bytes, said, replied, sent};
+ghost use Rattle.messages.specs.Needs.{longest};
 
 // What follows a reply's header.
 pub enum Reply {

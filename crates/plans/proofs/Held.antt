@@ -9,7 +9,8 @@ use Rattle.tokens.specs.Word.{isThree}
 use Rattle.tokens.specs.declared.header.Width.{Width}
 use Rattle.tokens.specs.declared.header.Width.the-variants.{One, Three}
 use Rattle.cells.specs.World.{World}
-use Rattle.acts.specs.Acts.{Holds, wordAt}
+use Rattle.acts.specs.Acts.{wordAt}
+use Rattle.acts.specs.Needs.{Holds}
 use Rattle.plans.specs.Plan.{sizeOf, markedWidth}
 
 pub size-some : (x : Width) → 1 ≤ sizeOf x

@@ -30,10 +30,10 @@ use routing::way::Way;
 use routing::way::way_to;
 use tokens::header::Target;
 ghost use mathlib.Core.Path.{_≡_};
-ghost use Prim.Native.Nat.{_<_};
-ghost use Rattle.acts.specs.Acts.{Holds};
+ghost use Rattle.acts.specs.Needs.{NumberFits};
 ghost use Rattle.cells.specs.View.{view};
 ghost use Rattle.cells.specs.World.{world};
+ghost use Rattle.plans.specs.Needs.{Reads};
 ghost use Rattle.plans.specs.Plan.{routePlan, channelPlan, unitPlan, herePlan, byWay, wayPlan, headerPlan, outPlan, handPlan, byHop, planOf};
 
 pub enum Plan {
@@ -123,7 +123,7 @@ fn by_way(st: &[u32], slot: Slot, p: usize, g: Target, way: Way) -> Plan
 }
 
 fn way_plan(st: &[u32], slot: Slot, p: usize, g: Target) -> Plan
-    requires { ⌜ view (now st) .own (slot .0) 0 .number < 65536 ⌝ }
+    requires { ⌜ NumberFits (view (now st)) (slot .0) ⌝ }
     ensures { λ r. ⌜ r ≡ wayPlan (view (now (st .entry))) (slot .0) p g ⌝ }
 {
     let way = way_to(number_in(g), number_at(st, slot), width_at(st, slot));
@@ -132,7 +132,7 @@ fn way_plan(st: &[u32], slot: Slot, p: usize, g: Target) -> Plan
 
 // A header at the front of a port without a circuit.
 fn header_plan(st: &[u32], mem: &[u16], slot: Slot, p: usize) -> Plan
-    requires { ⌜ (view (now st) .own (slot .0) 0 .number < 65536) × Holds (world (now st) (now mem)) (slot .0) p 1 ⌝ }
+    requires { ⌜ Reads (world (now st) (now mem)) (slot .0) p 1 ⌝ }
     ensures { λ r. ⌜ r ≡ headerPlan (world (now (st .entry)) (now (mem .entry))) (slot .0) p ⌝ }
 {
     let width = marked_width(word_at(st, mem, slot, p, 0));
@@ -168,7 +168,7 @@ fn hand_plan(st: &[u32], slot: Slot, c: usize, t: usize, word: u16) -> Plan
 }
 
 fn by_hop(st: &[u32], mem: &[u16], slot: Slot, p: usize, h: Hop) -> Plan
-    requires { ⌜ (view (now st) .own (slot .0) 0 .number < 65536) × Holds (world (now st) (now mem)) (slot .0) p 1 ⌝ }
+    requires { ⌜ Reads (world (now st) (now mem)) (slot .0) p 1 ⌝ }
     ensures { λ r. ⌜ r ≡ byHop (world (now (st .entry)) (now (mem .entry))) (slot .0) p h ⌝ }
 {
     match h {
@@ -185,7 +185,7 @@ fn by_hop(st: &[u32], mem: &[u16], slot: Slot, p: usize, h: Hop) -> Plan
 
 // What a Step of a port does.
 pub fn plan_of(st: &[u32], mem: &[u16], slot: Slot, p: usize) -> Plan
-    requires { ⌜ (view (now st) .own (slot .0) 0 .number < 65536) × Holds (world (now st) (now mem)) (slot .0) p 0 ⌝ }
+    requires { ⌜ Reads (world (now st) (now mem)) (slot .0) p 0 ⌝ }
     ensures { λ r. ⌜ r ≡ planOf (world (now (st .entry)) (now (mem .entry))) (slot .0) p ⌝ }
 {
     let k = port::at(st, slot, p);

@@ -25,13 +25,16 @@ use Rattle.cells.specs.Changes.{countersAs, circuitAs, userAs}
 use Rattle.cells.specs.declared.port.Port.{Port}
 use Rattle.cells.specs.declared.link.Far.{Far}
 use Rattle.cells.specs.declared.link.Far.the-variants.{Nowhere, At}
-use Rattle.acts.specs.Acts.{Room, Holds, pushed, popped, withNet, firstAt, hopped, shutPort, shut, Given}
+use Rattle.acts.specs.Acts.{pushed, popped, withNet, firstAt, hopped, shutPort, shut}
+use Rattle.acts.specs.Needs.{Room, Holds, Given}
 use Rattle.grants.specs.Grants.{considered}
 use Rattle.answers.specs.Out.{Out, out}
 use Rattle.answers.specs.declared.Answer.the-variants.{Moved}
 use Rattle.messages.specs.Heard.{listens}
-use Rattle.messages.specs.Ended.{longest, Ready, ended}
-use Rattle.switch.specs.Step.{consideredAt, grantsUp, took, closesOut, closesUnit, paid, arrives, crosses, movesOut, hears, FarRoom, Takes, opensChannel, opensUnit}
+use Rattle.messages.specs.Ended.{ended}
+use Rattle.messages.specs.Needs.{longest, Ready}
+use Rattle.switch.specs.Step.{consideredAt, grantsUp, took, closesOut, closesUnit, paid, arrives, crosses, movesOut, hears, opensChannel, opensUnit}
+use Rattle.switch.specs.Needs.{FarRoom, Takes}
 use Rattle.switch.proofs.Takes.{up-nodes, up-ports, up-far}
 
 -- counters of a port that can take k more tokens

@@ -29,7 +29,8 @@ use Rattle.grammar.specs.Walk.{walk}
 use Rattle.grammar.specs.declared.stage.Stage.{Stage}
 use Rattle.grammar.specs.declared.stage.Stage.the-variants.{Bad, Fresh, Body, OneDue, ThreeDue, TwoDue, LastDue}
 use Rattle.cells.specs.World.{World, hop, queue}
-use Rattle.acts.specs.Acts.{wordAt, Door}
+use Rattle.acts.specs.Acts.{wordAt}
+use Rattle.acts.specs.Needs.{Door}
 use Rattle.sound.specs.Sound.{sound}
 use Rattle.sound.proofs.Facts.{contents-facts}
 use Rattle.plans.specs.Plan.{targetAt}

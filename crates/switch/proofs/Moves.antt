@@ -12,7 +12,8 @@ use Rattle.cells.specs.World.{World, farOf, queue}
 use Rattle.cells.specs.declared.port.Port.{Port}
 use Rattle.cells.specs.declared.link.Far.{Far}
 use Rattle.cells.specs.declared.link.Far.the-variants.{At}
-use Rattle.acts.specs.Acts.{Room, Holds, pushed, popped, withNet, firstAt}
+use Rattle.acts.specs.Acts.{pushed, popped, withNet, firstAt}
+use Rattle.acts.specs.Needs.{Room, Holds}
 use Rattle.acts.proofs.Queues.{pushed-queue}
 use Rattle.grants.specs.Grants.{considered}
 use Rattle.switch.specs.Step.{took, closesOut, arrives, pays, crosses, movesOut}

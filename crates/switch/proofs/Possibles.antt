@@ -32,13 +32,14 @@ use Rattle.cells.specs.declared.link.Far.the-variants.{Nowhere, At}
 use Rattle.clauses.specs.declared.pairs.Role.the-variants.{PortLink, PortTile, PortUnit, PortClaim}
 use Rattle.clauses.specs.declared.pairs.Named.the-variants.{Nothing, One}
 use Rattle.clauses.specs.Pairs.{portOf}
-use Rattle.acts.specs.Acts.{widthAt, numberAt, wordAt, firstAt, channelClaimed, channelFull, Holds, Door}
+use Rattle.acts.specs.Acts.{widthAt, numberAt, wordAt, firstAt, channelClaimed, channelFull}
+use Rattle.acts.specs.Needs.{Holds, Door}
 use Rattle.acts.proofs.Doors.{given-room}
-use Rattle.messages.specs.Ended.{Ready}
+use Rattle.messages.specs.Needs.{Ready}
 use Rattle.sound.specs.Sound.{sound}
 use Rattle.sound.proofs.Facts.{fair, reaches, cable-facts, room-facts, pair-facts, silent-facts}
 use Rattle.plans.specs.Plan.{markedWidth, sizeOf, sameWidth, targetAt, networkAt, candidate, lowestLink, routePlan, lowestTile, tileFree, channelPlan, unitPlan, herePlan, numberIn, byWay, wayPlan, headerPlan, outPlan, handPlan, byHop, planOf}
-use Rattle.switch.specs.Step.{Takes, FarRoom, Possible}
+use Rattle.switch.specs.Needs.{Takes, FarRoom, Possible}
 use Rattle.switch.proofs.Legal.{LegalDoor, legal-target}
 use Rattle.switch.proofs.Cabled.{cabled}
 

@@ -14,11 +14,13 @@ use Rattle.cells.specs.World.{World, farOf}
 use Rattle.cells.specs.Changes.{creditAs}
 use Rattle.cells.specs.declared.link.Far.{Far}
 use Rattle.cells.specs.declared.link.Far.the-variants.{Nowhere, At}
-use Rattle.acts.specs.Acts.{Holds, popped}
+use Rattle.acts.specs.Acts.{popped}
+use Rattle.acts.specs.Needs.{Holds}
 use Rattle.acts.proofs.Pushes.{popped-counters}
 use Rattle.grants.specs.Grants.{considered, granted}
 use Rattle.plans.proofs.Held.{holds-less}
-use Rattle.switch.specs.Step.{consideredAt, grantsUp, Up, took, Takes}
+use Rattle.switch.specs.Step.{consideredAt, grantsUp, took}
+use Rattle.switch.specs.Needs.{Up, Takes}
 
 pub takes-less : {w : World} {n p : ℕ} (k j : ℕ) → j ≤ k → Takes w n p k → Takes w n p j
 takes-less k j h r = record { holds = holds-less k j h (r .holds); up = r .up }

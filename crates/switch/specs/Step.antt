@@ -1,11 +1,10 @@
 -- "What a Step does" (document 01), done: a plan carried out by the acts.
-use Prim.{Unit}
-use Prim.Native.Nat.{ℕ, _-_, _<_}
+use Prim.Native.Nat.{ℕ, _-_}
 use mathlib.Core.Bool.{Bool, not, _&&_}
 use mathlib.Core.List.{List, [], _∷_}
 use lib.Dec.{ltb}
 use Rattle.laws.specs.Pick.{pick}
-use Rattle.names.specs.Size.{links, ports, tileLinks}
+use Rattle.names.specs.Size.{links, ports}
 use Rattle.circuits.specs.Circuit.{ofPeer}
 use Rattle.circuits.specs.declared.Peer.the-variants as Peers
 use Rattle.circuits.specs.declared.Hop.the-variants as Hops
@@ -17,15 +16,15 @@ use Rattle.cells.specs.World.{World, farOf}
 use Rattle.cells.specs.Changes.{creditAs, servesAs, heardAs}
 use Rattle.cells.specs.declared.link.Far.{Far}
 use Rattle.cells.specs.declared.link.Far.the-variants.{Nowhere, At}
-use Rattle.acts.specs.Acts.{withNet, widthAt, Room, pushed, Holds, firstAt, popped, hopped, shut, linkedTo, tiledTo, claimedBy, handed, Door, Given}
-use Rattle.grants.specs.Grants.{considered, Cabled}
+use Rattle.acts.specs.Acts.{withNet, widthAt, pushed, firstAt, popped, hopped, shut, linkedTo, tiledTo, claimedBy, handed}
+use Rattle.grants.specs.Grants.{considered}
 use Rattle.messages.specs.Heard.{listens}
-use Rattle.messages.specs.Ended.{ended, Ready}
+use Rattle.messages.specs.Ended.{ended}
 use Rattle.names.specs.No.{NoSuch}
 use Rattle.answers.specs.Rows.{Row, row}
 use Rattle.answers.specs.Out.{Out, out, attempt}
 use Rattle.answers.specs.declared.Answer.the-variants as Answers
-use Rattle.plans.specs.Plan.{sizeOf, planOf}
+use Rattle.plans.specs.Plan.{planOf}
 use Rattle.plans.specs.declared.Plan.{Plan}
 use Rattle.plans.specs.declared.Plan.the-variants.{Idle, Wait, OpenOut, OpenChannel, OpenUnit, Refuse, MoveOut, Hand, Hear, Drop}
 
@@ -36,10 +35,6 @@ consideredAt s (At m j) = considered s (m .0) j
 
 abbrev pub grantsUp : Net → ℕ → ℕ → Net
 grantsUp s n p = pick (ltb p links) (consideredAt s (farOf (s .links n p))) s
-
--- .. where its cable leads to a link that is there
-abbrev pub Up : Net → ℕ → ℕ → Type 0
-Up s n p = p < links → Cabled s n p
 
 -- a token is taken, and a grant considered for it
 unfoldable pub took : World → ℕ → ℕ → World
@@ -132,28 +127,6 @@ performed w n p (MoveOut l) = out Answers.Moved (movesOut w n p l)
 performed w n p (Hand c t) = out Answers.Moved (hands w n p c t)
 performed w n p Hear = hears w n p
 performed w n p (Drop x) = out (Answers.Dropped x) (drops w n p)
-
--- What the code has on its way: k tokens to take, and a cable that leads somewhere
-pub record Takes (w : World) (n p k : ℕ) : Type 0 where
-  pub holds : Holds w n p k
-  pub up : Up (w .net) n p
-
--- where the cable of a link leads there is room for a token
-abbrev pub FarRoom : World → Far → Type 0
-FarRoom w Nowhere = Unit
-FarRoom w (At m j) = Room w (m .0) j 1
-
-abbrev pub Possible : World → ℕ → ℕ → Plan → Type 0
-Possible w n p Idle = Unit
-Possible w n p Wait = Unit
-Possible w n p (OpenOut l) = l < links
-Possible w n p (OpenChannel c t) = (t < tileLinks) × Door c × Takes w n p (sizeOf (widthAt (w .net) n))
-Possible w n p OpenUnit = Takes w n p (sizeOf (widthAt (w .net) n))
-Possible w n p (Refuse x) = Unit
-Possible w n p (MoveOut l) = (l < links) × Takes w n p 1 × FarRoom w (farOf (w .net .links n l))
-Possible w n p (Hand c t) = (t < tileLinks) × Given (w .net) n c (firstAt w n p) × Takes w n p 1
-Possible w n p Hear = Takes w n p 1 × Ready w n
-Possible w n p (Drop x) = Takes w n p 1
 
 -- "port not present" is NoSuch
 abbrev pub portAt : Net → ℕ → ℕ → Bool

@@ -13,7 +13,7 @@ use tokens::word::closes;
 ghost use mathlib.Core.Path.{_≡_};
 ghost use Prim.Native.Nat.{_<_};
 ghost use Rattle.names.specs.Size.{links, ports, tileLinks};
-ghost use Rattle.acts.specs.Acts.{Door};
+ghost use Rattle.acts.specs.Needs.{Door};
 ghost use Rattle.cells.specs.View.{view};
 ghost use Rattle.switch.specs.Step.{opensOut, opensChannel, serves, opensUnit, closesOut, closesChannel, idle, closesUnit, closesDropped};
 

@@ -20,10 +20,12 @@ ghost use Prim.Native.Nat.{_-_, _<_};
 ghost use Rattle.names.specs.Size.{links, ports, tileLinks};
 ghost use Rattle.cells.specs.View.{view};
 ghost use Rattle.cells.specs.World.{world, farOf};
-ghost use Rattle.acts.specs.Acts.{firstAt, Given};
+ghost use Rattle.acts.specs.Acts.{firstAt};
+ghost use Rattle.acts.specs.Needs.{Given};
 ghost use Rattle.answers.specs.Out.{out};
-ghost use Rattle.messages.specs.Ended.{Ready};
-ghost use Rattle.switch.specs.Step.{paid, arrives, pays, crosses, movesOut, hands, hears, drops, Takes, FarRoom};
+ghost use Rattle.messages.specs.Needs.{Ready};
+ghost use Rattle.switch.specs.Step.{paid, arrives, pays, crosses, movesOut, hands, hears, drops};
+ghost use Rattle.switch.specs.Needs.{Takes, FarRoom};
 
 // The token is put at the far end of the cable.
 fn arrive(st: &mut [u32], mem: &mut [u16], f: Far, word: u16)

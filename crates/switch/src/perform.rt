@@ -17,11 +17,13 @@ ghost use mathlib.Core.Path.{_≡_};
 ghost use Prim.Native.Nat.{_<_};
 ghost use Rattle.names.specs.Size.{ports, tileLinks};
 ghost use Rattle.answers.specs.Out.{out};
-ghost use Rattle.acts.specs.Acts.{withNet, widthAt, Door};
+ghost use Rattle.acts.specs.Acts.{withNet, widthAt};
+ghost use Rattle.acts.specs.Needs.{Door};
 ghost use Rattle.cells.specs.View.{view};
 ghost use Rattle.cells.specs.World.{world};
 ghost use Rattle.plans.specs.Plan.{sizeOf};
-ghost use Rattle.switch.specs.Step.{opensChannel, opensUnit, stripped, Takes, Possible, performed};
+ghost use Rattle.switch.specs.Step.{opensChannel, opensUnit, stripped, performed};
+ghost use Rattle.switch.specs.Needs.{Takes, Possible};
 
 // "this node's channel: .. Opened and the header is removed"
 fn land_channel(st: &mut [u32], mem: &mut [u16], slot: Slot, p: usize, c: usize, t: usize)

@@ -15,7 +15,8 @@ ghost use Rattle.grants.specs.Grants.{Leads, Cabled};
 ghost use Rattle.cells.specs.View.{view};
 ghost use Rattle.cells.specs.World.{world};
 ghost use Rattle.plans.specs.Plan.{sizeOf};
-ghost use Rattle.switch.specs.Step.{consideredAt, grantsUp, Up, took, stripped, Takes};
+ghost use Rattle.switch.specs.Step.{consideredAt, grantsUp, took, stripped};
+ghost use Rattle.switch.specs.Needs.{Up, Takes};
 
 // A grant is considered on the link that a cable leads to.
 fn consider_at(st: &mut [u32], f: Far)
