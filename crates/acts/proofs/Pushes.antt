@@ -30,12 +30,13 @@ module _ (w : World) (n p t : ℕ) where
   pub room-left : (k : ℕ) → Room w n p (k + 1) → Room (pushed w n p t) n p k
   unfolding pushed
   room-left k r =
+      let c = w .net .ports n p .counters in
       record {
         node = r .node;
         port = r .port;
         fair = rw (pushed-counters) (record { head-in = r .fair .head-in; held-in = omega (arith, r .room) });
         room = rw (pushed-counters) (omega (arith, r .room));
-        reaches = rw (length-set (w .memory) (place n p + (w .net .ports n p .counters .head + w .net .ports n p .counters .held) % capacity) t) (r .reaches);
+        reaches = rw (length-set (w .memory) (place n p + (c .head + c .held) % capacity) t) (r .reaches);
       }
 
 -- .. and after several

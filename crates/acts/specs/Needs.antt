@@ -1,5 +1,5 @@
--- What the acts ask of the state that they are made on. Calls have it from a sound state (`plan-possible` of ends and of switch), and each act
--- from what the one before left.
+-- What the acts ask of the state that they are made on. Calls have it from a sound state (`plan-possible` of ends and of switch), and each
+-- act from what the one before left.
 use Prim.Native.Nat.{ℕ, _+_, _<_, _≤_}
 use mathlib.Core.Path.{_≡_}
 use mathlib.Core.Bool.{true}

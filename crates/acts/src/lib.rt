@@ -25,7 +25,8 @@ ghost use Rattle.names.specs.Size.{ports, ends};
 ghost use Rattle.tokens.specs.Header.{words};
 ghost use Rattle.cells.specs.View.{view};
 ghost use Rattle.cells.specs.World.{world};
-ghost use Rattle.acts.specs.Acts.{widthAt, numberAt, pushed, pushedAll, wordAt, firstAt, popped, networked, sentBy, sendsTo, still, channelFull, kept, handed};
+ghost use Rattle.acts.specs.Acts.{widthAt, numberAt, pushed, pushedAll, wordAt, firstAt, popped};
+ghost use Rattle.acts.specs.Acts.{networked, sentBy, sendsTo, still, channelFull, kept, handed};
 ghost use Rattle.acts.specs.Needs.{NumberFits, Room, Holds, Keeps, Given};
 
 // What a channel-end holds at most, beside words of 32 bits.
@@ -64,7 +65,8 @@ pub fn push(st: &mut [u32], mem: &mut [u16], slot: Slot, p: usize, word: u16)
 // Puts a header's words into a port, in order.
 pub fn push_header(st: &mut [u32], mem: &mut [u16], slot: Slot, p: usize, h: Header)
     requires { ⌜ Room (world (now st) (now mem)) (slot .0) p 3 ⌝ }
-    ensures { λ r. ⌜ world (now (st .exit)) (now (mem .exit)) ≡ pushedAll (world (now (st .entry)) (now (mem .entry))) (slot .0) p (words h) ⌝ }
+    ensures { λ r. ⌜ world (now (st .exit)) (now (mem .exit))
+        ≡ pushedAll (world (now (st .entry)) (now (mem .entry))) (slot .0) p (words h) ⌝ }
 {
     match h {
         Header::Narrow => {}
@@ -91,7 +93,8 @@ pub fn word_at(st: &[u32], mem: &[u16], slot: Slot, p: usize, i: u32) -> u16
 // Takes the oldest token of a port.
 pub fn pop(st: &mut [u32], mem: &mut [u16], slot: Slot, p: usize) -> u16
     requires { ⌜ Holds (world (now st) (now mem)) (slot .0) p 1 ⌝ }
-    ensures { λ r. ⌜ (r ≡ firstAt (world (now (st .entry)) (now (mem .entry))) (slot .0) p) × (world (now (st .exit)) (now (mem .exit)) ≡ popped (world (now (st .entry)) (now (mem .entry))) (slot .0) p) ⌝ }
+    ensures { λ r. ⌜ (r ≡ firstAt (world (now (st .entry)) (now (mem .entry))) (slot .0) p)
+        × (world (now (st .exit)) (now (mem .exit)) ≡ popped (world (now (st .entry)) (now (mem .entry))) (slot .0) p) ⌝ }
 {
     let mut k = port::at(st, slot, p);
     let taken = take_at(k.counters, mem, slot, p);

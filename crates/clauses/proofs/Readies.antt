@@ -1,5 +1,5 @@
--- A port that is ready: the memory reaches past its stretch, its counters are those of a ring, and the stages read off its tokens are those of the
--- port. Assumes nothing.
+-- A port that is ready: the memory reaches past its stretch, its counters are those of a ring, and the stages read off its tokens are those
+-- of the port. Assumes nothing.
 use Prim.Native.Nat.{ℕ, _+_, _*_, _/_, _≤_, _<_}
 use mathlib.Core.Bool.{true, false, not, _&&_}
 use mathlib.Core.List.{List, []}
@@ -18,7 +18,7 @@ use Rattle.ports.specs.Memory.{place, stretch}
 use Rattle.grammar.specs.Stage.{isBad}
 use Rattle.grammar.specs.Walk.{backOf, stagesOf}
 use Rattle.grammar.specs.declared.port.Stages.{Stages}
-use Rattle.cells.specs.World.{World, hop, queue}
+use Rattle.cells.specs.World.{World, hop}
 use Rattle.cells.specs.declared.port.Port.{Port}
 use Rattle.clauses.specs.Contents.{ready, stages}
 use Rattle.clauses.specs.Contents as Contents
@@ -38,7 +38,8 @@ module _ (w : World) (n p : ℕ) where
       let b = ltb p ports in
       let d = ltb (c .head) capacity in
       let f = leb (c .held) capacity in
-      let z = both a (b && (d && f)) (below n _) (both b (d && f) (below p _) (both d f (below (c .head) _) (at-most (c .held) _))) .sure e in
+      let ring = both d f (below (c .head) _) (at-most (c .held) _) in
+      let z = both a (b && (d && f)) (below n _) (both b (d && f) (below p _) ring) .sure e in
       record { node = z .0; port = z .1 .0; head = z .1 .1 .0; held = z .1 .1 .1 }
 
   module _ (e : ready w n p ≡ true) where

@@ -34,10 +34,13 @@ room-header w z n p (H.Three a b c) r e =
     rw e (room-left (pushed (pushed w n p a) n p b) n p c 1 (room-left (pushed w n p a) n p b 2 (room-left w n p a 3 r)))
 
 -- what a circuit that goes by a port asks of the state after a push
-pub ready-behind : (w : World) (s : Net) (m : List ℕ) (n p t : ℕ) → record { net = s; memory = m } ≡ pushed w n p t → n < w .net .nodes → n < s .nodes
+pub ready-behind : (w : World) (s : Net) (m : List ℕ) (n p t : ℕ) → record { net = s; memory = m } ≡ pushed w n p t
+    → n < w .net .nodes
+    → n < s .nodes
 ready-behind w s m n p t e h = rw (ap (λ (z : World). z .net .nodes) e ∙ pushed-nodes w n p t) h
 
-pub ready-opened : (w : World) (s : Net) (m : List ℕ) (n p t : ℕ) (ts : List ℕ) → record { net = s; memory = m } ≡ pushed (pushedAll w n p ts) n p t
+pub ready-opened : (w : World) (s : Net) (m : List ℕ) (n p t : ℕ) (ts : List ℕ)
+    → record { net = s; memory = m } ≡ pushed (pushedAll w n p ts) n p t
     → n < w .net .nodes
     → n < s .nodes
 ready-opened w s m n p t ts e h =
@@ -62,8 +65,10 @@ pub opens-gives : (w : World) (s y z : Net) (m : List ℕ) (n c p t v : ℕ) (g 
 opens-gives w s y z m n c p t v g h a b e d f =
     let q : record { net = s; memory = m } ≡ pushed (pushedAll w n p (words (headerOf g (widthAt (w .net) n)))) n p t =
     e ∙ ap (λ (k : Header). pushed (pushedAll w n p (words k)) n p t) a in
+    let v = w .net .ends n c .network in
+    let k : z ≡ goesBy (networked s n p v) n c p t = f ∙ ap (λ (x : Net). goesBy x n c p t) (d ∙ ap (networked s n p) b) in
     λ j. record {
-      net = (f ∙ ap (λ (x : Net). goesBy x n c p t) (d ∙ ap (networked s n p) b) ∙ ap (λ (x : World). goesBy (networked (x .net) n p (w .net .ends n c .network)) n c p t) q) j;
+      net = (k ∙ ap (λ (x : World). goesBy (networked (x .net) n p v) n c p t) q) j;
       memory = ap (λ (x : World). x .memory) q j;
     }
 

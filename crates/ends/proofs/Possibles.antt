@@ -32,7 +32,8 @@ use Rattle.acts.proofs.Doors.{given-room}
 use Rattle.sound.specs.Sound.{sound}
 use Rattle.sound.proofs.Facts.{end-facts, open-facts, fair, reaches}
 use Rattle.ends.specs.Ends.{endAt}
-use Rattle.ends.specs.Plan.{targetOf, freePort, lowestFree, portPlan, straightPlan, channelPlan, byWay, targetPlan, openPlan, behindPlan, byPeer, planOf}
+use Rattle.ends.specs.Plan.{targetOf, freePort, lowestFree, portPlan, straightPlan, channelPlan, byWay, targetPlan}
+use Rattle.ends.specs.Plan.{openPlan, behindPlan, byPeer, planOf}
 use Rattle.ends.specs.Needs.{AimFits, Fits, Possible, Sends}
 use Rattle.ends.proofs.There.{is-there}
 
@@ -48,11 +49,19 @@ legal-door d l = ⊎-elim (λ h. inr h) (λ h. inl h) (either (below d ends) (eq
 module _ (w : World) (n c t : ℕ) (g : Target) (s : Sends w n c g) where
   -- a port of the node, with room
   roomy : (p k : ℕ) → p < ports → w .net .ports n p .counters .held + k ≤ capacity → Room w n p k
-  roomy p k h r = record { node = s .node; port = h; fair = fair w (s .all) n (s .node) p h; room = r; reaches = reaches w (s .all) n (s .node) p h }
+  roomy p k h r =
+      record {
+        node = s .node;
+        port = h;
+        fair = fair w (s .all) n (s .node) p h;
+        room = r;
+        reaches = reaches w (s .all) n (s .node) p h;
+      }
 
   free-room : (p : ℕ) → freePort (w .net) n p ≡ true → Room w n p 4
   free-room p e =
-      let z = also (as-is (tilePort p)) (also (equal (w .net .ports n p .circuit .kind) 0) (equal (w .net .ports n p .counters .held) 0)) .sure e in
+      let k = w .net .ports n p in
+      let z = also (as-is (tilePort p)) (also (equal (k .circuit .kind) 0) (equal (k .counters .held) 0)) .sure e in
       roomy p 4 (tile-there p (z .0)) (omega (arith, z .1 .1))
 
   port-possible : Possible w n t (portPlan (w .net) n)

@@ -49,7 +49,10 @@ module _ (w : World) (n c : ℕ) (g : Target) (x : Token) where
   -- refused by the token
   refused-by : {k : ℕ} → Refusing k → (k ≡ Names.passes → ⊥) → (rs : List Row) (done : Out World)
       → out (No k) w
-      ≡ attempt (row (eqb k (Names.number Names.Hardware)) Names.Hardware ∷ row (eqb k (Names.number Names.Privileged)) Names.Privileged ∷ rs) w done
+      ≡ attempt
+      (row (eqb k (Names.number Names.Hardware)) Names.Hardware ∷ row (eqb k (Names.number Names.Privileged)) Names.Privileged ∷ rs)
+      w
+      done
   refused-by none h rs done = absurd (h refl)
   refused-by seven h rs done = refl
   refused-by eight h rs done = refl
@@ -73,7 +76,9 @@ module _ (w : World) (n c : ℕ) (x : Token) where
   unfolding output
   unaimed e a = rw (e, a)
 
-  pub sends-on : (g : Target) (o : Out World) → endAt (w .net) n c ≡ true → eqb (w .net .ends n c .aim) 0 ≡ false → g ≡ targetOf (w .net .ends n c)
+  pub sends-on : (g : Target) (o : Out World) → endAt (w .net) n c ≡ true
+      → eqb (w .net .ends n c .aim) 0 ≡ false
+      → g ≡ targetOf (w .net .ends n c)
       → o ≡ attempt (sendRows (w .net) n c g x) w (out Done (sent w n c g x))
       → o ≡ output w n c x
   unfolding output

@@ -42,7 +42,8 @@ ghost use Rattle.cells.specs.World.{world};
 ghost use Rattle.sound.specs.Sound.{sound};
 ghost use Rattle.ends.specs.Plan.{targetOf, destinationOf};
 ghost use Rattle.ends.specs.Needs.{AimFits, Fits, Possible, Sends};
-ghost use Rattle.ends.specs.Output.{wordOf, isUnit, tokenNo, goesBy, opensBy, goesBehind, goesStraight, performed, planRows, sendRows, sent, output};
+ghost use Rattle.ends.specs.Output.{wordOf, isUnit, tokenNo, goesBy, opensBy, goesBehind};
+ghost use Rattle.ends.specs.Output.{goesStraight, performed, planRows, sendRows, sent, output};
 
 // A channel-end's destination.
 pub enum Destination {
@@ -111,7 +112,8 @@ fn go_by(st: &mut [u32], slot: Slot, c: usize, p: usize, word: u16)
 // Header and token into the port that is taken.
 fn fill(st: &mut [u32], mem: &mut [u16], slot: Slot, p: usize, h: Header, word: u16)
     requires { ⌜ Room (world (now st) (now mem)) (slot .0) p 4 ⌝ }
-    ensures { λ r. ⌜ world (now (st .exit)) (now (mem .exit)) ≡ pushed (pushedAll (world (now (st .entry)) (now (mem .entry))) (slot .0) p (words h)) (slot .0) p word ⌝ }
+    ensures { λ r. ⌜ world (now (st .exit)) (now (mem .exit))
+        ≡ pushed (pushedAll (world (now (st .entry)) (now (mem .entry))) (slot .0) p (words h)) (slot .0) p word ⌝ }
 {
     push_header(st, mem, slot, p, h);
     push(st, mem, slot, p, word);
@@ -120,7 +122,8 @@ fn fill(st: &mut [u32], mem: &mut [u16], slot: Slot, p: usize, h: Header, word: 
 // "the lowest free port 8..11 is taken and receives header and token"
 fn open_by(st: &mut [u32], mem: &mut [u16], slot: Slot, c: usize, g: Target, p: usize, word: u16)
     requires { ⌜ (c < ends) × Room (world (now st) (now mem)) (slot .0) p 4 ⌝ }
-    ensures { λ r. ⌜ world (now (st .exit)) (now (mem .exit)) ≡ opensBy (world (now (st .entry)) (now (mem .entry))) (slot .0) c g p word ⌝ }
+    ensures { λ r. ⌜ world (now (st .exit)) (now (mem .exit))
+        ≡ opensBy (world (now (st .entry)) (now (mem .entry))) (slot .0) c g p word ⌝ }
 {
     let k = end::at(st, slot, c);
     let h = make_header(g, width_at(st, slot));
@@ -132,7 +135,8 @@ fn open_by(st: &mut [u32], mem: &mut [u16], slot: Slot, c: usize, g: Target, p: 
 // Behind the circuit's tokens in its port.
 fn go_behind(st: &mut [u32], mem: &mut [u16], slot: Slot, c: usize, p: usize, word: u16)
     requires { ⌜ (c < ends) × Room (world (now st) (now mem)) (slot .0) p 1 ⌝ }
-    ensures { λ r. ⌜ world (now (st .exit)) (now (mem .exit)) ≡ goesBehind (world (now (st .entry)) (now (mem .entry))) (slot .0) c p word ⌝ }
+    ensures { λ r. ⌜ world (now (st .exit)) (now (mem .exit))
+        ≡ goesBehind (world (now (st .entry)) (now (mem .entry))) (slot .0) c p word ⌝ }
 {
     push(st, mem, slot, p, word);
     go_by(st, slot, c, p, word);
@@ -159,7 +163,9 @@ fn carry(
     plan: Plan,
 ) -> Answer
     requires { ⌜ (slot .0 < view (now st) .nodes) × (c < ends) × Possible (world (now st) (now mem)) (slot .0) word plan ⌝ }
-    ensures { λ r. ⌜ out r (world (now (st .exit)) (now (mem .exit))) ≡ attempt (planRows plan) (world (now (st .entry)) (now (mem .entry))) (out Done (performed (world (now (st .entry)) (now (mem .entry))) (slot .0) c g word plan)) ⌝ }
+    ensures { λ r. ⌜ out r (world (now (st .exit)) (now (mem .exit)))
+        ≡ attempt (planRows plan) (world (now (st .entry)) (now (mem .entry)))
+        (out Done (performed (world (now (st .entry)) (now (mem .entry))) (slot .0) c g word plan)) ⌝ }
 {
     match plan {
         Plan::Narrow => return Answer::No(NARROW),
@@ -174,7 +180,9 @@ fn carry(
 // A token towards a destination.
 fn send(st: &mut [u32], mem: &mut [u16], slot: Slot, c: usize, g: Target, x: Token) -> Answer
     requires { ⌜ Sends (world (now st) (now mem)) (slot .0) c g ⌝ }
-    ensures { λ r. ⌜ out r (world (now (st .exit)) (now (mem .exit))) ≡ attempt (sendRows (view (now (st .entry))) (slot .0) c g x) (world (now (st .entry)) (now (mem .entry))) (out Done (sent (world (now (st .entry)) (now (mem .entry))) (slot .0) c g x)) ⌝ }
+    ensures { λ r. ⌜ out r (world (now (st .exit)) (now (mem .exit)))
+        ≡ attempt (sendRows (view (now (st .entry))) (slot .0) c g x) (world (now (st .entry)) (now (mem .entry)))
+        (out Done (sent (world (now (st .entry)) (now (mem .entry))) (slot .0) c g x)) ⌝ }
 {
     let no = token_no(x, g);
     if no != 0 {
@@ -188,7 +196,8 @@ fn send(st: &mut [u32], mem: &mut [u16], slot: Slot, c: usize, g: Target, x: Tok
 // Output, whole: refused by its number with nothing changed, or done.
 pub fn output(st: &mut [u32], mem: &mut [u16], slot: Slot, c: usize, x: Token) -> Answer
     requires { ⌜ sound (world (now st) (now mem)) ≡ true ⌝ }
-    ensures { λ r. ⌜ out r (world (now (st .exit)) (now (mem .exit))) ≡ output (world (now (st .entry)) (now (mem .entry))) (slot .0) c x ⌝ }
+    ensures { λ r. ⌜ out r (world (now (st .exit)) (now (mem .exit)))
+        ≡ output (world (now (st .entry)) (now (mem .entry))) (slot .0) c x ⌝ }
 {
     if !end_at(st, slot, c) {
         return Answer::No(NO_SUCH);

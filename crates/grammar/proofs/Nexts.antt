@@ -47,7 +47,8 @@ module _ (w : ℕ) (h : 0x200 ≤ w) where
   pub wide : 0x600 ≤ w → shapeOf w ≡ threeShape (w - 0x600)
   unfolding shapeOf
   wide k =
-      rw (open-word w (inr (omega arith)), past 0x1C2 (omega arith), past 0x200 (omega arith), le-ltb w 0x300 (omega arith), le-ltb w 0x600 k)
+      rw (open-word w (inr (omega arith)), past 0x1C2 (omega arith), past 0x200 (omega arith))
+      (rw (le-ltb w 0x300 (omega arith), le-ltb w 0x600 k))
 
 -- all that is no token of a header of three bytes, by its marks
 pub narrow : (P : Shape → Type 0) (w : ℕ) → w < 0x600 → P S.Closing → P S.Body → P S.Wrong → P S.OneByte → P (shapeOf w)
@@ -70,13 +71,16 @@ channel w h e = rw (wide w (omega arith) h, e)
 pub no-channel : (w : ℕ) → 0x620 ≤ w → w < 0x6FF → shapeOf w ≡ S.ThreeByte
 unfolding threeShape
 no-channel w h k =
-    rw (wide w (omega arith) (omega arith), le-ltb (w - 0x600) ends (omega arith), ne-eqb (w - 0x600) sink (λ e. omega arith), lt-ltb (w - 0x600) 0x100 (omega arith))
+    let m = w - 0x600 in
+    rw (wide w (omega arith) (omega arith), le-ltb m ends (omega arith), ne-eqb m sink (λ e. omega arith), lt-ltb m 0x100 (omega arith))
 
 -- past it SSCTRL alone is a token
 pub nothing : (w : ℕ) → 0x700 ≤ w → (w ≡ 0x7C3 → ⊥) → shapeOf w ≡ S.Wrong
 unfolding threeShape
 nothing w h n =
-    rw (wide w (omega arith) (omega arith), le-ltb (w - 0x600) ends (omega arith), ne-eqb (w - 0x600) sink (λ e. omega arith), le-ltb (w - 0x600) 0x100 (omega arith), ne-eqb (w - 0x600) (controlWord ssctrl) (λ e. n (omega arith)))
+    let m = w - 0x600 in
+    rw (wide w (omega arith) (omega arith), le-ltb m ends (omega arith), ne-eqb m sink (λ e. omega arith))
+    (rw (le-ltb m 0x100 (omega arith), ne-eqb m (controlWord ssctrl) (λ e. n (omega arith))))
 
 pub past-byte : (P : Shape → Type 0) (w : ℕ) → 0x700 ≤ w → P S.Wrong → P S.Unit → P (shapeOf w)
 unfolding shapeOf threeShape closes

@@ -37,8 +37,8 @@ abbrev pub ofThree : Shape → Bool
 ofThree c = isByte c || isLast c
 
 -- Where the next token leads; one that may not stand there breaks the rule, for good. "a port with no circuit is empty or starts with a
--- header, and so does what follows an END or PAUSE; .. header tokens stand elsewhere only at the front of a circuit still sending its header
--- outward or being dropped"
+-- header, and so does what follows an END or PAUSE; .. header tokens stand elsewhere only at the front of a circuit still sending its
+-- header outward or being dropped"
 abbrev pub step : Stage → Shape → Stage
 step Bad c = Bad
 step Fresh c = pick (ofOne c) Body (pick (isByte c) TwoDue Bad)

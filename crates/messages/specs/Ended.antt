@@ -46,7 +46,8 @@ headed w n h x = pick (isNarrow h) (out Answers.Unheard w) (out Answers.Moved (r
 abbrev pub sent : World → ℕ → Target → Reply → Out World
 sent w n g x = headed w n (headerOf g (widthAt (w .net) n)) x
 
--- "A known reply address .. with anything else wrong, an unknown address, or a write that Set would refuse: NACK 0x04, END, nothing changed."
+-- "A known reply address .. with anything else wrong, an unknown address, or a write that Set would refuse: NACK 0x04, END, nothing
+-- changed."
 abbrev pub obeyed : World → ℕ → Message → Out World
 obeyed w n Malformed = out Answers.Malformed w
 obeyed w n (Wrong g) = sent w n g Nack

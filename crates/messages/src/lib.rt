@@ -55,7 +55,8 @@ fn obey(st: &mut [u32], mem: &mut [u16], slot: Slot, m: Message) -> Answer
 // END or PAUSE has come to a node's control unit.
 pub fn end_message(st: &mut [u32], mem: &mut [u16], slot: Slot, word: u16) -> Answer
     requires { ⌜ Ready (world (now st) (now mem)) (slot .0) ⌝ }
-    ensures { λ r. ⌜ out r (world (now (st .exit)) (now (mem .exit))) ≡ ended (world (now (st .entry)) (now (mem .entry))) (slot .0) word ⌝ }
+    ensures { λ r. ⌜ out r (world (now (st .exit)) (now (mem .exit)))
+        ≡ ended (world (now (st .entry)) (now (mem .entry))) (slot .0) word ⌝ }
 {
     let m = message_of(unit::at(st, slot), word);
     obey(st, mem, slot, m)

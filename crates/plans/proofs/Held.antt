@@ -21,7 +21,9 @@ pub holds-less : {w : World} {n p : ℕ} (k j : ℕ) → j ≤ k → Holds w n p
 holds-less k j h r = record { node = r .node; port = r .port; fair = r .fair; held = omega (arith, r .held); reaches = r .reaches }
 
 -- a header that is marked as three bytes, and held whole, has three tokens
-pub three-held : (w : World) (n p : ℕ) → Holds w n p (sizeOf (markedWidth (wordAt w n p 0))) → isThree (wordAt w n p 0) ≡ true → Holds w n p 3
+pub three-held : (w : World) (n p : ℕ) → Holds w n p (sizeOf (markedWidth (wordAt w n p 0)))
+    → isThree (wordAt w n p 0) ≡ true
+    → Holds w n p 3
 three-held w n p r e = rw e at r
 
 -- .. and one at least, whatever its width

@@ -1,5 +1,5 @@
--- "No candidate: the circuit is discarded, cause NoRoute. Candidates, all in use outward: it waits. Otherwise the lowest-numbered free one is
--- taken." (document 01, "Routing"): the plan of a route, with what holds of the links for each. Assumes nothing.
+-- "No candidate: the circuit is discarded, cause NoRoute. Candidates, all in use outward: it waits. Otherwise the lowest-numbered free one
+-- is taken." (document 01, "Routing"): the plan of a route, with what holds of the links for each. Assumes nothing.
 use Prim.Native.Nat.{ℕ, _<_, _≤_}
 use mathlib.Core.Path.{_≡_}
 use mathlib.Core.Bool.{Bool, true}
@@ -32,7 +32,9 @@ module _ (s : Net) (n d v : ℕ) where
       let free = freeCandidate s n d v in
       let any = candidate s n d v in
       by-test (ltb (first links free) links)
-      (λ e. let h = ltb-true (first links free) links e in rw e (opens (first links free) h (first-passes free links h) (first-least free links)))
+      (λ e.
+      let h = ltb-true (first links free) links e in
+      rw e (opens (first links free) h (first-passes free links h) (first-least free links)))
       (λ e. rw e (by-test (ltb (first links any) links)
       (λ f.
       let h = ltb-true (first links any) links f in

@@ -61,8 +61,8 @@ freeCandidate s n d v l = candidate s n d v l && eqb (s .links n l .user .kind) 
 abbrev pub lowestLink : Net → ℕ → ℕ → ℕ → ℕ
 lowestLink s n d v = first links (freeCandidate s n d v)
 
--- "No candidate: the circuit is discarded, cause NoRoute. Candidates, all in use outward: it waits. Otherwise the lowest-numbered free one is
--- taken"
+-- "No candidate: the circuit is discarded, cause NoRoute. Candidates, all in use outward: it waits. Otherwise the lowest-numbered free one
+-- is taken"
 abbrev pub routePlan : Net → ℕ → ℕ → ℕ → Plan
 routePlan s n d v =
     pick (ltb (lowestLink s n d v) links) (OpenOut (lowestLink s n d v))
@@ -102,8 +102,8 @@ byWay s n p g (OtherNode b) = routePlan s n (entryOf (s .own n 0 .directions) b)
 abbrev pub wayPlan : Net → ℕ → ℕ → Target → Plan
 wayPlan s n p g = byWay s n p g (wayTo (widthAt s n) (numberIn g) (numberAt s n))
 
--- "With no circuit and a header short of its tokens: Waiting. With a whole header the switch reads it, anew at each such Step, in this order:
--- width differs from the switch: Refused, Split. .."
+-- "With no circuit and a header short of its tokens: Waiting. With a whole header the switch reads it, anew at each such Step, in this
+-- order: width differs from the switch: Refused, Split. .."
 abbrev pub headerPlan : World → ℕ → ℕ → Plan
 headerPlan w n p =
     pick (ltb (w .net .ports n p .counters .held) (sizeOf (markedWidth (wordAt w n p 0)))) Wait

@@ -34,7 +34,8 @@ ghost use Rattle.acts.specs.Needs.{NumberFits};
 ghost use Rattle.cells.specs.View.{view};
 ghost use Rattle.cells.specs.World.{world};
 ghost use Rattle.plans.specs.Needs.{Reads};
-ghost use Rattle.plans.specs.Plan.{routePlan, channelPlan, unitPlan, herePlan, byWay, wayPlan, headerPlan, outPlan, handPlan, byHop, planOf};
+ghost use Rattle.plans.specs.Plan.{routePlan, channelPlan, unitPlan, herePlan, byWay, wayPlan};
+ghost use Rattle.plans.specs.Plan.{headerPlan, outPlan, handPlan, byHop, planOf};
 
 pub enum Plan {
     // nothing is held

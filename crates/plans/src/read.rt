@@ -21,7 +21,8 @@ ghost use Rattle.acts.specs.Acts.{wordAt};
 ghost use Rattle.acts.specs.Needs.{Holds};
 ghost use Rattle.cells.specs.View.{view};
 ghost use Rattle.cells.specs.World.{world};
-ghost use Rattle.plans.specs.Plan.{markedWidth, sizeOf, sameWidth, targetAt, networkAt, numberIn, candidate, freeCandidate, tileFree, lowestTile};
+ghost use Rattle.plans.specs.Plan.{markedWidth, sizeOf, sameWidth, targetAt, networkAt};
+ghost use Rattle.plans.specs.Plan.{numberIn, candidate, freeCandidate, tileFree, lowestTile};
 
 // A header's width, by the mark of its first token.
 pub fn marked_width(word: u16) -> Width
@@ -98,7 +99,8 @@ pub fn network_at(st: &[u32], slot: Slot, p: usize) -> u32
 
 // A candidate, that no circuit uses outward if it is to be free.
 fn suits(st: &[u32], slot: Slot, d: u32, v: u32, free: bool, l: usize) -> bool
-    ensures { λ r. ⌜ r ≡ pick free (freeCandidate (view (now (st .entry))) (slot .0) d v l) (candidate (view (now (st .entry))) (slot .0) d v l) ⌝ }
+    ensures { λ r. ⌜ r ≡ pick free
+        (freeCandidate (view (now (st .entry))) (slot .0) d v l) (candidate (view (now (st .entry))) (slot .0) d v l) ⌝ }
 {
     let k = link::at(st, slot, l);
     let candidate = (k.enabled == 1) & ((k.direction == d) & (k.network == v));
@@ -110,7 +112,8 @@ fn suits(st: &[u32], slot: Slot, d: u32, v: u32, free: bool, l: usize) -> bool
 
 // The lowest candidate, or the lowest free one; 8 where there is none.
 pub fn lowest_link(st: &[u32], slot: Slot, d: u32, v: u32, free: bool) -> usize
-    ensures { λ r. ⌜ r ≡ first links (pick free (freeCandidate (view (now (st .entry))) (slot .0) d v) (candidate (view (now (st .entry))) (slot .0) d v)) ⌝ }
+    ensures { λ r. ⌜ r ≡ first links
+        (pick free (freeCandidate (view (now (st .entry))) (slot .0) d v) (candidate (view (now (st .entry))) (slot .0) d v)) ⌝ }
 {
     for l in 0..LINKS {
         if suits(st, slot, d, v, free, l) {

@@ -33,7 +33,8 @@ use Rattle.answers.specs.declared.Answer.the-variants.{Moved}
 use Rattle.messages.specs.Heard.{listens}
 use Rattle.messages.specs.Ended.{ended}
 use Rattle.messages.specs.Needs.{longest, Ready}
-use Rattle.switch.specs.Step.{consideredAt, grantsUp, took, closesOut, closesUnit, paid, arrives, crosses, movesOut, hears, opensChannel, opensUnit}
+use Rattle.switch.specs.Step.{consideredAt, grantsUp, took, closesOut, closesUnit, paid, arrives, crosses, movesOut}
+use Rattle.switch.specs.Step.{hears, opensChannel, opensUnit}
 use Rattle.switch.specs.Needs.{FarRoom, Takes}
 use Rattle.switch.proofs.Takes.{up-nodes, up-ports, up-far}
 
@@ -66,7 +67,8 @@ module _ (w : World) (n p : ℕ) where
   popped-able : (m j k : ℕ) → Holds w n p 1 → Able k (w .net .ports m j) → Able k (popped w n p .net .ports m j)
   unfolding popped Able
   popped-able m j k h a =
-      upd-all (λ b d q. Able k (w .net .ports b d) → Able k q) (w .net .ports) n p (countersAs (w .net .ports n p) (takeCounters (w .net .ports n p .counters))) m j
+      let after = countersAs (w .net .ports n p) (takeCounters (w .net .ports n p .counters)) in
+      upd-all (λ b d q. Able k (w .net .ports b d) → Able k q) (w .net .ports) n p after m j
       (λ d e. rw (d, e) (λ x. (record { head-in = omega arith; held-in = omega (arith, x .0 .held-in) }, omega (arith, x .1))))
       (λ o x. x) a
 
@@ -94,7 +96,9 @@ module _ (s : Net) (n p l x : ℕ) where
 
   freed-far : (m j : ℕ) → farOf (upd (s .links) n l (userAs (s .links n l) (ofPeer Nobody)) m j) ≡ farOf (s .links m j)
   freed-far m j =
-      upd-all (λ a b k. farOf k ≡ farOf (s .links a b)) (s .links) n l (userAs (s .links n l) (ofPeer Nobody)) m j (λ d e. rw (d, e)) (λ o. refl)
+      upd-all (λ a b k. farOf k ≡ farOf (s .links a b)) (s .links) n l (userAs (s .links n l) (ofPeer Nobody)) m j
+      (λ d e. rw (d, e))
+      (λ o. refl)
 
   closed-far : (m j : ℕ) → farOf (closesOut s n p l x .links m j) ≡ farOf (s .links m j)
   closed-far m j = by-test (closes x) (λ e. rw e (freed-far m j)) (λ e. rw e)
@@ -102,7 +106,8 @@ module _ (s : Net) (n p l x : ℕ) where
   pub closed-counters : (m j : ℕ) → closesOut s n p l x .ports m j .counters ≡ s .ports m j .counters
   closed-counters m j = by-test (closes x) (λ e. rw e (shut-counters s n p m j)) (λ e. rw e)
 
-  closed-room : (v : List ℕ) (m j k : ℕ) → Room (record { net = s; memory = v }) m j k → Room (record { net = closesOut s n p l x; memory = v }) m j k
+  closed-room : (v : List ℕ) (m j k : ℕ) → Room (record { net = s; memory = v }) m j k
+      → Room (record { net = closesOut s n p l x; memory = v }) m j k
   closed-room v m j k r =
       record {
         node = rw (closed-nodes) (r .node);
@@ -158,11 +163,18 @@ module _ (w : World) (s : Net) (m : List ℕ) (n p : ℕ) (e : record { net = s;
       )
 
   -- a token that a control unit hears: the last of a message, and any other
-  pub hears-end : (z : Net) (o : Out World) (x : ℕ) → x ≡ firstAt w n p → closes x ≡ true → z ≡ closesUnit s n p → o ≡ ended (record { net = z; memory = m }) n x → o ≡ hears w n p
+  pub hears-end : (z : Net) (o : Out World) (x : ℕ) → x ≡ firstAt w n p → closes x ≡ true
+      → z ≡ closesUnit s n p
+      → o ≡ ended (record { net = z; memory = m }) n x
+      → o ≡ hears w n p
   hears-end z o x q f h g =
-      rw (ap closes (sym q) ∙ f) (g ∙ ap (λ (v : World). ended v n x) (after-took z x (λ y t. closesUnit y n p) q h) ∙ ap (ended (withNet (took w n p) (closesUnit (took w n p .net) n p)) n) q)
+      let shut : World = withNet (took w n p) (closesUnit (took w n p .net) n p) in
+      rw (ap closes (sym q) ∙ f)
+      (g ∙ ap (λ (v : World). ended v n x) (after-took z x (λ y t. closesUnit y n p) q h) ∙ ap (ended shut n) q)
 
-  pub hears-more : (z : Net) (x : ℕ) → x ≡ firstAt w n p → closes x ≡ false → z ≡ listens s n x → out Moved (record { net = z; memory = m }) ≡ hears w n p
+  pub hears-more : (z : Net) (x : ℕ) → x ≡ firstAt w n p → closes x ≡ false
+      → z ≡ listens s n x
+      → out Moved (record { net = z; memory = m }) ≡ hears w n p
   hears-more z x q f h = rw (ap closes (sym q) ∙ f) (ap (out Moved) (after-took z x (λ y t. listens y n t) q h))
 
 -- A token that crosses
@@ -171,7 +183,9 @@ unfolding pushed
 arrival-nodes w Nowhere x = refl
 arrival-nodes w (At a j) x = refl
 
-pub arrived-nodes : (w : World) (s : Net) (m : List ℕ) (f : Far) (x n : ℕ) → record { net = s; memory = m } ≡ arrives w f x → n < w .net .nodes → n < s .nodes
+pub arrived-nodes : (w : World) (s : Net) (m : List ℕ) (f : Far) (x n : ℕ) → record { net = s; memory = m } ≡ arrives w f x
+    → n < w .net .nodes
+    → n < s .nodes
 arrived-nodes w s m f x n e h = rw (ap (λ (z : World). z .net .nodes) e ∙ arrival-nodes w f x) h
 
 pub cross-gives : (w : World) (s y z : Net) (m : List ℕ) (n l x : ℕ) (f : Far) → f ≡ farOf (w .net .links n l)
@@ -215,11 +229,13 @@ hopped-takes w n p k h r =
 pub channel-takes : (w : World) (n p k c t : ℕ) → Takes w n p k → Takes (withNet w (opensChannel (w .net) n p c t)) n p k
 channel-takes w n p k c t r =
     let z = hopped-takes w n p k (Hops.Channel c t) r in
+    let h = z .holds in
     by-test (eqb c sink)
-    (λ e. rw e (record { holds = record { node = z .holds .node; port = z .holds .port; fair = z .holds .fair; held = z .holds .held; reaches = z .holds .reaches }; up = z .up }))
-    (λ e. rw e (record { holds = record { node = z .holds .node; port = z .holds .port; fair = z .holds .fair; held = z .holds .held; reaches = z .holds .reaches }; up = z .up }))
+    (λ e. rw e (record { holds = record { node = h .node; port = h .port; fair = h .fair; held = h .held; reaches = h .reaches }; up = z .up }))
+    (λ e. rw e (record { holds = record { node = h .node; port = h .port; fair = h .fair; held = h .held; reaches = h .reaches }; up = z .up }))
 
 pub unit-takes : (w : World) (n p k : ℕ) → Takes w n p k → Takes (withNet w (opensUnit (w .net) n p)) n p k
 unit-takes w n p k r =
     let z = hopped-takes w n p k Hops.Unit r in
-    record { holds = record { node = z .holds .node; port = z .holds .port; fair = z .holds .fair; held = z .holds .held; reaches = z .holds .reaches }; up = z .up }
+    let h = z .holds in
+    record { holds = record { node = h .node; port = h .port; fair = h .fair; held = h .held; reaches = h .reaches }; up = z .up }

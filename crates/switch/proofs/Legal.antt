@@ -36,7 +36,9 @@ use Rattle.sound.proofs.Facts.{contents-facts}
 use Rattle.plans.specs.Plan.{targetAt}
 
 -- by what a word is
-by-shape : (P : Shape → Type 0) (w : ℕ) → P S.Closing → P S.Body → P S.Wrong → (w < 0x300 → P S.OneByte) → (0x600 ≤ w → P (threeShape (w - 0x600))) → P (shapeOf w)
+by-shape : (P : Shape → Type 0) (w : ℕ) → P S.Closing → P S.Body → P S.Wrong → (w < 0x300 → P S.OneByte)
+    → (0x600 ≤ w → P (threeShape (w - 0x600)))
+    → P (shapeOf w)
 unfolding shapeOf
 by-shape P w a b c d e =
     by-test (closes w) (λ t. rw t a) (λ t. rw t
@@ -45,7 +47,9 @@ by-shape P w a b c d e =
     (by-test (ltb w 0x300) (λ x. rw x (d (ltb-true w 0x300 x))) (λ x. rw x
     (by-test (ltb w 0x600) (λ y. rw y c) (λ y. rw y (e (ltb-false w 0x600 y)))))))))))
 
-by-three : (P : Shape → Type 0) (m : ℕ) → (legalChannel m ≡ true → P S.Channel) → P S.ThreeByte → (m ≡ 0x1C3 → P S.Unit) → P S.Wrong → P (threeShape m)
+by-three : (P : Shape → Type 0) (m : ℕ) → (legalChannel m ≡ true → P S.Channel) → P S.ThreeByte → (m ≡ 0x1C3 → P S.Unit)
+    → P S.Wrong
+    → P (threeShape m)
 unfolding threeShape
 by-three P m a b c d =
     by-test (legalChannel m) (λ t. rw t (a t)) (λ t. rw t
@@ -71,7 +75,11 @@ two-due : (w : ℕ) → isThree w ≡ true → isBad (step Fresh (shapeOf w)) �
 two-due w t =
     by-shape (λ x. isBad (step Fresh x) ≡ false → step Fresh x ≡ TwoDue) w (λ b. clash b) (λ b. clash b) (λ b. clash b)
     (λ l b. absurd (small l (eqb-true (w / 1024 % 2) 1 t)))
-    (λ g. by-three (λ x. isBad (step Fresh x) ≡ false → step Fresh x ≡ TwoDue) (w - 0x600) (λ l b. refl) (λ b. refl) (λ l b. clash b) (λ b. clash b))
+    (λ g. by-three (λ x. isBad (step Fresh x) ≡ false → step Fresh x ≡ TwoDue) (w - 0x600)
+    (λ l b. refl)
+    (λ b. refl)
+    (λ l b. clash b)
+    (λ b. clash b))
   where
     small : {w : ℕ} → w < 0x300 → w / 1024 % 2 ≡ 1 → ⊥
     small l e = omega arith
@@ -121,14 +129,18 @@ module _ (w : World) (s : sound w ≡ true) (n p : ℕ) (hn : n < w .net .nodes)
       let m = stretch (w .memory) (place n p) in
       let b = w .net .ports n p .counters .head in
       let k = w .net .ports n p .counters .held in
-      let at : (i : ℕ) → getD m ((b + i) % capacity) 0 ≡ wordAt w n p i = λ i. row-at capacity (place n p) ((b + i) % capacity) (w .memory) 0 (omega arith) in
+      let at : (i : ℕ) → getD m ((b + i) % capacity) 0 ≡ wordAt w n p i =
+      λ i. row-at capacity (place n p) ((b + i) % capacity) (w .memory) 0 (omega arith) in
       sym (ring-start m b k)
       ∙ ring-next m b k 0 (omega arith)
-      ∙ ap (λ (q : List ℕ). getD m ((b + 0) % capacity) 0 ∷ q) (ring-next m b k 1 (omega arith) ∙ ap (λ (q : List ℕ). getD m ((b + 1) % capacity) 0 ∷ q) (ring-next m b k 2 (omega arith)))
+      ∙ ap (λ (q : List ℕ). getD m ((b + 0) % capacity) 0 ∷ q) (ring-next m b k 1 (omega arith)
+      ∙ ap (λ (q : List ℕ). getD m ((b + 1) % capacity) 0 ∷ q) (ring-next m b k 2 (omega arith)))
       ∙ rw (at 0, at 1, at 2)
 
   -- the channel that a whole header names is there
-  named-door : hop (w .net) n p ≡ Shut → isThree (wordAt w n p 0) ≡ true → 3 ≤ w .net .ports n p .counters .held → isControl (wordAt w n p 2) ≡ false → Door (valueOf (wordAt w n p 2))
+  named-door : hop (w .net) n p ≡ Shut → isThree (wordAt w n p 0) ≡ true → 3 ≤ w .net .ports n p .counters .held
+      → isControl (wordAt w n p 2) ≡ false
+      → Door (valueOf (wordAt w n p 2))
   named-door e t h c =
       let f = contents-facts w s n hn p hp in
       third (wordAt w n p 0) (wordAt w n p 1) (wordAt w n p 2) (rest) (rw (e, front h) at f) t c

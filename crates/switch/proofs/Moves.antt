@@ -1,4 +1,5 @@
--- A token that moves over a cable stands last in the far port, the very word that stood first here: value, marks and width. Assumes nothing.
+-- A token that moves over a cable stands last in the far port, the very word that stood first here: value, marks and width. Assumes
+-- nothing.
 use Prim.Native.Nat.{ℕ}
 use mathlib.Core.Path.{_≡_, refl, ap, _∙_}
 use mathlib.Core.List.{List, [], _∷_, _++_}
@@ -30,13 +31,16 @@ module _ (w : World) (n p m j : ℕ) (h : Holds w n p 1) (r : Room w m j 1) (o :
   unfolding took popped
   took-queue =
       ap (λ (k : Port). held (k .counters) (took w n p .memory) (place m j)) took-port
-      ∙ elsewhere (w .net .ports m j .counters) (w .memory) n p m j (w .net .ports n p .counters .head) 0 (h .port) (r .port) (h .fair .head-in) o
+      ∙ elsewhere (w .net .ports m j .counters) (w .memory) n p m j (w .net .ports n p .counters .head) 0 (h .port) (r .port)
+      (h .fair .head-in) o
 
 paid-queue : (y : World) (n l m j : ℕ) → queue (pays y n l) m j ≡ queue y m j
 unfolding considered
 paid-queue y n l m j = refl
 
-pub moved : (w : World) (n p l : ℕ) (m : Slot) (j : ℕ) → Holds w n p 1 → farOf (w .net .links n l) ≡ At m j → Room w (m .0) j 1 → Off n p (m .0) j
+pub moved : (w : World) (n p l : ℕ) (m : Slot) (j : ℕ) → Holds w n p 1 → farOf (w .net .links n l) ≡ At m j
+    → Room w (m .0) j 1
+    → Off n p (m .0) j
     → queue (movesOut w n p l) (m .0) j ≡ queue w (m .0) j ++ (firstAt w n p ∷ [])
 unfolding crosses
 moved w n p l m j h e r o =
@@ -46,7 +50,8 @@ moved w n p l m j h e r o =
     let far : farOf (y .net .links n l) ≡ At m j = far-after w (z .net) (z .memory) n p refl l x ∙ e in
     let room : Room y (m .0) j 1 = room-after w (z .net) (z .memory) n p refl l x (At m j) h r in
     let kept : queue y (m .0) j ≡ queue w (m .0) j =
-    ap (λ (c : Counters). held c (z .memory) (place (m .0) j)) (closed-counters (z .net) n p l x (m .0) j) ∙ took-queue w n p (m .0) j h r o in
+    ap (λ (c : Counters). held c (z .memory) (place (m .0) j)) (closed-counters (z .net) n p l x (m .0) j)
+    ∙ took-queue w n p (m .0) j h r o in
     ap (λ (f : Far). queue (pays (arrives y f x) n l) (m .0) j) far
     ∙ paid-queue (pushed y (m .0) j x) n l (m .0) j
     ∙ pushed-queue y (m .0) j x room

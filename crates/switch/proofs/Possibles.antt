@@ -2,7 +2,7 @@
 use Prim.{tt}
 use Prim.Native.Nat.{ℕ, _+_, _%_, _<_, _≤_}
 use mathlib.Core.Path.{_≡_, refl, sym, ap}
-use mathlib.Core.Bool.{true, false, not, _||_}
+use mathlib.Core.Bool.{true, not, _||_}
 use mathlib.Core.Logic.{inl, inr, ⊎-elim}
 use native.Mathlib.Omega.{arith}
 use lib.Dec.{eqb, ltb, lit≤}
@@ -38,7 +38,8 @@ use Rattle.acts.proofs.Doors.{given-room}
 use Rattle.messages.specs.Needs.{Ready}
 use Rattle.sound.specs.Sound.{sound}
 use Rattle.sound.proofs.Facts.{fair, reaches, cable-facts, room-facts, pair-facts, silent-facts}
-use Rattle.plans.specs.Plan.{markedWidth, sizeOf, sameWidth, targetAt, networkAt, candidate, lowestLink, routePlan, lowestTile, tileFree, channelPlan, unitPlan, herePlan, numberIn, byWay, wayPlan, headerPlan, outPlan, handPlan, byHop, planOf}
+use Rattle.plans.specs.Plan.{markedWidth, sizeOf, sameWidth, targetAt, networkAt, candidate, lowestLink, routePlan, lowestTile, tileFree}
+use Rattle.plans.specs.Plan.{channelPlan, unitPlan, herePlan, numberIn, byWay, wayPlan, headerPlan, outPlan, handPlan, byHop, planOf}
 use Rattle.switch.specs.Needs.{Takes, FarRoom, Possible}
 use Rattle.switch.proofs.Legal.{LegalDoor, legal-target}
 use Rattle.switch.proofs.Cabled.{cabled}
@@ -129,7 +130,8 @@ module _ (w : World) (s : sound w ≡ true) (n p : ℕ) (hn : n < w .net .nodes)
       let e : (w .net .ports n p .counters .head + 0) % capacity ≡ w .net .ports n p .counters .head = omega arith in
       ap (λ (i : ℕ). getD (w .memory) (place n p + i) 0) e
 
-  hand-possible : (c t : ℕ) → 1 ≤ w .net .ports n p .counters .held → hop (w .net) n p ≡ Hops.Channel c t → Possible w n p (handPlan (w .net) n c t (wordAt w n p 0))
+  hand-possible : (c t : ℕ) → 1 ≤ w .net .ports n p .counters .held → hop (w .net) n p ≡ Hops.Channel c t
+      → Possible w n p (handPlan (w .net) n c t (wordAt w n p 0))
   hand-possible c t h e =
       let tile = pair-facts w s n hn PortTile p hp t (rw e) .0 in
       let x = oldest (fair w s n hn p hp .head-in) in

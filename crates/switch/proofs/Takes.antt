@@ -41,7 +41,8 @@ module _ (s : Net) where
   unfolding considered
   at-far Nowhere n l = refl
   at-far (At m j) n l =
-      upd-all (λ a b k. farOf k ≡ farOf (s .links a b)) (s .links) (m .0) j (creditAs (s .links (m .0) j) (s .links (m .0) j .credit + granted s (m .0) j)) n l
+      let here = s .links (m .0) j in
+      upd-all (λ a b k. farOf k ≡ farOf (s .links a b)) (s .links) (m .0) j (creditAs here (here .credit + granted s (m .0) j)) n l
       (λ d e. rw (d, e))
       (λ o. refl)
 

@@ -101,8 +101,8 @@ abbrev pub hands : World → ℕ → ℕ → ℕ → ℕ → World
 hands w n p c t =
     withNet (took w n p) (closesChannel (handed (took w n p .net) n c (firstAt w n p)) n p c t (firstAt w n p))
 
--- "To the control unit: Moved, but for the two end answers": "The hop closes first, with any grant that the taking of its last token brings",
--- and then the message is at its end
+-- "To the control unit: Moved, but for the two end answers": "The hop closes first, with any grant that the taking of its last token
+-- brings", and then the message is at its end
 abbrev pub hears : World → ℕ → ℕ → Out World
 hears w n p =
     pick (closes (firstAt w n p))

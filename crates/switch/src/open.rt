@@ -15,7 +15,8 @@ ghost use Prim.Native.Nat.{_<_};
 ghost use Rattle.names.specs.Size.{links, ports, tileLinks};
 ghost use Rattle.acts.specs.Needs.{Door};
 ghost use Rattle.cells.specs.View.{view};
-ghost use Rattle.switch.specs.Step.{opensOut, opensChannel, serves, opensUnit, closesOut, closesChannel, idle, closesUnit, closesDropped};
+ghost use Rattle.switch.specs.Step.{opensOut, opensChannel, serves, opensUnit, closesOut};
+ghost use Rattle.switch.specs.Step.{closesChannel, idle, closesUnit, closesDropped};
 
 // Outward by a link.
 pub fn open_out(st: &mut [u32], slot: Slot, p: usize, l: usize)

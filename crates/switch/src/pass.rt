@@ -17,14 +17,14 @@ use names::Slot;
 use tokens::word::closes;
 ghost use mathlib.Core.Path.{_≡_};
 ghost use Prim.Native.Nat.{_-_, _<_};
-ghost use Rattle.names.specs.Size.{links, ports, tileLinks};
+ghost use Rattle.names.specs.Size.{links, tileLinks};
 ghost use Rattle.cells.specs.View.{view};
 ghost use Rattle.cells.specs.World.{world, farOf};
 ghost use Rattle.acts.specs.Acts.{firstAt};
 ghost use Rattle.acts.specs.Needs.{Given};
 ghost use Rattle.answers.specs.Out.{out};
 ghost use Rattle.messages.specs.Needs.{Ready};
-ghost use Rattle.switch.specs.Step.{paid, arrives, pays, crosses, movesOut, hands, hears, drops};
+ghost use Rattle.switch.specs.Step.{paid, arrives, crosses, movesOut, hands, hears, drops};
 ghost use Rattle.switch.specs.Needs.{Takes, FarRoom};
 
 // The token is put at the far end of the cable.
@@ -59,7 +59,8 @@ fn less_one(n: u32) -> u32
 
 // A token crosses at once: put at the far end, paid, and a grant considered.
 fn cross(st: &mut [u32], mem: &mut [u16], slot: Slot, l: usize, word: u16)
-    requires { ⌜ (slot .0 < view (now st) .nodes) × (l < links) × FarRoom (world (now st) (now mem)) (farOf (view (now st) .links (slot .0) l)) ⌝ }
+    requires { ⌜ (slot .0 < view (now st) .nodes) × (l < links)
+        × FarRoom (world (now st) (now mem)) (farOf (view (now st) .links (slot .0) l)) ⌝ }
     ensures { λ r. ⌜ world (now (st .exit)) (now (mem .exit)) ≡ crosses (world (now (st .entry)) (now (mem .entry))) (slot .0) l word ⌝ }
 {
     let far = far_of(link::at(st, slot, l));
@@ -70,7 +71,8 @@ fn cross(st: &mut [u32], mem: &mut [u16], slot: Slot, l: usize, word: u16)
 
 // "Outward: .. Moved."
 pub fn move_out(st: &mut [u32], mem: &mut [u16], slot: Slot, p: usize, l: usize)
-    requires { ⌜ (l < links) × Takes (world (now st) (now mem)) (slot .0) p 1 × FarRoom (world (now st) (now mem)) (farOf (view (now st) .links (slot .0) l)) ⌝ }
+    requires { ⌜ (l < links) × Takes (world (now st) (now mem)) (slot .0) p 1
+        × FarRoom (world (now st) (now mem)) (farOf (view (now st) .links (slot .0) l)) ⌝ }
     ensures { λ r. ⌜ world (now (st .exit)) (now (mem .exit)) ≡ movesOut (world (now (st .entry)) (now (mem .entry))) (slot .0) p l ⌝ }
 {
     let word = take(st, mem, slot, p);
@@ -80,7 +82,8 @@ pub fn move_out(st: &mut [u32], mem: &mut [u16], slot: Slot, p: usize, l: usize)
 
 // "To a channel: .. Moved."
 pub fn hand(st: &mut [u32], mem: &mut [u16], slot: Slot, p: usize, c: usize, t: usize)
-    requires { ⌜ (t < tileLinks) × Given (view (now st)) (slot .0) c (firstAt (world (now st) (now mem)) (slot .0) p) × Takes (world (now st) (now mem)) (slot .0) p 1 ⌝ }
+    requires { ⌜ (t < tileLinks) × Given (view (now st)) (slot .0) c (firstAt (world (now st) (now mem)) (slot .0) p)
+        × Takes (world (now st) (now mem)) (slot .0) p 1 ⌝ }
     ensures { λ r. ⌜ world (now (st .exit)) (now (mem .exit)) ≡ hands (world (now (st .entry)) (now (mem .entry))) (slot .0) p c t ⌝ }
 {
     let word = take(st, mem, slot, p);

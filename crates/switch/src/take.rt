@@ -9,9 +9,8 @@ use names::size::LINKS;
 use tokens::header::Width;
 ghost use mathlib.Core.Path.{_≡_};
 ghost use Prim.Native.Nat.{_<_};
-ghost use Rattle.names.specs.Size.{links};
 ghost use Rattle.acts.specs.Acts.{firstAt};
-ghost use Rattle.grants.specs.Grants.{Leads, Cabled};
+ghost use Rattle.grants.specs.Grants.{Leads};
 ghost use Rattle.cells.specs.View.{view};
 ghost use Rattle.cells.specs.World.{world};
 ghost use Rattle.plans.specs.Plan.{sizeOf};
@@ -45,7 +44,8 @@ fn grant_up(st: &mut [u32], slot: Slot, p: usize)
 // Takes the oldest token of a port.
 pub fn take(st: &mut [u32], mem: &mut [u16], slot: Slot, p: usize) -> u16
     requires { ⌜ Takes (world (now st) (now mem)) (slot .0) p 1 ⌝ }
-    ensures { λ r. ⌜ (r ≡ firstAt (world (now (st .entry)) (now (mem .entry))) (slot .0) p) × (world (now (st .exit)) (now (mem .exit)) ≡ took (world (now (st .entry)) (now (mem .entry))) (slot .0) p) ⌝ }
+    ensures { λ r. ⌜ (r ≡ firstAt (world (now (st .entry)) (now (mem .entry))) (slot .0) p)
+        × (world (now (st .exit)) (now (mem .exit)) ≡ took (world (now (st .entry)) (now (mem .entry))) (slot .0) p) ⌝ }
 {
     let word = pop(st, mem, slot, p);
     grant_up(st, slot, p);

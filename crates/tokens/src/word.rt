@@ -3,7 +3,8 @@
 // header of three bytes. The real wire has no such marks.
 use crate::header::Width;
 ghost use mathlib.Core.Path.{_≡_};
-ghost use Rattle.tokens.specs.Word.{dataWord, controlWord, headerWord, unitWord, valueOf, isControl, isHeader, isThree, closes, isPause};
+ghost use Rattle.tokens.specs.Word.{dataWord, controlWord, headerWord, unitWord, valueOf};
+ghost use Rattle.tokens.specs.Word.{isControl, isHeader, isThree, closes, isPause};
 
 pub const END: u16 = 0x0101;
 

@@ -9,13 +9,21 @@ returns : tie.Need-returns
 returns c = rw (eq-eqb _ _ (c .if1 .taken))
 
 keep-requires : tie.Need-keep-requires
-keep-requires c κs = rw (c .at .ensures) (⊎-elim (λ e. absurd (c .before .before .if1 .left e)) (λ h. h .1) (c .before .before .before .before .pre .1))
+keep-requires c κs =
+    let tested = c .before .before in
+    rw (c .at .ensures) (⊎-elim (λ e. absurd (tested .if1 .left e)) (λ h. h .1) (tested .before .before .pre .1))
 
 put-requires : tie.Need-put-requires
-put-requires c κs = (c .before .before .before .before .before .before .pre .0, ⊎-elim (λ e. absurd (c .before .before .before .before .if1 .left e)) (λ h. h .0) (c .before .before .before .before .before .before .pre .1))
+put-requires c κs =
+    let tested = c .before .before .before .before in
+    let entry = tested .before .before in
+    (entry .pre .0, ⊎-elim (λ e. absurd (tested .if1 .left e)) (λ h. h .0) (entry .pre .1))
 
 returns-2 : tie.Need-returns-2
-returns-2 c = rw (ne-eqb _ _ (c .before .before .before .before .before .before .before .if1 .left), c .before .before .put .ensures, c .before .before .before .before .keep .ensures, c .before .before .before .before .before .at .ensures)
+returns-2 c =
+    let put = c .before .before in
+    let read = put .before .before .before in
+    rw (ne-eqb _ _ (read .before .before .if1 .left), put .put .ensures, put .before .before .keep .ensures, read .at .ensures)
 
 pub give-spec : {M : Type 1} → statement M
 give-spec =

@@ -5,7 +5,8 @@ use Rattle.acts.proofs.set_sending.Tie as tie
 
 returns : tie.Need-returns
 returns c =
-    rw (c .before .before .put .ensures, c .before .before .before .before .of-peer .ensures, c .before .before .before .before .before .at .ensures)
+    let put = c .before .before in
+    rw (put .put .ensures, put .before .before .of-peer .ensures, put .before .before .before .at .ensures)
 
 pub set-sending-spec : {M : Type 1} → statement M
 set-sending-spec = tie.close (tie.spec (λ c κs. search needs) (λ c κs. search needs) (λ c κs. search needs) (λ c. search needs) returns)

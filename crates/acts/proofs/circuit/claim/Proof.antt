@@ -17,7 +17,8 @@ put-requires c κs =
 returns-2 : tie.Need-returns-2
 returns-2 c =
     let put = c .before .before in
-    rw (ne-eqb _ _ (put .before .before .before .before .before .if1 .left), put .put .ensures, put .before .before .of-peer .ensures, put .before .before .before .at .ensures)
+    let read = put .before .before .before in
+    rw (ne-eqb _ _ (read .before .before .if1 .left), put .put .ensures, put .before .before .of-peer .ensures, read .at .ensures)
 
 pub claim-spec : {M : Type 1} → statement M
 claim-spec =

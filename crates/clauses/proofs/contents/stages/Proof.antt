@@ -28,16 +28,19 @@ stages-of-requires : tie.Need-stages-of-requires
 stages-of-requires c κs =
     let a = c .before .before in
     let s = start a in
+    let n = s .args .slot .0 in
+    let p = s .args .p in
     let r = is-ready a in (
-      rw (a .at .ensures) (fair (lent s) (s .args .slot .0) (s .args .p) r),
-      ap length (c .stretch .ensures) ∙ row-long capacity (place (s .args .slot .0) (s .args .p)) (s .args .mem .now) (reaches (lent s) (s .args .slot .0) (s .args .p) r),
+      rw (a .at .ensures) (fair (lent s) n p r),
+      ap length (c .stretch .ensures) ∙ row-long capacity (place n p) (s .args .mem .now) (reaches (lent s) n p r),
     )
 
 returns : tie.Need-returns
 returns c =
     let a = c .before .before .before in
     let s = start a in
-    read-off (lent s) (s .args .slot .0) (s .args .p) (is-ready a) (a .at .ensures) (c .before .before .hop-of .ensures) (c .before .stretch .ensures) (c .stages-of .ensures)
+    read-off (lent s) (s .args .slot .0) (s .args .p) (is-ready a) (a .at .ensures)
+    (c .before .before .hop-of .ensures) (c .before .stretch .ensures) (c .stages-of .ensures)
 
 returns-2 : tie.Need-returns-2
 returns-2 c = rw (← c .before .ready .ensures, c .if1 .left)

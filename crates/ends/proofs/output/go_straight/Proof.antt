@@ -14,7 +14,8 @@ claim-requires c κs =
     let entry = given .before .before .before in
     let a = entry .args in
     let s = view (a .st .now) in
-    rw (given .give .ensures, handed-nodes s (a .slot .0) (a .d) (a .word)) (entry .pre .0, door s (a .slot .0) (a .d) (a .word) (entry .pre .2))
+    rw (given .give .ensures, handed-nodes s (a .slot .0) (a .d) (a .word))
+    (entry .pre .0, door s (a .slot .0) (a .d) (a .word) (entry .pre .2))
 
 cast-t12-2 : tie.Need-cast-t12-2
 cast-t12-2 c =
@@ -27,7 +28,8 @@ set-sending-requires c κs =
     let given = claimed .before .before .before .before .before in
     let entry = given .before .before .before in
     let a = entry .args in
-    rw (claimed .claim .ensures, claimed-nodes _ (a .slot .0) (a .d) (claimed .before .still .result), given .give .ensures, handed-nodes (view (a .st .now)) (a .slot .0) (a .d) (a .word))
+    let handed = handed-nodes (view (a .st .now)) (a .slot .0) (a .d) (a .word) in
+    rw (claimed .claim .ensures, claimed-nodes _ (a .slot .0) (a .d) (claimed .before .still .result), given .give .ensures, handed)
     (entry .pre .0, entry .pre .1)
 
 returns : tie.Need-returns
@@ -35,7 +37,8 @@ returns c =
     let sending = c .before .before in
     let claimed = sending .before .before .before .before .before in
     let given = claimed .before .before .before .before .before in
-    straight-gives _ _ _ _ _ _ _ _ _ _ (given .give .ensures) (claimed .before .still .ensures) (claimed .claim .ensures) (sending .before .still2 .ensures) (sending .set-sending .ensures)
+    straight-gives _ _ _ _ _ _ _ _ _ _ (given .give .ensures) (claimed .before .still .ensures) (claimed .claim .ensures)
+    (sending .before .still2 .ensures) (sending .set-sending .ensures)
 
 pub go-straight-spec : {M : Type 1} → statement M
 go-straight-spec =

@@ -33,7 +33,8 @@ returns c =
     let networked = went .before .before .before .before in
     let filled = networked .before .before .before .before .before .before in
     let made = filled .before .before .before in
-    opens-gives _ _ _ _ _ _ _ _ _ _ _ _ (made .make-header .ensures ∙ rw (made .before .width-at .ensures)) (rw (made .before .before .before .at .ensures)) (filled .fill .ensures) (networked .set-network .ensures) (went .go-by .ensures)
+    opens-gives _ _ _ _ _ _ _ _ _ _ _ _ (made .make-header .ensures ∙ rw (made .before .width-at .ensures))
+    (rw (made .before .before .before .at .ensures)) (filled .fill .ensures) (networked .set-network .ensures) (went .go-by .ensures)
 
 pub open-by-spec : {M : Type 1} → statement M
 open-by-spec =

@@ -49,7 +49,8 @@ returns c =
     let a = c .before .before .before .before .before .before .before .before .args in
     let s = a .stretch .now in
     let next = ap threes (ring-next s (a .c .head) (a .c .held) (l .i) (omega arith)) in
-    omega (arith, l .inv .1, next ∙ stops (here s (a .c) (l .i)) (rest s (a .c) (l .i)) (c .before .of-three .ensures) (not-true _ (c .if2 .taken)))
+    let over = stops (here s (a .c) (l .i)) (rest s (a .c) (l .i)) (c .before .of-three .ensures) (not-true _ (c .if2 .taken)) in
+    omega (arith, l .inv .1, next ∙ over)
 
 loop-again : tie.Need-loop-again Inv-loop μ-loop
 loop-again c =
