@@ -1,3 +1,4 @@
 -- Laws of the acts.
 pub mod Pushes
+pub mod Doors
 pub mod Queues

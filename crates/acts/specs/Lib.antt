@@ -1,2 +1,3 @@
--- The definitions of the acts that calls are composed of.
+-- The definitions of the acts that calls are composed of, and what they ask for.
 pub mod Acts
+pub mod Needs

@@ -41,15 +41,18 @@ module _ (w : World) where
     pub wire-unsound : Refused w (Wire a l b k) Names.Unsound (not (sound w) ≡ true)
     wire-unsound = exactly w (Wire a l b k) Names.Unsound
 
-    pub wire-no-such : Refused w (Wire a l b k) Names.NoSuch ((not (sound w) ≡ false) × (not (linkAt (w .net) (a .0) l && linkAt (w .net) (b .0) k) ≡ true))
+    pub wire-no-such : Refused w (Wire a l b k) Names.NoSuch ((not (sound w) ≡ false)
+        × (not (linkAt (w .net) (a .0) l && linkAt (w .net) (b .0) k) ≡ true))
     wire-no-such = exactly w (Wire a l b k) Names.NoSuch
 
     pub wire-value : Refused w (Wire a l b k) Names.Value
-        ((not (sound w) ≡ false) × ((not (linkAt (w .net) (a .0) l && linkAt (w .net) (b .0) k) ≡ false) × ((eqb (a .0) (b .0) && eqb l k) ≡ true)))
+        ((not (sound w) ≡ false) × ((not (linkAt (w .net) (a .0) l && linkAt (w .net) (b .0) k) ≡ false)
+        × ((eqb (a .0) (b .0) && eqb l k) ≡ true)))
     wire-value = exactly w (Wire a l b k) Names.Value
 
     pub wire-busy : Refused w (Wire a l b k) Names.Busy
-        ((not (sound w) ≡ false) × ((not (linkAt (w .net) (a .0) l && linkAt (w .net) (b .0) k) ≡ false) × (((eqb (a .0) (b .0) && eqb l k) ≡ false) × ((endTaken (w .net) (a .0) l || endTaken (w .net) (b .0) k) ≡ true))))
+        ((not (sound w) ≡ false) × ((not (linkAt (w .net) (a .0) l && linkAt (w .net) (b .0) k) ≡ false)
+        × (((eqb (a .0) (b .0) && eqb l k) ≡ false) × ((endTaken (w .net) (a .0) l || endTaken (w .net) (b .0) k) ≡ true))))
     wire-busy = exactly w (Wire a l b k) Names.Busy
 
   module _ (a : Slot) (x : Setting) where
@@ -64,7 +67,8 @@ module _ (w : World) where
     set-value = exactly w (Set a x) Names.Value
 
     pub set-busy : Refused w (Set a x) Names.Busy
-        ((not (sound w) ≡ false) × ((not (ltb (a .0) (w .net .nodes) && linkThere x) ≡ false) × ((not (inRange x) ≡ false) × (setBusy (w .net) (a .0) x ≡ true))))
+        ((not (sound w) ≡ false) × ((not (ltb (a .0) (w .net .nodes) && linkThere x) ≡ false) × ((not (inRange x) ≡ false)
+        × (setBusy (w .net) (a .0) x ≡ true))))
     set-busy = exactly w (Set a x) Names.Busy
 
   module _ (a : Slot) (c : ℕ) (g : Goal) (v : ℕ) where
@@ -79,7 +83,8 @@ module _ (w : World) where
     aim-value = exactly w (Aim a c g v) Names.Value
 
     pub aim-open : Refused w (Aim a c g v) Names.Open
-        ((not (sound w) ≡ false) × ((not (endAt (w .net) (a .0) c) ≡ false) × ((not (goalRanged g && ltb v networks) ≡ false) × (isOpen (w .net .ends (a .0) c) ≡ true))))
+        ((not (sound w) ≡ false) × ((not (endAt (w .net) (a .0) c) ≡ false) × ((not (goalRanged g && ltb v networks) ≡ false)
+        × (isOpen (w .net) (a .0) c ≡ true))))
     aim-open = exactly w (Aim a c g v) Names.Open
 
   module _ (a : Slot) (c : ℕ) (k : Wanted) where
@@ -90,11 +95,12 @@ module _ (w : World) where
     input-no-such = exactly w (Input a c k) Names.NoSuch
 
     pub input-empty : Refused w (Input a c k) Names.Empty
-        ((not (sound w) ≡ false) × ((not (endAt (w .net) (a .0) c) ≡ false) × (eqb (w .net .ends (a .0) c .held) 0 ≡ true)))
+        ((not (sound w) ≡ false) × ((not (endAt (w .net) (a .0) c) ≡ false) × (eqb (w .net .ends .buffers (a .0) c .held) 0 ≡ true)))
     input-empty = exactly w (Input a c k) Names.Empty
 
     pub input-trap : Refused w (Input a c k) Names.Trap
-        ((not (sound w) ≡ false) × ((not (endAt (w .net) (a .0) c) ≡ false) × ((eqb (w .net .ends (a .0) c .held) 0 ≡ false) × (not (isWanted (firstHeld (w .net .ends (a .0) c)) k) ≡ true))))
+        ((not (sound w) ≡ false) × ((not (endAt (w .net) (a .0) c) ≡ false) × ((eqb (w .net .ends .buffers (a .0) c .held) 0 ≡ false)
+        × (not (isWanted (firstHeld (w .net .ends .buffers (a .0) c)) k) ≡ true))))
     input-trap = exactly w (Input a c k) Names.Trap
 
   -- Output's rows, each with those before it absent
@@ -106,23 +112,33 @@ module _ (w : World) where
     output-no-such = exactly w (Output a c x) Names.NoSuch
 
     pub output-unaimed : Refused w (Output a c x) Names.Unaimed
-        ((not (sound w) ≡ false) × ((not (endAt (w .net) (a .0) c) ≡ false) × (eqb (w .net .ends (a .0) c .aim) 0 ≡ true)))
+        ((not (sound w) ≡ false) × ((not (endAt (w .net) (a .0) c) ≡ false) × (eqb (w .net .ends .aims (a .0) c .kind) 0 ≡ true)))
     output-unaimed = exactly w (Output a c x) Names.Unaimed
 
     pub output-hardware : Refused w (Output a c x) Names.Hardware
-        ((not (sound w) ≡ false) × ((not (endAt (w .net) (a .0) c) ≡ false) × ((eqb (w .net .ends (a .0) c .aim) 0 ≡ false) × (eqb (tokenNo x (targetOf (w .net .ends (a .0) c))) 7 ≡ true))))
+        ((not (sound w) ≡ false) × ((not (endAt (w .net) (a .0) c) ≡ false) × ((eqb (w .net .ends .aims (a .0) c .kind) 0 ≡ false)
+        × (eqb (tokenNo x (targetOf (w .net .ends .aims (a .0) c))) 7 ≡ true))))
     output-hardware = exactly w (Output a c x) Names.Hardware
 
     pub output-privileged : Refused w (Output a c x) Names.Privileged
-        ((not (sound w) ≡ false) × ((not (endAt (w .net) (a .0) c) ≡ false) × ((eqb (w .net .ends (a .0) c .aim) 0 ≡ false) × ((eqb (tokenNo x (targetOf (w .net .ends (a .0) c))) 7 ≡ false) × (eqb (tokenNo x (targetOf (w .net .ends (a .0) c))) 8 ≡ true)))))
+        ((not (sound w) ≡ false) × ((not (endAt (w .net) (a .0) c) ≡ false) × ((eqb (w .net .ends .aims (a .0) c .kind) 0 ≡ false)
+        × ((eqb (tokenNo x (targetOf (w .net .ends .aims (a .0) c))) 7 ≡ false)
+        × (eqb (tokenNo x (targetOf (w .net .ends .aims (a .0) c))) 8 ≡ true)))))
     output-privileged = exactly w (Output a c x) Names.Privileged
 
     pub output-narrow : Refused w (Output a c x) Names.Narrow
-        ((not (sound w) ≡ false) × ((not (endAt (w .net) (a .0) c) ≡ false) × ((eqb (w .net .ends (a .0) c .aim) 0 ≡ false) × ((eqb (tokenNo x (targetOf (w .net .ends (a .0) c))) 7 ≡ false) × ((eqb (tokenNo x (targetOf (w .net .ends (a .0) c))) 8 ≡ false) × (isNarrow (planOf (w .net) (a .0) c (targetOf (w .net .ends (a .0) c)) (wordOf x)) ≡ true))))))
+        ((not (sound w) ≡ false) × ((not (endAt (w .net) (a .0) c) ≡ false) × ((eqb (w .net .ends .aims (a .0) c .kind) 0 ≡ false)
+        × ((eqb (tokenNo x (targetOf (w .net .ends .aims (a .0) c))) 7 ≡ false)
+        × ((eqb (tokenNo x (targetOf (w .net .ends .aims (a .0) c))) 8 ≡ false)
+        × (isNarrow (planOf (w .net) (a .0) c (targetOf (w .net .ends .aims (a .0) c)) (wordOf x)) ≡ true))))))
     output-narrow = exactly w (Output a c x) Names.Narrow
 
     pub output-full : Refused w (Output a c x) Names.Full
-        ((not (sound w) ≡ false) × ((not (endAt (w .net) (a .0) c) ≡ false) × ((eqb (w .net .ends (a .0) c .aim) 0 ≡ false) × ((eqb (tokenNo x (targetOf (w .net .ends (a .0) c))) 7 ≡ false) × ((eqb (tokenNo x (targetOf (w .net .ends (a .0) c))) 8 ≡ false) × ((isNarrow (planOf (w .net) (a .0) c (targetOf (w .net .ends (a .0) c)) (wordOf x)) ≡ false) × (isFull (planOf (w .net) (a .0) c (targetOf (w .net .ends (a .0) c)) (wordOf x)) ≡ true)))))))
+        ((not (sound w) ≡ false) × ((not (endAt (w .net) (a .0) c) ≡ false) × ((eqb (w .net .ends .aims (a .0) c .kind) 0 ≡ false)
+        × ((eqb (tokenNo x (targetOf (w .net .ends .aims (a .0) c))) 7 ≡ false)
+        × ((eqb (tokenNo x (targetOf (w .net .ends .aims (a .0) c))) 8 ≡ false)
+        × ((isNarrow (planOf (w .net) (a .0) c (targetOf (w .net .ends .aims (a .0) c)) (wordOf x)) ≡ false)
+        × (isFull (planOf (w .net) (a .0) c (targetOf (w .net .ends .aims (a .0) c)) (wordOf x)) ≡ true)))))))
     output-full = exactly w (Output a c x) Names.Full
 
   module _ (a : Slot) (p : ℕ) where

@@ -1,6 +1,6 @@
 -- A record that is written changes its place of its table and nothing else. Assumes nothing.
 use Prim.Native.Nat.{ℕ, _+_, _*_, _-_, _≤_, _<_}
-use mathlib.Core.Path.{_≡_, sym, ap, _∙_}
+use mathlib.Core.Path.{_≡_, refl, sym, ap, _∙_}
 use mathlib.Core.Logic.{inl, inr}
 use mathlib.Core.List.{List}
 use native.Mathlib.Omega.{arith}
@@ -11,8 +11,11 @@ use Rattle.laws.specs.Row.{Same}
 use Rattle.laws.specs.Table.{upd}
 use Rattle.laws.proofs.Row.{row-put, same-put, rest-kept, listed}
 use Rattle.cells.specs.Layout.{stride, Within, begins, nodesIn, table, node, link, port, tile, end, unit}
-use Rattle.cells.specs.Records.{toNode, fromNode, toLink, fromLink, toPort, fromPort, toTile, fromTile, toEnd, fromEnd, toUnit, fromUnit}
-use Rattle.cells.specs.View.{view, withNode, withLink, withPort, withTile, withEnd, withUnit}
+use Rattle.cells.specs.Records.{toNode, toLink, toPort, toTile, toEnd, toUnit}
+use Rattle.cells.specs.Records.{fromNode, fromLink, fromPort, fromTile, fromEnd, fromUnit}
+use Rattle.names.specs.Size.{endBuffer, unitBuffer}
+use Rattle.cells.specs.View.{view, linkTables, portTables, endTables, unitTables}
+use Rattle.cells.specs.View.{withNode, withLink, withPort, withTile, withEnd, withUnit}
 use Rattle.cells.specs.declared.layout.Kind.{Kind}
 use Rattle.cells.specs.declared.node.Node.{Node}
 use Rattle.cells.specs.declared.link.Link.{Link}
@@ -48,7 +51,8 @@ module _ (k : Kind) (w : Within k) (xs ws : List ℕ) (n i a e : ℕ) (hn : n < 
         here =
             λ f.
             table-set k w n i hn hi changed f
-            ∙ ap (λ (r : List ℕ). upd (table k f xs) n i (f r)) (rw (← ha) (row-put xs ws a e (k .size) (omega arith) ends long sized));
+            ∙ ap (λ (r : List ℕ). upd (table k f xs) n i (f r))
+            (rw (← ha) (row-put xs ws a e (k .size) (omega arith) ends long sized));
         rest =
             ap (λ (m : ℕ). drop (m * stride) (putMid a (e - a) xs ws)) (nodes-same k w n i hn hi changed)
             ∙ rest-kept changed (nodesIn xs * stride) (omega (arith, in-node k w n i hi));
@@ -56,32 +60,69 @@ module _ (k : Kind) (w : Within k) (xs ws : List ℕ) (n i a e : ℕ) (hn : n < 
       }
 
 -- a record that holds an array is read back as it was written
-end-back : (k : End) → length (k .tokens) ≡ 8 → toEnd (fromEnd k) ≡ k
-end-back k full =
-    λ j. record { aim = k .aim; number = k .number; channel = k .channel; network = k .network; sending = k .sending; claim = k .claim; held = k .held; tokens = sym (listed 8 (k .tokens) 0 full) j }
+buffer-back : (k : End) → length (k .buffer .tokens) ≡ endBuffer → toEnd (fromEnd k) .buffer ≡ k .buffer
+buffer-back k full = λ j. record { held = k .buffer .held; tokens = sym (listed endBuffer (k .buffer .tokens) 0 full) j }
 
-unit-back : (k : Unit) → length (k .tokens) ≡ 11 → toUnit (fromUnit k) ≡ k
-unit-back k full = λ j. record { serves = k .serves; heard = k .heard; tokens = sym (listed 11 (k .tokens) 0 full) j }
+hearing-back : (k : Unit) → length (k .hearing .tokens) ≡ unitBuffer → toUnit (fromUnit k) .hearing ≡ k .hearing
+hearing-back k full = λ j. record { heard = k .hearing .heard; tokens = sym (listed unitBuffer (k .hearing .tokens) 0 full) j }
+
+module _ {k : Kind} {xs ys ws : List ℕ} {n i : ℕ} (z : Written k xs ys ws n i) where
+  -- the table that is read by f, where the words written are those of a record v
+  set-as : {A : Type 0} (f : List ℕ → A) (r : List ℕ) (v : A) → ws ≡ r → f r ≡ v → table k f ys ≡ upd (table k f xs) n i v
+  set-as f r v h e = z .here f ∙ ap (upd (table k f xs) n i) (ap f h ∙ e)
+
+  -- a group of tables of another kind
+  links-kept : Clear k link → linkTables ys ≡ linkTables xs
+  links-kept c = λ j. record {
+    cables = z .there link (λ r. toLink r .cable) (lit≤ tt) c j;
+    setups = z .there link (λ r. toLink r .setup) (lit≤ tt) c j;
+    flows = z .there link (λ r. toLink r .flow) (lit≤ tt) c j;
+    users = z .there link (λ r. toLink r .user) (lit≤ tt) c j;
+  }
+
+  ports-kept : Clear k port → portTables ys ≡ portTables xs
+  ports-kept c = λ j. record {
+    counters = z .there port (λ r. toPort r .counters) (lit≤ tt) c j;
+    legs = z .there port (λ r. toPort r .leg) (lit≤ tt) c j;
+    networks = z .there port (λ r. toPort r .network) (lit≤ tt) c j;
+    senders = z .there port (λ r. toPort r .sender) (lit≤ tt) c j;
+  }
+
+  ends-kept : Clear k end → endTables ys ≡ endTables xs
+  ends-kept c = λ j. record {
+    aims = z .there end (λ r. toEnd r .aim) (lit≤ tt) c j;
+    sendings = z .there end (λ r. toEnd r .sending) (lit≤ tt) c j;
+    claims = z .there end (λ r. toEnd r .claim) (lit≤ tt) c j;
+    buffers = z .there end (λ r. toEnd r .buffer) (lit≤ tt) c j;
+  }
+
+  units-kept : Clear k unit → unitTables ys ≡ unitTables xs
+  units-kept c = λ j. record {
+    serving = z .there unit (λ r. toUnit r .serves) (lit≤ tt) c j;
+    hearings = z .there unit (λ r. toUnit r .hearing) (lit≤ tt) c j;
+  }
 
 -- The view after each kind of record is written
 
-pub node-put : (xs ws : List ℕ) (n a e : ℕ) (k : Node) → n < nodesIn xs → a ≡ begins node n 0 → e ≡ a + node .size → ws ≡ fromNode k
+pub node-put : (xs ws : List ℕ) (n a e : ℕ) (k : Node) → n < nodesIn xs
+    → a ≡ begins node n 0 → e ≡ a + node .size → ws ≡ fromNode k
     → view (putMid a (e - a) xs ws) ≡ withNode (view xs) n k
 unfolding view
 node-put xs ws n a e k hn ha he h =
     let z = written node (lit≤ tt) xs ws n 0 a e hn (lit≤ tt) ha he (ap length h) in
     λ j. record {
       nodes = z .nodes j;
-      own = (z .here toNode ∙ ap (upd (table node toNode xs) n 0) (ap toNode h)) j;
-      links = z .there link toLink (lit≤ tt) (inl (lit≤ tt)) j;
-      ports = z .there port toPort (lit≤ tt) (inl (lit≤ tt)) j;
+      own = set-as z toNode (fromNode k) k h refl j;
+      links = links-kept z (inl (lit≤ tt)) j;
+      ports = ports-kept z (inl (lit≤ tt)) j;
       tiles = z .there tile toTile (lit≤ tt) (inl (lit≤ tt)) j;
-      ends = z .there end toEnd (lit≤ tt) (inl (lit≤ tt)) j;
-      units = z .there unit toUnit (lit≤ tt) (inl (lit≤ tt)) j;
+      ends = ends-kept z (inl (lit≤ tt)) j;
+      units = units-kept z (inl (lit≤ tt)) j;
       rest = z .rest j;
     }
 
-pub link-put : (xs ws : List ℕ) (n i a e : ℕ) (k : Link) → n < nodesIn xs → i < link .many → a ≡ begins link n i → e ≡ a + link .size → ws ≡ fromLink k
+pub link-put : (xs ws : List ℕ) (n i a e : ℕ) (k : Link) → n < nodesIn xs → i < link .many
+    → a ≡ begins link n i → e ≡ a + link .size → ws ≡ fromLink k
     → view (putMid a (e - a) xs ws) ≡ withLink (view xs) n i k
 unfolding view
 link-put xs ws n i a e k hn hi ha he h =
@@ -89,15 +130,21 @@ link-put xs ws n i a e k hn hi ha he h =
     λ j. record {
       nodes = z .nodes j;
       own = z .there node toNode (lit≤ tt) (inr (lit≤ tt)) j;
-      links = (z .here toLink ∙ ap (upd (table link toLink xs) n i) (ap toLink h)) j;
-      ports = z .there port toPort (lit≤ tt) (inl (lit≤ tt)) j;
+      links = record {
+        cables = set-as z (λ r. toLink r .cable) (fromLink k) (k .cable) h refl j;
+        setups = set-as z (λ r. toLink r .setup) (fromLink k) (k .setup) h refl j;
+        flows = set-as z (λ r. toLink r .flow) (fromLink k) (k .flow) h refl j;
+        users = set-as z (λ r. toLink r .user) (fromLink k) (k .user) h refl j;
+      };
+      ports = ports-kept z (inl (lit≤ tt)) j;
       tiles = z .there tile toTile (lit≤ tt) (inl (lit≤ tt)) j;
-      ends = z .there end toEnd (lit≤ tt) (inl (lit≤ tt)) j;
-      units = z .there unit toUnit (lit≤ tt) (inl (lit≤ tt)) j;
+      ends = ends-kept z (inl (lit≤ tt)) j;
+      units = units-kept z (inl (lit≤ tt)) j;
       rest = z .rest j;
     }
 
-pub port-put : (xs ws : List ℕ) (n i a e : ℕ) (k : Port) → n < nodesIn xs → i < port .many → a ≡ begins port n i → e ≡ a + port .size → ws ≡ fromPort k
+pub port-put : (xs ws : List ℕ) (n i a e : ℕ) (k : Port) → n < nodesIn xs → i < port .many
+    → a ≡ begins port n i → e ≡ a + port .size → ws ≡ fromPort k
     → view (putMid a (e - a) xs ws) ≡ withPort (view xs) n i k
 unfolding view
 port-put xs ws n i a e k hn hi ha he h =
@@ -105,15 +152,21 @@ port-put xs ws n i a e k hn hi ha he h =
     λ j. record {
       nodes = z .nodes j;
       own = z .there node toNode (lit≤ tt) (inr (lit≤ tt)) j;
-      links = z .there link toLink (lit≤ tt) (inr (lit≤ tt)) j;
-      ports = (z .here toPort ∙ ap (upd (table port toPort xs) n i) (ap toPort h)) j;
+      links = links-kept z (inr (lit≤ tt)) j;
+      ports = record {
+        counters = set-as z (λ r. toPort r .counters) (fromPort k) (k .counters) h refl j;
+        legs = set-as z (λ r. toPort r .leg) (fromPort k) (k .leg) h refl j;
+        networks = set-as z (λ r. toPort r .network) (fromPort k) (k .network) h refl j;
+        senders = set-as z (λ r. toPort r .sender) (fromPort k) (k .sender) h refl j;
+      };
       tiles = z .there tile toTile (lit≤ tt) (inl (lit≤ tt)) j;
-      ends = z .there end toEnd (lit≤ tt) (inl (lit≤ tt)) j;
-      units = z .there unit toUnit (lit≤ tt) (inl (lit≤ tt)) j;
+      ends = ends-kept z (inl (lit≤ tt)) j;
+      units = units-kept z (inl (lit≤ tt)) j;
       rest = z .rest j;
     }
 
-pub tile-put : (xs ws : List ℕ) (n i a e : ℕ) (k : Tile) → n < nodesIn xs → i < tile .many → a ≡ begins tile n i → e ≡ a + tile .size → ws ≡ fromTile k
+pub tile-put : (xs ws : List ℕ) (n i a e : ℕ) (k : Tile) → n < nodesIn xs → i < tile .many
+    → a ≡ begins tile n i → e ≡ a + tile .size → ws ≡ fromTile k
     → view (putMid a (e - a) xs ws) ≡ withTile (view xs) n i k
 unfolding view
 tile-put xs ws n i a e k hn hi ha he h =
@@ -121,15 +174,16 @@ tile-put xs ws n i a e k hn hi ha he h =
     λ j. record {
       nodes = z .nodes j;
       own = z .there node toNode (lit≤ tt) (inr (lit≤ tt)) j;
-      links = z .there link toLink (lit≤ tt) (inr (lit≤ tt)) j;
-      ports = z .there port toPort (lit≤ tt) (inr (lit≤ tt)) j;
-      tiles = (z .here toTile ∙ ap (upd (table tile toTile xs) n i) (ap toTile h)) j;
-      ends = z .there end toEnd (lit≤ tt) (inl (lit≤ tt)) j;
-      units = z .there unit toUnit (lit≤ tt) (inl (lit≤ tt)) j;
+      links = links-kept z (inr (lit≤ tt)) j;
+      ports = ports-kept z (inr (lit≤ tt)) j;
+      tiles = set-as z toTile (fromTile k) k h refl j;
+      ends = ends-kept z (inl (lit≤ tt)) j;
+      units = units-kept z (inl (lit≤ tt)) j;
       rest = z .rest j;
     }
 
-pub end-put : (xs ws : List ℕ) (n i a e : ℕ) (k : End) → n < nodesIn xs → i < end .many → a ≡ begins end n i → e ≡ a + end .size → length (k .tokens) ≡ 8 → ws ≡ fromEnd k
+pub end-put : (xs ws : List ℕ) (n i a e : ℕ) (k : End) → n < nodesIn xs → i < end .many
+    → a ≡ begins end n i → e ≡ a + end .size → length (k .buffer .tokens) ≡ endBuffer → ws ≡ fromEnd k
     → view (putMid a (e - a) xs ws) ≡ withEnd (view xs) n i k
 unfolding view
 end-put xs ws n i a e k hn hi ha he full h =
@@ -137,15 +191,21 @@ end-put xs ws n i a e k hn hi ha he full h =
     λ j. record {
       nodes = z .nodes j;
       own = z .there node toNode (lit≤ tt) (inr (lit≤ tt)) j;
-      links = z .there link toLink (lit≤ tt) (inr (lit≤ tt)) j;
-      ports = z .there port toPort (lit≤ tt) (inr (lit≤ tt)) j;
+      links = links-kept z (inr (lit≤ tt)) j;
+      ports = ports-kept z (inr (lit≤ tt)) j;
       tiles = z .there tile toTile (lit≤ tt) (inr (lit≤ tt)) j;
-      ends = (z .here toEnd ∙ ap (upd (table end toEnd xs) n i) (ap toEnd h ∙ end-back k full)) j;
-      units = z .there unit toUnit (lit≤ tt) (inl (lit≤ tt)) j;
+      ends = record {
+        aims = set-as z (λ r. toEnd r .aim) (fromEnd k) (k .aim) h refl j;
+        sendings = set-as z (λ r. toEnd r .sending) (fromEnd k) (k .sending) h refl j;
+        claims = set-as z (λ r. toEnd r .claim) (fromEnd k) (k .claim) h refl j;
+        buffers = set-as z (λ r. toEnd r .buffer) (fromEnd k) (k .buffer) h (buffer-back k full) j;
+      };
+      units = units-kept z (inl (lit≤ tt)) j;
       rest = z .rest j;
     }
 
-pub unit-put : (xs ws : List ℕ) (n a e : ℕ) (k : Unit) → n < nodesIn xs → a ≡ begins unit n 0 → e ≡ a + unit .size → length (k .tokens) ≡ 11 → ws ≡ fromUnit k
+pub unit-put : (xs ws : List ℕ) (n a e : ℕ) (k : Unit) → n < nodesIn xs
+    → a ≡ begins unit n 0 → e ≡ a + unit .size → length (k .hearing .tokens) ≡ unitBuffer → ws ≡ fromUnit k
     → view (putMid a (e - a) xs ws) ≡ withUnit (view xs) n k
 unfolding view
 unit-put xs ws n a e k hn ha he full h =
@@ -153,10 +213,13 @@ unit-put xs ws n a e k hn ha he full h =
     λ j. record {
       nodes = z .nodes j;
       own = z .there node toNode (lit≤ tt) (inr (lit≤ tt)) j;
-      links = z .there link toLink (lit≤ tt) (inr (lit≤ tt)) j;
-      ports = z .there port toPort (lit≤ tt) (inr (lit≤ tt)) j;
+      links = links-kept z (inr (lit≤ tt)) j;
+      ports = ports-kept z (inr (lit≤ tt)) j;
       tiles = z .there tile toTile (lit≤ tt) (inr (lit≤ tt)) j;
-      ends = z .there end toEnd (lit≤ tt) (inr (lit≤ tt)) j;
-      units = (z .here toUnit ∙ ap (upd (table unit toUnit xs) n 0) (ap toUnit h ∙ unit-back k full)) j;
+      ends = ends-kept z (inr (lit≤ tt)) j;
+      units = record {
+        serving = set-as z (λ r. toUnit r .serves) (fromUnit k) (k .serves) h refl j;
+        hearings = set-as z (λ r. toUnit r .hearing) (fromUnit k) (k .hearing) h (hearing-back k full) j;
+      };
       rest = z .rest j;
     }

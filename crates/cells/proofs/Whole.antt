@@ -12,10 +12,25 @@ use Rattle.laws.specs.Row.{row}
 use Rattle.laws.proofs.Order.{order}
 use Rattle.laws.proofs.Row.{row-long, row-at, listed}
 use Rattle.cells.specs.Layout.{stride, Within, begins, nodesIn, table, node, link, port, tile, end, unit}
-use Rattle.cells.specs.Records.{toNode, fromNode, toLink, fromLink, toPort, fromPort, toTile, fromTile, toEnd, fromEnd, toUnit, fromUnit}
-use Rattle.cells.specs.View.{view, Net}
+use Rattle.cells.specs.Records.{toNode, toLink, toPort, toTile, toEnd, toUnit}
+use Rattle.cells.specs.Records.{fromNode, fromLink, fromPort, fromTile, fromEnd, fromUnit}
+use Rattle.cells.specs.View.{view, Net, linkTables, portTables, endTables, unitTables}
 use Rattle.cells.specs.declared.layout.Kind.{Kind}
 use Rattle.cells.proofs.Tables.{in-state, inside-is}
+
+-- a group of tables is a table of whole records
+link-table : (xs ys : List ℕ) → linkTables xs ≡ linkTables ys → table link toLink xs ≡ table link toLink ys
+link-table xs ys e = λ j. λ n i. record { cable = e j .cables n i; setup = e j .setups n i; flow = e j .flows n i; user = e j .users n i }
+
+port-table : (xs ys : List ℕ) → portTables xs ≡ portTables ys → table port toPort xs ≡ table port toPort ys
+port-table xs ys e =
+    λ j. λ n i. record { counters = e j .counters n i; leg = e j .legs n i; network = e j .networks n i; sender = e j .senders n i }
+
+end-table : (xs ys : List ℕ) → endTables xs ≡ endTables ys → table end toEnd xs ≡ table end toEnd ys
+end-table xs ys e = λ j. λ n i. record { aim = e j .aims n i; sending = e j .sendings n i; claim = e j .claims n i; buffer = e j .buffers n i }
+
+unit-table : (xs ys : List ℕ) → unitTables xs ≡ unitTables ys → table unit toUnit xs ≡ table unit toUnit ys
+unit-table xs ys e = λ j. λ n i. record { serves = e j .serving n i; hearing = e j .hearings n i }
 
 module _ (xs ys : List ℕ) (e : view xs ≡ view ys) where
   nodes-same : nodesIn xs ≡ nodesIn ys
@@ -32,12 +47,15 @@ module _ (xs ys : List ℕ) (e : view xs ≡ view ys) where
       sym (length-drop (nodesIn xs * stride) xs) ∙ ap length rest-same ∙ length-drop (nodesIn ys * stride) ys in
       omega (arith, nodes-same)
 
+  -- the words of every record of a kind
+  abbrev Rows : Kind → Type 0
+  Rows k = (n i : ℕ) → n < nodesIn xs → i < k .many → row (k .size) (begins k n i) xs ≡ row (k .size) (begins k n i) ys
+
   -- a record of any kind that is read back from its words: where its table is the same, its words are
   rows-same : {A : Type 0} (k : Kind) → Within k → (f : List ℕ → A) (g : A → List ℕ)
       → ((r : List ℕ) → length r ≡ k .size → g (f r) ≡ r)
       → table k f xs ≡ table k f ys
-      → (n i : ℕ) → n < nodesIn xs → i < k .many
-      → row (k .size) (begins k n i) xs ≡ row (k .size) (begins k n i) ys
+      → Rows k
   rows-same k w f g back t n i hn hi =
       let hm : n < nodesIn ys = omega (arith, nodes-same) in
       let q : f (row (k .size) (begins k n i) xs) ≡ f (row (k .size) (begins k n i) ys) =
@@ -57,29 +75,32 @@ module _ (xs ys : List ℕ) (e : view xs ≡ view ys) where
       let r : drop b xs ≡ drop b ys = rest-same ∙ ap (λ (m : ℕ). drop (m * stride) ys) (sym nodes-same) in
       rw (← q) (sym (getD-drop b xs (i - b) 0) ∙ ap (λ (l : List ℕ). getD l (i - b) 0) r ∙ getD-drop b ys (i - b) 0)
 
-  node-rows : (n i : ℕ) → n < nodesIn xs → i < node .many → row (node .size) (begins node n i) xs ≡ row (node .size) (begins node n i) ys
+  node-rows : Rows node
   unfolding view
   node-rows = rows-same node (lit≤ tt) toNode fromNode (λ r h. rw (listed (node .size) r 0 h)) (ap (λ (v : Net). v .own) e)
 
-  link-rows : (n i : ℕ) → n < nodesIn xs → i < link .many → row (link .size) (begins link n i) xs ≡ row (link .size) (begins link n i) ys
+  link-rows : Rows link
   unfolding view
-  link-rows = rows-same link (lit≤ tt) toLink fromLink (λ r h. rw (listed (link .size) r 0 h)) (ap (λ (v : Net). v .links) e)
+  link-rows =
+      rows-same link (lit≤ tt) toLink fromLink (λ r h. rw (listed (link .size) r 0 h)) (link-table xs ys (ap (λ (v : Net). v .links) e))
 
-  port-rows : (n i : ℕ) → n < nodesIn xs → i < port .many → row (port .size) (begins port n i) xs ≡ row (port .size) (begins port n i) ys
+  port-rows : Rows port
   unfolding view
-  port-rows = rows-same port (lit≤ tt) toPort fromPort (λ r h. rw (listed (port .size) r 0 h)) (ap (λ (v : Net). v .ports) e)
+  port-rows =
+      rows-same port (lit≤ tt) toPort fromPort (λ r h. rw (listed (port .size) r 0 h)) (port-table xs ys (ap (λ (v : Net). v .ports) e))
 
-  tile-rows : (n i : ℕ) → n < nodesIn xs → i < tile .many → row (tile .size) (begins tile n i) xs ≡ row (tile .size) (begins tile n i) ys
+  tile-rows : Rows tile
   unfolding view
   tile-rows = rows-same tile (lit≤ tt) toTile fromTile (λ r h. rw (listed (tile .size) r 0 h)) (ap (λ (v : Net). v .tiles) e)
 
-  end-rows : (n i : ℕ) → n < nodesIn xs → i < end .many → row (end .size) (begins end n i) xs ≡ row (end .size) (begins end n i) ys
+  end-rows : Rows end
   unfolding view
-  end-rows = rows-same end (lit≤ tt) toEnd fromEnd (λ r h. rw (listed (end .size) r 0 h)) (ap (λ (v : Net). v .ends) e)
+  end-rows = rows-same end (lit≤ tt) toEnd fromEnd (λ r h. rw (listed (end .size) r 0 h)) (end-table xs ys (ap (λ (v : Net). v .ends) e))
 
-  unit-rows : (n i : ℕ) → n < nodesIn xs → i < unit .many → row (unit .size) (begins unit n i) xs ≡ row (unit .size) (begins unit n i) ys
+  unit-rows : Rows unit
   unfolding view
-  unit-rows = rows-same unit (lit≤ tt) toUnit fromUnit (λ r h. rw (listed (unit .size) r 0 h)) (ap (λ (v : Net). v .units) e)
+  unit-rows =
+      rows-same unit (lit≤ tt) toUnit fromUnit (λ r h. rw (listed (unit .size) r 0 h)) (unit-table xs ys (ap (λ (v : Net). v .units) e))
 
   -- a word of a whole node: r is its place among the node's words
   module _ (i n r : ℕ) (at : i ≡ n * stride + r) (hn : n < nodesIn xs) (hr : r < stride) where
@@ -88,7 +109,8 @@ module _ (xs ys : List ℕ) (e : view xs ≡ view ys) where
         ⊎-elim
         (λ l.
         let q = (r - end .from) / end .size in
-        in-row (end .size) (begins end n q) ((r - end .from) % end .size) i (omega arith) (omega arith) (end-rows n q hn (omega arith)))
+        let j = (r - end .from) % end .size in
+        in-row (end .size) (begins end n q) j i (omega arith) (omega arith) (end-rows n q hn (omega arith)))
         (λ l. in-row (unit .size) (begins unit n 0) (r - unit .from) i (omega arith) (omega arith) (unit-rows n 0 hn (lit≤ tt)))
         (order r (unit .from))
 
@@ -97,10 +119,12 @@ module _ (xs ys : List ℕ) (e : view xs ≡ view ys) where
         ⊎-elim
         (λ l.
         let q = (r - port .from) / port .size in
-        in-row (port .size) (begins port n q) ((r - port .from) % port .size) i (omega arith) (omega arith) (port-rows n q hn (omega arith)))
+        let j = (r - port .from) % port .size in
+        in-row (port .size) (begins port n q) j i (omega arith) (omega arith) (port-rows n q hn (omega arith)))
         (λ l.
         let q = (r - tile .from) / tile .size in
-        in-row (tile .size) (begins tile n q) ((r - tile .from) % tile .size) i (omega arith) (omega arith) (tile-rows n q hn (omega arith)))
+        let j = (r - tile .from) % tile .size in
+        in-row (tile .size) (begins tile n q) j i (omega arith) (omega arith) (tile-rows n q hn (omega arith)))
         (order r (tile .from))
 
     from-node : r < port .from → getD xs i 0 ≡ getD ys i 0
@@ -109,7 +133,8 @@ module _ (xs ys : List ℕ) (e : view xs ≡ view ys) where
         (λ l. in-row (node .size) (begins node n 0) r i (omega arith) l (node-rows n 0 hn (lit≤ tt)))
         (λ l.
         let q = (r - link .from) / link .size in
-        in-row (link .size) (begins link n q) ((r - link .from) % link .size) i (omega arith) (omega arith) (link-rows n q hn (omega arith)))
+        let j = (r - link .from) % link .size in
+        in-row (link .size) (begins link n q) j i (omega arith) (omega arith) (link-rows n q hn (omega arith)))
         (order r (link .from))
 
     in-node : getD xs i 0 ≡ getD ys i 0

@@ -59,10 +59,28 @@ module _ (n : ℕ) where
   zero-view = λ j. record {
     nodes = zero-nodes j;
     own = λ m i. zero-own m i j;
-    links = λ m i. zero-table link (lit≤ tt) toLink refl m i j;
-    ports = λ m i. zero-table port (lit≤ tt) toPort refl m i j;
+    links = record {
+      cables = λ m i. zero-table link (lit≤ tt) (λ r. toLink r .cable) refl m i j;
+      setups = λ m i. zero-table link (lit≤ tt) (λ r. toLink r .setup) refl m i j;
+      flows = λ m i. zero-table link (lit≤ tt) (λ r. toLink r .flow) refl m i j;
+      users = λ m i. zero-table link (lit≤ tt) (λ r. toLink r .user) refl m i j;
+    };
+    ports = record {
+      counters = λ m i. zero-table port (lit≤ tt) (λ r. toPort r .counters) refl m i j;
+      legs = λ m i. zero-table port (lit≤ tt) (λ r. toPort r .leg) refl m i j;
+      networks = λ m i. zero-table port (lit≤ tt) (λ r. toPort r .network) refl m i j;
+      senders = λ m i. zero-table port (lit≤ tt) (λ r. toPort r .sender) refl m i j;
+    };
     tiles = λ m i. zero-table tile (lit≤ tt) toTile refl m i j;
-    ends = λ m i. zero-table end (lit≤ tt) toEnd refl m i j;
-    units = λ m i. zero-table unit (lit≤ tt) toUnit refl m i j;
+    ends = record {
+      aims = λ m i. zero-table end (lit≤ tt) (λ r. toEnd r .aim) refl m i j;
+      sendings = λ m i. zero-table end (lit≤ tt) (λ r. toEnd r .sending) refl m i j;
+      claims = λ m i. zero-table end (lit≤ tt) (λ r. toEnd r .claim) refl m i j;
+      buffers = λ m i. zero-table end (lit≤ tt) (λ r. toEnd r .buffer) refl m i j;
+    };
+    units = record {
+      serving = λ m i. zero-table unit (lit≤ tt) (λ r. toUnit r .serves) refl m i j;
+      hearings = λ m i. zero-table unit (lit≤ tt) (λ r. toUnit r .hearing) refl m i j;
+    };
     rest = zero-rest j;
   }

@@ -9,12 +9,43 @@ use Rattle.laws.specs.Pick.{pick}
 use Rattle.names.specs.Size.{ports}
 use Rattle.ports.specs.Queue.{capacity}
 use Rattle.cells.specs.Records.{toNode, toLink, toPort, toTile, toEnd, toUnit}
-use Rattle.cells.specs.View.{Net}
+use Rattle.cells.specs.View.{Net, LinkTables, PortTables, EndTables, UnitTables}
 use Rattle.cells.specs.World.{World}
 use Rattle.cells.specs.declared.node.Node.{Node}
 
 abbrev pub freshNode : Node
 freshNode = record { number = 0; width = 3; directions = record { first = 0; second = 0 } }
+
+-- tables of zeros
+abbrev pub noLinks : LinkTables
+noLinks =
+    record {
+      cables = λ m i. toLink [] .cable;
+      setups = λ m i. toLink [] .setup;
+      flows = λ m i. toLink [] .flow;
+      users = λ m i. toLink [] .user;
+    }
+
+abbrev pub noPorts : PortTables
+noPorts =
+    record {
+      counters = λ m i. toPort [] .counters;
+      legs = λ m i. toPort [] .leg;
+      networks = λ m i. toPort [] .network;
+      senders = λ m i. toPort [] .sender;
+    }
+
+abbrev pub noEnds : EndTables
+noEnds =
+    record {
+      aims = λ m i. toEnd [] .aim;
+      sendings = λ m i. toEnd [] .sending;
+      claims = λ m i. toEnd [] .claim;
+      buffers = λ m i. toEnd [] .buffer;
+    }
+
+abbrev pub noUnits : UnitTables
+noUnits = record { serving = λ m i. toUnit [] .serves; hearings = λ m i. toUnit [] .hearing }
 
 -- n nodes, of which the first k have their settings; all other words are 0
 abbrev pub freshTo : ℕ → ℕ → Net
@@ -22,11 +53,11 @@ freshTo k n =
     record {
       nodes = n;
       own = λ m i. pick (ltb m k && ltb i 1) freshNode (toNode []);
-      links = λ m i. toLink [];
-      ports = λ m i. toPort [];
+      links = noLinks;
+      ports = noPorts;
       tiles = λ m i. toTile [];
-      ends = λ m i. toEnd [];
-      units = λ m i. toUnit [];
+      ends = noEnds;
+      units = noUnits;
       rest = [];
     }
 

@@ -7,30 +7,35 @@ use lib.ListN.{length}
 use Rattle.laws.specs.Pick.{pick}
 use Rattle.laws.specs.Row.{row}
 use Rattle.names.specs.Size as Size
+use Rattle.circuits.specs.Circuit.{circuitWords}
+use Rattle.cells.specs.Records.{nodeOwn, linkOwn, portOwn, endOwn, unitOwn}
 use Rattle.cells.specs.declared.layout.Kind.{Kind}
+
+-- the kinds of record, one after the other: each begins where the one before it ends
+abbrev pub after : Kind → ℕ
+after k = k .from + k .many * k .size
+
+abbrev pub node : Kind
+node = record { many = 1; from = 0; size = nodeOwn }
+
+abbrev pub link : Kind
+link = record { many = Size.links; from = after node; size = linkOwn + circuitWords }
+
+abbrev pub port : Kind
+port = record { many = Size.ports; from = after link; size = portOwn + 2 * circuitWords }
+
+abbrev pub tile : Kind
+tile = record { many = Size.tileLinks; from = after port; size = circuitWords }
+
+abbrev pub end : Kind
+end = record { many = Size.ends; from = after tile; size = endOwn + 2 * circuitWords }
+
+abbrev pub unit : Kind
+unit = record { many = 1; from = after end; size = unitOwn + circuitWords }
 
 -- the words of a node
 abbrev pub stride : ℕ
-stride = 754
-
--- the kinds of record, one after the other
-abbrev pub node : Kind
-node = record { many = 1; from = 0; size = 4 }
-
-abbrev pub link : Kind
-link = record { many = Size.links; from = 4; size = 10 }
-
-abbrev pub port : Kind
-port = record { many = Size.ports; from = 84; size = 8 }
-
-abbrev pub tile : Kind
-tile = record { many = Size.tileLinks; from = 188; size = 2 }
-
-abbrev pub end : Kind
-end = record { many = Size.ends; from = 196; size = 17 }
-
-abbrev pub unit : Kind
-unit = record { many = 1; from = 740; size = 14 }
+stride = after unit
 
 -- all records of a kind lie among the node's words
 abbrev pub Within : Kind → Type 0

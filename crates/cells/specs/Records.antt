@@ -1,9 +1,10 @@
--- The records of the state, each as its words in order and back.
+-- The records of the state, each as its words in order and back: first the words of its own, then those of its circuits.
 use Prim.Native.Nat.{ℕ, _+_}
-use mathlib.Core.List.{List, [], _∷_}
+use mathlib.Core.List.{List, [], _∷_, _++_}
 use lib.ListN.{getD}
-use Rattle.laws.specs.Row.{tab}
-use Rattle.names.specs.Size.{unitBuffer}
+use Rattle.laws.specs.Row.{tab, row}
+use Rattle.names.specs.Size.{endBuffer, unitBuffer}
+use Rattle.circuits.specs.Circuit.{circuitWords, toCircuit, fromCircuit}
 use Rattle.cells.specs.declared.node.Node.{Node}
 use Rattle.cells.specs.declared.link.Link.{Link}
 use Rattle.cells.specs.declared.port.Port.{Port}
@@ -11,7 +12,10 @@ use Rattle.cells.specs.declared.tile.Tile.{Tile}
 use Rattle.cells.specs.declared.end.End.{End}
 use Rattle.cells.specs.declared.unit.Unit.{Unit}
 
--- a node's own settings: four words
+-- a node's own settings
+abbrev pub nodeOwn : ℕ
+nodeOwn = 4
+
 abbrev pub toNode : List ℕ → Node
 toNode r =
     record {
@@ -23,73 +27,79 @@ toNode r =
 abbrev pub fromNode : Node → List ℕ
 fromNode k = k .number ∷ k .width ∷ k .directions .first ∷ k .directions .second ∷ []
 
--- one end of a cable: ten words
+-- one end of a cable
+abbrev pub linkOwn : ℕ
+linkOwn = 8
+
 abbrev pub toLink : List ℕ → Link
 toLink r =
     record {
-      wired = getD r 0 0;
-      «far_slot» = getD r 1 0;
-      «far_link» = getD r 2 0;
-      enabled = getD r 3 0;
-      direction = getD r 4 0;
-      network = getD r 5 0;
-      greeted = getD r 6 0;
-      credit = getD r 7 0;
-      user = record { kind = getD r 8 0; index = getD r 9 0 };
+      cable = record { wired = getD r 0 0; «far_slot» = getD r 1 0; «far_link» = getD r 2 0 };
+      setup = record { enabled = getD r 3 0; direction = getD r 4 0; network = getD r 5 0 };
+      flow = record { greeted = getD r 6 0; credit = getD r 7 0 };
+      user = toCircuit (row circuitWords linkOwn r);
     }
 
 abbrev pub fromLink : Link → List ℕ
-fromLink k = k .wired ∷ k .«far_slot» ∷ k .«far_link» ∷ k .enabled ∷ k .direction ∷ k .network ∷ k .greeted ∷ k .credit ∷ k .user .kind ∷ k .user .index ∷ []
+fromLink k =
+    k .cable .wired ∷ k .cable .«far_slot» ∷ k .cable .«far_link»
+    ∷ k .setup .enabled ∷ k .setup .direction ∷ k .setup .network
+    ∷ k .flow .greeted ∷ k .flow .credit
+    ∷ fromCircuit (k .user)
 
--- a port: eight words
+-- a port
+abbrev pub portOwn : ℕ
+portOwn = 4
+
 abbrev pub toPort : List ℕ → Port
 toPort r =
     record {
       counters = record { head = getD r 0 0; held = getD r 1 0 };
-      circuit = record { kind = getD r 2 0; index = getD r 3 0 };
-      tile = getD r 4 0;
-      network = getD r 5 0;
-      sender = record { kind = getD r 6 0; index = getD r 7 0 };
+      leg = record { circuit = toCircuit (row circuitWords portOwn r); tile = getD r 2 0 };
+      network = getD r 3 0;
+      sender = toCircuit (row circuitWords (portOwn + circuitWords) r);
     }
 
 abbrev pub fromPort : Port → List ℕ
-fromPort k = k .counters .head ∷ k .counters .held ∷ k .circuit .kind ∷ k .circuit .index ∷ k .tile ∷ k .network ∷ k .sender .kind ∷ k .sender .index ∷ []
+fromPort k =
+    k .counters .head ∷ k .counters .held ∷ k .leg .tile ∷ k .network
+    ∷ fromCircuit (k .leg .circuit) ++ fromCircuit (k .sender)
 
--- a link from the switch to the tile: two words
+-- a link from the switch to the tile: its circuit alone
 abbrev pub toTile : List ℕ → Tile
-toTile r =
-    record {
-      user = record { kind = getD r 0 0; index = getD r 1 0 };
-    }
+toTile r = record { user = toCircuit (row circuitWords 0 r) }
 
 abbrev pub fromTile : Tile → List ℕ
-fromTile k = k .user .kind ∷ k .user .index ∷ []
+fromTile k = fromCircuit (k .user)
 
--- a channel-end: seventeen words
+-- a channel-end
+abbrev pub endOwn : ℕ
+endOwn = 5 + endBuffer
+
 abbrev pub toEnd : List ℕ → End
 toEnd r =
     record {
-      aim = getD r 0 0;
-      number = getD r 1 0;
-      channel = getD r 2 0;
-      network = getD r 3 0;
-      sending = record { kind = getD r 4 0; index = getD r 5 0 };
-      claim = record { kind = getD r 6 0; index = getD r 7 0 };
-      held = getD r 8 0;
-      tokens = tab 8 (λ i. getD r (9 + i) 0);
+      aim = record { kind = getD r 0 0; number = getD r 1 0; channel = getD r 2 0; network = getD r 3 0 };
+      sending = toCircuit (row circuitWords endOwn r);
+      claim = toCircuit (row circuitWords (endOwn + circuitWords) r);
+      buffer = record { held = getD r 4 0; tokens = tab endBuffer (λ i. getD r (5 + i) 0) };
     }
 
 abbrev pub fromEnd : End → List ℕ
-fromEnd k = k .aim ∷ k .number ∷ k .channel ∷ k .network ∷ k .sending .kind ∷ k .sending .index ∷ k .claim .kind ∷ k .claim .index ∷ k .held ∷ tab 8 (λ i. getD (k .tokens) i 0)
+fromEnd k =
+    k .aim .kind ∷ k .aim .number ∷ k .aim .channel ∷ k .aim .network ∷ k .buffer .held
+    ∷ tab endBuffer (λ i. getD (k .buffer .tokens) i 0) ++ (fromCircuit (k .sending) ++ fromCircuit (k .claim))
 
--- a control unit: fourteen words
+-- a control unit
+abbrev pub unitOwn : ℕ
+unitOwn = 1 + unitBuffer
+
 abbrev pub toUnit : List ℕ → Unit
 toUnit r =
     record {
-      serves = record { kind = getD r 0 0; index = getD r 1 0 };
-      heard = getD r 2 0;
-      tokens = tab unitBuffer (λ i. getD r (3 + i) 0);
+      serves = toCircuit (row circuitWords unitOwn r);
+      hearing = record { heard = getD r 0 0; tokens = tab unitBuffer (λ i. getD r (1 + i) 0) };
     }
 
 abbrev pub fromUnit : Unit → List ℕ
-fromUnit k = k .serves .kind ∷ k .serves .index ∷ k .heard ∷ tab unitBuffer (λ i. getD (k .tokens) i 0)
+fromUnit k = k .hearing .heard ∷ tab unitBuffer (λ i. getD (k .hearing .tokens) i 0) ++ fromCircuit (k .serves)

@@ -1,31 +1,45 @@
-// A channel-end: seventeen words.
+// A channel-end.
 use crate::layout::END;
 use crate::layout::begins;
 use crate::layout::words;
 use circuits::Circuit;
 use names::Slot;
+use names::size::END_BUFFER;
 ghost use mathlib.Core.Path.{_≡_};
 ghost use Prim.Native.Nat.{_<_};
 ghost use mathlib.Core.List.{[]};
 ghost use lib.ListN.{length};
 ghost use Rattle.names.specs.Size.{ends};
-ghost use Rattle.cells.specs.Layout.{whole};
+ghost use Rattle.cells.specs.Layout.{whole, end};
 ghost use Rattle.cells.specs.Records.{toEnd, fromEnd};
-ghost use Rattle.cells.specs.View.{view, withEnd};
+ghost use Rattle.cells.specs.View.{view, wholeEnd, withEnd, withAim, withSending, withClaim, withBuffer};
 
-pub struct End {
+// Its words before those of its circuits.
+pub const OWN: usize = 5 + END_BUFFER;
+
+// Its destination and network.
+pub struct Aim {
     // 0 unaimed, 1 at a channel of a number, 2 at its control unit
-    pub aim: u32,
+    pub kind: u32,
     pub number: u32,
     pub channel: u32,
     pub network: u32,
+}
+
+// What it holds.
+pub struct Buffer {
+    pub held: u32,
+    // oldest first; past held they are not looked at
+    pub tokens: [u32; END_BUFFER],
+}
+
+pub struct End {
+    pub aim: Aim,
     // the port by which its open circuit goes, or the channel-end that it goes straight to
     pub sending: Circuit,
     // who sends to it
     pub claim: Circuit,
-    pub held: u32,
-    // oldest first; past held they are not looked at
-    pub tokens: [u32; 8],
+    pub buffer: Buffer,
 }
 
 // What stands where there is no such record.
@@ -33,75 +47,77 @@ fn none() -> End
     ensures { λ r. ⌜ r ≡ toEnd [] ⌝ }
 {
     End {
-        aim: 0,
-        number: 0,
-        channel: 0,
-        network: 0,
-        sending: Circuit { kind: 0, index: 0 },
-        claim: Circuit { kind: 0, index: 0 },
-        held: 0,
-        tokens: [0; 8],
+        aim: Aim {
+            kind: 0,
+            number: 0,
+            channel: 0,
+            network: 0,
+        },
+        sending: circuits::none(),
+        claim: circuits::none(),
+        buffer: Buffer {
+            held: 0,
+            tokens: [0; END_BUFFER],
+        },
     }
 }
 
 fn fields(w: &[u32]) -> End
-    requires { ⌜ length (now w) ≡ 17 ⌝ }
+    requires { ⌜ length (now w) ≡ end .size ⌝ }
     ensures { λ r. ⌜ r ≡ toEnd (now (w .entry)) ⌝ }
 {
+    let e = OWN + circuits::WORDS;
     End {
-        aim: w[0],
-        number: w[1],
-        channel: w[2],
-        network: w[3],
-        sending: Circuit {
-            kind: w[4],
-            index: w[5],
+        aim: Aim {
+            kind: w[0],
+            number: w[1],
+            channel: w[2],
+            network: w[3],
         },
-        claim: Circuit {
-            kind: w[6],
-            index: w[7],
+        sending: circuits::read(&w[OWN..e]),
+        claim: circuits::read(&w[e..]),
+        buffer: Buffer {
+            held: w[4],
+            tokens: [w[5], w[6], w[7], w[8], w[9], w[10], w[11], w[12]],
         },
-        held: w[8],
-        tokens: [w[9], w[10], w[11], w[12], w[13], w[14], w[15], w[16]],
     }
 }
 
 // Where words are missing there is no record.
 fn read(w: &[u32]) -> End
-    ensures { λ r. ⌜ r ≡ toEnd (whole 17 (now (w .entry))) ⌝ }
+    ensures { λ r. ⌜ r ≡ toEnd (whole (end .size) (now (w .entry))) ⌝ }
 {
-    if w.len() == 17 {
+    if w.len() == END.size {
         return fields(w);
     }
     none()
 }
 
 pub fn write(w: &mut [u32], k: End)
-    requires { ⌜ length (now w) ≡ 17 ⌝ }
+    requires { ⌜ length (now w) ≡ end .size ⌝ }
     ensures { λ r. ⌜ now (w .exit) ≡ fromEnd k ⌝ }
 {
-    let t = k.tokens;
-    w[0] = k.aim;
-    w[1] = k.number;
-    w[2] = k.channel;
-    w[3] = k.network;
-    w[4] = k.sending.kind;
-    w[5] = k.sending.index;
-    w[6] = k.claim.kind;
-    w[7] = k.claim.index;
-    w[8] = k.held;
-    w[9] = t[0];
-    w[10] = t[1];
-    w[11] = t[2];
-    w[12] = t[3];
-    w[13] = t[4];
-    w[14] = t[5];
-    w[15] = t[6];
-    w[16] = t[7];
+    let t = k.buffer.tokens;
+    w[0] = k.aim.kind;
+    w[1] = k.aim.number;
+    w[2] = k.aim.channel;
+    w[3] = k.aim.network;
+    w[4] = k.buffer.held;
+    w[5] = t[0];
+    w[6] = t[1];
+    w[7] = t[2];
+    w[8] = t[3];
+    w[9] = t[4];
+    w[10] = t[5];
+    w[11] = t[6];
+    w[12] = t[7];
+    let e = OWN + circuits::WORDS;
+    circuits::write(&mut w[OWN..e], k.sending);
+    circuits::write(&mut w[e..], k.claim);
 }
 
 pub fn at(st: &[u32], slot: Slot, c: usize) -> End
-    ensures { λ r. ⌜ r ≡ view (now (st .entry)) .ends (slot .0) c ⌝ }
+    ensures { λ r. ⌜ r ≡ wholeEnd (view (now (st .entry))) (slot .0) c ⌝ }
 {
     read(words(st, slot, c, END))
 }
@@ -113,4 +129,44 @@ pub fn put(st: &mut [u32], slot: Slot, c: usize, k: End)
     let a = begins(slot, c, END);
     let e = a + END.size;
     write(&mut st[a..e], k);
+}
+
+// Its destination alone.
+pub fn put_aim(st: &mut [u32], slot: Slot, c: usize, x: Aim)
+    requires { ⌜ (slot .0 < view (now st) .nodes) × (c < ends) ⌝ }
+    ensures { λ r. ⌜ view (now (st .exit)) ≡ withAim (view (now (st .entry))) (slot .0) c x ⌝ }
+{
+    let mut k = at(st, slot, c);
+    k.aim = x;
+    put(st, slot, c, k);
+}
+
+// Where its circuit goes, alone.
+pub fn put_sending(st: &mut [u32], slot: Slot, c: usize, x: Circuit)
+    requires { ⌜ (slot .0 < view (now st) .nodes) × (c < ends) ⌝ }
+    ensures { λ r. ⌜ view (now (st .exit)) ≡ withSending (view (now (st .entry))) (slot .0) c x ⌝ }
+{
+    let mut k = at(st, slot, c);
+    k.sending = x;
+    put(st, slot, c, k);
+}
+
+// Its claim alone.
+pub fn put_claim(st: &mut [u32], slot: Slot, c: usize, x: Circuit)
+    requires { ⌜ (slot .0 < view (now st) .nodes) × (c < ends) ⌝ }
+    ensures { λ r. ⌜ view (now (st .exit)) ≡ withClaim (view (now (st .entry))) (slot .0) c x ⌝ }
+{
+    let mut k = at(st, slot, c);
+    k.claim = x;
+    put(st, slot, c, k);
+}
+
+// What it holds, alone.
+pub fn put_buffer(st: &mut [u32], slot: Slot, c: usize, x: Buffer)
+    requires { ⌜ (slot .0 < view (now st) .nodes) × (c < ends) ⌝ }
+    ensures { λ r. ⌜ view (now (st .exit)) ≡ withBuffer (view (now (st .entry))) (slot .0) c x ⌝ }
+{
+    let mut k = at(st, slot, c);
+    k.buffer = x;
+    put(st, slot, c, k);
 }

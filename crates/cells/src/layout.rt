@@ -1,5 +1,10 @@
 // Where each record of a node lies. The records of a node stand in the order node, links, ports, tile
 // links, channel-ends, control unit.
+use crate::end;
+use crate::link;
+use crate::node;
+use crate::port;
+use crate::unit;
 use names::Slot;
 use names::size::ENDS;
 use names::size::LINKS;
@@ -13,7 +18,7 @@ ghost use Rattle.cells.specs.World.{world, shaped};
 ghost use Rattle.cells.specs.Layout.{stride, Within, begins, nodesIn, wordsOf};
 
 // The words of a node.
-pub const STRIDE: usize = 754;
+pub const STRIDE: usize = UNIT.from + UNIT.size;
 
 // The words of token memory of a node: its ports' stretches.
 pub const TOKEN_WORDS: usize = PORTS * Counters::CAPACITY as usize;
@@ -29,37 +34,37 @@ pub struct Kind {
 pub const NODE: Kind = Kind {
     many: 1,
     from: 0,
-    size: 4,
+    size: node::OWN,
 };
 
 pub const LINK: Kind = Kind {
     many: LINKS,
-    from: 4,
-    size: 10,
+    from: NODE.from + NODE.many * NODE.size,
+    size: link::OWN + circuits::WORDS,
 };
 
 pub const PORT: Kind = Kind {
     many: PORTS,
-    from: 84,
-    size: 8,
+    from: LINK.from + LINK.many * LINK.size,
+    size: port::OWN + 2 * circuits::WORDS,
 };
 
 pub const TILE: Kind = Kind {
     many: TILE_LINKS,
-    from: 188,
-    size: 2,
+    from: PORT.from + PORT.many * PORT.size,
+    size: circuits::WORDS,
 };
 
 pub const END: Kind = Kind {
     many: ENDS,
-    from: 196,
-    size: 17,
+    from: TILE.from + TILE.many * TILE.size,
+    size: end::OWN + 2 * circuits::WORDS,
 };
 
 pub const UNIT: Kind = Kind {
     many: 1,
-    from: 740,
-    size: 14,
+    from: END.from + END.many * END.size,
+    size: unit::OWN + circuits::WORDS,
 };
 
 // How many nodes a state has: what its length says.

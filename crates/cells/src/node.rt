@@ -1,4 +1,4 @@
-// A node's own settings: four words.
+// A node's own settings.
 use crate::layout::NODE;
 use crate::layout::begins;
 use crate::layout::nodes;
@@ -9,9 +9,12 @@ ghost use mathlib.Core.Path.{_≡_};
 ghost use Prim.Native.Nat.{_<_};
 ghost use mathlib.Core.List.{[]};
 ghost use lib.ListN.{length};
-ghost use Rattle.cells.specs.Layout.{whole};
+ghost use Rattle.cells.specs.Layout.{whole, node};
 ghost use Rattle.cells.specs.Records.{toNode, fromNode};
 ghost use Rattle.cells.specs.View.{view, withNode};
+
+// Its words.
+pub const OWN: usize = 4;
 
 pub struct Node {
     // the number written into the switch
@@ -36,7 +39,7 @@ fn none() -> Node
 }
 
 fn fields(w: &[u32]) -> Node
-    requires { ⌜ length (now w) ≡ 4 ⌝ }
+    requires { ⌜ length (now w) ≡ node .size ⌝ }
     ensures { λ r. ⌜ r ≡ toNode (now (w .entry)) ⌝ }
 {
     Node {
@@ -51,16 +54,16 @@ fn fields(w: &[u32]) -> Node
 
 // Where words are missing there is no record.
 fn read(w: &[u32]) -> Node
-    ensures { λ r. ⌜ r ≡ toNode (whole 4 (now (w .entry))) ⌝ }
+    ensures { λ r. ⌜ r ≡ toNode (whole (node .size) (now (w .entry))) ⌝ }
 {
-    if w.len() == 4 {
+    if w.len() == NODE.size {
         return fields(w);
     }
     none()
 }
 
 pub fn write(w: &mut [u32], k: Node)
-    requires { ⌜ length (now w) ≡ 4 ⌝ }
+    requires { ⌜ length (now w) ≡ node .size ⌝ }
     ensures { λ r. ⌜ now (w .exit) ≡ fromNode k ⌝ }
 {
     w[0] = k.number;

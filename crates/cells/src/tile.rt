@@ -1,4 +1,4 @@
-// A link from the switch to the tile: two words.
+// A link from the switch to the tile.
 use crate::layout::TILE;
 use crate::layout::begins;
 use crate::layout::words;
@@ -9,7 +9,7 @@ ghost use Prim.Native.Nat.{_<_};
 ghost use mathlib.Core.List.{[]};
 ghost use lib.ListN.{length};
 ghost use Rattle.names.specs.Size.{tileLinks};
-ghost use Rattle.cells.specs.Layout.{whole};
+ghost use Rattle.cells.specs.Layout.{whole, tile};
 ghost use Rattle.cells.specs.Records.{toTile, fromTile};
 ghost use Rattle.cells.specs.View.{view, withTile};
 
@@ -23,38 +23,34 @@ fn none() -> Tile
     ensures { λ r. ⌜ r ≡ toTile [] ⌝ }
 {
     Tile {
-        user: Circuit { kind: 0, index: 0 },
+        user: circuits::none(),
     }
 }
 
 fn fields(w: &[u32]) -> Tile
-    requires { ⌜ length (now w) ≡ 2 ⌝ }
+    requires { ⌜ length (now w) ≡ tile .size ⌝ }
     ensures { λ r. ⌜ r ≡ toTile (now (w .entry)) ⌝ }
 {
     Tile {
-        user: Circuit {
-            kind: w[0],
-            index: w[1],
-        },
+        user: circuits::read(w),
     }
 }
 
 // Where words are missing there is no record.
 fn read(w: &[u32]) -> Tile
-    ensures { λ r. ⌜ r ≡ toTile (whole 2 (now (w .entry))) ⌝ }
+    ensures { λ r. ⌜ r ≡ toTile (whole (tile .size) (now (w .entry))) ⌝ }
 {
-    if w.len() == 2 {
+    if w.len() == TILE.size {
         return fields(w);
     }
     none()
 }
 
 pub fn write(w: &mut [u32], k: Tile)
-    requires { ⌜ length (now w) ≡ 2 ⌝ }
+    requires { ⌜ length (now w) ≡ tile .size ⌝ }
     ensures { λ r. ⌜ now (w .exit) ≡ fromTile k ⌝ }
 {
-    w[0] = k.user.kind;
-    w[1] = k.user.index;
+    circuits::write(w, k.user);
 }
 
 pub fn at(st: &[u32], slot: Slot, t: usize) -> Tile

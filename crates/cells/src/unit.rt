@@ -1,23 +1,31 @@
-// A control unit: fourteen words.
+// A control unit.
 use crate::layout::UNIT;
 use crate::layout::begins;
 use crate::layout::words;
 use circuits::Circuit;
 use names::Slot;
+use names::size::UNIT_BUFFER;
 ghost use mathlib.Core.Path.{_≡_};
 ghost use Prim.Native.Nat.{_<_};
 ghost use mathlib.Core.List.{[]};
 ghost use lib.ListN.{length};
-ghost use Rattle.cells.specs.Layout.{whole};
+ghost use Rattle.cells.specs.Layout.{whole, unit};
 ghost use Rattle.cells.specs.Records.{toUnit, fromUnit};
-ghost use Rattle.cells.specs.View.{view, withUnit};
+ghost use Rattle.cells.specs.View.{view, wholeUnit, withUnit, withServing, withHearing};
+
+// Its words before those of its circuits.
+pub const OWN: usize = 1 + UNIT_BUFFER as usize;
+
+// What it has heard of a message, as far as it keeps it.
+pub struct Hearing {
+    pub heard: u32,
+    pub tokens: [u32; UNIT_BUFFER as usize],
+}
 
 pub struct Unit {
     // the port that it listens to
     pub serves: Circuit,
-    pub heard: u32,
-    // what it has heard of a message, as far as it keeps it
-    pub tokens: [u32; 11],
+    pub hearing: Hearing,
 }
 
 // What stands where there is no such record.
@@ -25,71 +33,71 @@ fn none() -> Unit
     ensures { λ r. ⌜ r ≡ toUnit [] ⌝ }
 {
     Unit {
-        serves: Circuit { kind: 0, index: 0 },
-        heard: 0,
-        tokens: [0; 11],
+        serves: circuits::none(),
+        hearing: Hearing {
+            heard: 0,
+            tokens: [0; UNIT_BUFFER as usize],
+        },
     }
 }
 
 fn fields(w: &[u32]) -> Unit
-    requires { ⌜ length (now w) ≡ 14 ⌝ }
+    requires { ⌜ length (now w) ≡ unit .size ⌝ }
     ensures { λ r. ⌜ r ≡ toUnit (now (w .entry)) ⌝ }
 {
     Unit {
-        serves: Circuit {
-            kind: w[0],
-            index: w[1],
+        serves: circuits::read(&w[OWN..]),
+        hearing: Hearing {
+            heard: w[0],
+            tokens: [
+                w[1],
+                w[2],
+                w[3],
+                w[4],
+                w[5],
+                w[6],
+                w[7],
+                w[8],
+                w[9],
+                w[10],
+                w[11],
+            ],
         },
-        heard: w[2],
-        tokens: [
-            w[3],
-            w[4],
-            w[5],
-            w[6],
-            w[7],
-            w[8],
-            w[9],
-            w[10],
-            w[11],
-            w[12],
-            w[13],
-        ],
     }
 }
 
 // Where words are missing there is no record.
 fn read(w: &[u32]) -> Unit
-    ensures { λ r. ⌜ r ≡ toUnit (whole 14 (now (w .entry))) ⌝ }
+    ensures { λ r. ⌜ r ≡ toUnit (whole (unit .size) (now (w .entry))) ⌝ }
 {
-    if w.len() == 14 {
+    if w.len() == UNIT.size {
         return fields(w);
     }
     none()
 }
 
 pub fn write(w: &mut [u32], k: Unit)
-    requires { ⌜ length (now w) ≡ 14 ⌝ }
+    requires { ⌜ length (now w) ≡ unit .size ⌝ }
     ensures { λ r. ⌜ now (w .exit) ≡ fromUnit k ⌝ }
 {
-    let t = k.tokens;
-    w[0] = k.serves.kind;
-    w[1] = k.serves.index;
-    w[2] = k.heard;
-    w[3] = t[0];
-    w[4] = t[1];
-    w[5] = t[2];
-    w[6] = t[3];
-    w[7] = t[4];
-    w[8] = t[5];
-    w[9] = t[6];
-    w[10] = t[7];
-    w[11] = t[8];
-    w[12] = t[9];
-    w[13] = t[10];
+    let t = k.hearing.tokens;
+    w[0] = k.hearing.heard;
+    w[1] = t[0];
+    w[2] = t[1];
+    w[3] = t[2];
+    w[4] = t[3];
+    w[5] = t[4];
+    w[6] = t[5];
+    w[7] = t[6];
+    w[8] = t[7];
+    w[9] = t[8];
+    w[10] = t[9];
+    w[11] = t[10];
+    circuits::write(&mut w[OWN..], k.serves);
 }
 
 pub fn at(st: &[u32], slot: Slot) -> Unit
-    ensures { λ r. ⌜ r ≡ view (now (st .entry)) .units (slot .0) 0 ⌝ }
+    ensures { λ r. ⌜ r ≡ wholeUnit (view (now (st .entry))) (slot .0) ⌝ }
 {
     read(words(st, slot, 0, UNIT))
 }
@@ -101,4 +109,24 @@ pub fn put(st: &mut [u32], slot: Slot, k: Unit)
     let a = begins(slot, 0, UNIT);
     let e = a + UNIT.size;
     write(&mut st[a..e], k);
+}
+
+// Whom it serves, alone.
+pub fn put_serves(st: &mut [u32], slot: Slot, x: Circuit)
+    requires { ⌜ slot .0 < view (now st) .nodes ⌝ }
+    ensures { λ r. ⌜ view (now (st .exit)) ≡ withServing (view (now (st .entry))) (slot .0) x ⌝ }
+{
+    let mut k = at(st, slot);
+    k.serves = x;
+    put(st, slot, k);
+}
+
+// What it has heard, alone.
+pub fn put_hearing(st: &mut [u32], slot: Slot, x: Hearing)
+    requires { ⌜ slot .0 < view (now st) .nodes ⌝ }
+    ensures { λ r. ⌜ view (now (st .exit)) ≡ withHearing (view (now (st .entry))) (slot .0) x ⌝ }
+{
+    let mut k = at(st, slot);
+    k.hearing = x;
+    put(st, slot, k);
 }

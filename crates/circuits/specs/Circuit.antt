@@ -1,7 +1,9 @@
 -- A circuit's two words, and the enums that they say. A kind past the last is read as none; the Sound list refuses it.
 use Prim.Native.Nat.{ℕ}
 use mathlib.Core.Bool.{Bool}
+use mathlib.Core.List.{List, [], _∷_}
 use lib.Dec.{eqb, leb}
+use lib.ListN.{getD}
 use Rattle.laws.specs.Pick.{pick}
 use Rattle.circuits.specs.declared.Circuit.{Circuit}
 use Rattle.circuits.specs.declared.Cause.{Cause}
@@ -53,3 +55,13 @@ tileOf (Dropped c) = 0
 
 abbrev pub legalHopKind : Circuit → Bool
 legalHopKind c = leb (c .kind) 5
+
+-- a circuit's words in order, and back
+abbrev pub circuitWords : ℕ
+circuitWords = 2
+
+abbrev pub toCircuit : List ℕ → Circuit
+toCircuit r = record { kind = getD r 0 0; index = getD r 1 0 }
+
+abbrev pub fromCircuit : Circuit → List ℕ
+fromCircuit c = c .kind ∷ c .index ∷ []

@@ -1,7 +1,9 @@
 // What the state says of circuits, as enums, and how two words say it: where a port's circuit goes, and
 // who stands at the other side of a link, a tile link, a claim, an open channel-end or a control unit.
 ghost use mathlib.Core.Path.{_≡_};
-ghost use Rattle.circuits.specs.Circuit.{peerOf, ofPeer, hopOf, ofHop, ofCause, tileOf};
+ghost use mathlib.Core.List.{[]};
+ghost use lib.ListN.{length};
+ghost use Rattle.circuits.specs.Circuit.{circuitWords, toCircuit, fromCircuit, peerOf, ofPeer, hopOf, ofHop, ofCause, tileOf};
 
 // The one record of a circuit, shared by ports, claims, open channel-ends, links and the control
 // unit. What kind and index mean is read off by `peer_of` and `hop_of`.
@@ -106,4 +108,32 @@ pub fn tile_of(h: Hop) -> u32
         Hop::Unit => 0,
         Hop::Dropped(_) => 0,
     }
+}
+
+// The words of a circuit.
+pub const WORDS: usize = 2;
+
+// What stands where there is none.
+pub fn none() -> Circuit
+    ensures { λ r. ⌜ r ≡ toCircuit [] ⌝ }
+{
+    Circuit { kind: 0, index: 0 }
+}
+
+pub fn read(w: &[u32]) -> Circuit
+    requires { ⌜ length (now w) ≡ circuitWords ⌝ }
+    ensures { λ r. ⌜ r ≡ toCircuit (now (w .entry)) ⌝ }
+{
+    Circuit {
+        kind: w[0],
+        index: w[1],
+    }
+}
+
+pub fn write(w: &mut [u32], c: Circuit)
+    requires { ⌜ length (now w) ≡ circuitWords ⌝ }
+    ensures { λ r. ⌜ now (w .exit) ≡ fromCircuit c ⌝ }
+{
+    w[0] = c.kind;
+    w[1] = c.index;
 }

@@ -1,27 +1,39 @@
 -- What each test of the Sound list means, both ways: what a sound state hands to a call, and what a call has to show to leave it sound. Assumes
 -- nothing.
 use Prim.Native.Nat.{ℕ, _+_, _<_, _≤_}
-use mathlib.Core.Bool.{Bool, true, false}
+use mathlib.Core.Bool.{Bool, true, false, not}
+use mathlib.Core.List.{List}
 use mathlib.Core.Logic.{_⊎_}
 use mathlib.Core.Path.{_≡_, refl, sym, ap, _∙_, subst}
+use native.Mathlib.Omega.{arith}
+use lib.Dec.{eqb, ltb}
+use lib.ListN.{length, getD}
+use borrow.Author.Tests.{ltb-true, ltb-false, not-true}
 use Rattle.laws.specs.All.{Means}
-use Rattle.laws.proofs.All.{also, either, denied, as-is, same-as, below, at-most, equal}
-use Rattle.laws.proofs.Order.{never, clash}
-use Rattle.names.specs.Size.{links, endBuffer, replyPort}
+use Rattle.laws.proofs.All.{also, either, denied, as-is, same-as, below, at-most, equal, each}
+use Rattle.laws.proofs.Order.{by-test, never, clash}
+use Rattle.names.specs.Size.{links, endBuffer, unitBuffer, replyPort, networks, directions, numbers}
 use Rattle.names.specs.declared.Slot.{Slot}
 use Rattle.ports.specs.Queue.{capacity}
-use Rattle.tokens.specs.Shape.{legalChannel}
-use Rattle.cells.specs.View.{Net}
+use Rattle.tokens.specs.Control.{end, pause}
+use Rattle.tokens.specs.Word.{controlWord, closes}
+use Rattle.tokens.specs.Shape.{legalChannel, shapeOf}
+use Rattle.tokens.specs.Shape.{Body}
+use Rattle.cells.specs.View.{Net, view}
 use Rattle.cells.specs.World.{farOf}
 use Rattle.cells.specs.declared.node.Node.{Node}
 use Rattle.cells.specs.declared.link.Link.{Link}
+use Rattle.cells.specs.declared.link.Cable.{Cable}
 use Rattle.cells.specs.declared.link.Far.{Far}
 use Rattle.cells.specs.declared.link.Far.the-variants.{Nowhere, At}
 use Rattle.cells.specs.declared.port.Port.{Port}
 use Rattle.cells.specs.declared.end.End.{End}
+use Rattle.cells.specs.declared.end.Aim.{Aim}
 use Rattle.cells.specs.declared.unit.Unit.{Unit}
+use Rattle.cells.specs.declared.unit.Hearing.{Hearing}
 use Rattle.clauses.specs.Counts.{nodeCounts, linkCounts, tilePort, isFree, portCounts, aimCounts, endCounts, unitCounts}
 use Rattle.clauses.specs.Cables.{onFar, leadsTo, cable, credited, greeted, enabled, room}
+use Rattle.clauses.specs.Contents.{legalWord, filled, legalWords, heldTokens, heardTokens}
 use Rattle.clauses.specs.Pairs.{namedBy, backward, players, isNamed, onNamed, agrees, silent}
 use Rattle.clauses.specs.declared.pairs.Named.{Named}
 use Rattle.clauses.specs.declared.pairs.Named.the-variants.{Nothing, One}
@@ -29,30 +41,38 @@ use Rattle.clauses.specs.declared.pairs.Role.{Role}
 
 -- Counts
 
-pub node-counts : (k : Node) → Means (nodeCounts k) ((k .number < 65536) × ((k .width ≡ 1) ⊎ (k .width ≡ 3)))
-node-counts k = also (below (k .number) 65536) (either (equal (k .width) 1) (equal (k .width) 3))
+pub node-counts : (k : Node) → Means (nodeCounts k) ((k .number < numbers) × ((k .width ≡ 1) ⊎ (k .width ≡ 3)))
+node-counts k = also (below (k .number) numbers) (either (equal (k .width) 1) (equal (k .width) 3))
 
 pub record LinkFacts (k : Link) : Type 0 where
-  pub wired : k .wired ≤ 1
-  pub enabled : k .enabled ≤ 1
-  pub direction : k .direction < 16
-  pub network : k .network < 4
-  pub greeted : k .greeted ≤ 1
-  pub credit : k .credit ≤ capacity
+  pub wired : k .cable .wired ≤ 1
+  pub enabled : k .setup .enabled ≤ 1
+  pub direction : k .setup .direction < directions
+  pub network : k .setup .network < networks
+  pub greeted : k .flow .greeted ≤ 1
+  pub credit : k .flow .credit ≤ capacity
   pub user : k .user .kind ≤ 1
 
 pub link-counts : (k : Link) → Means (linkCounts k) (LinkFacts k)
 link-counts k =
     same-as
-    (λ z. record { wired = z .0; enabled = z .1 .0; direction = z .1 .1 .0; network = z .1 .1 .1 .0; greeted = z .1 .1 .1 .1 .0; credit = z .1 .1 .1 .1 .1 .0; user = z .1 .1 .1 .1 .1 .1 })
+    (λ z. record {
+      wired = z .0;
+      enabled = z .1 .0;
+      direction = z .1 .1 .0;
+      network = z .1 .1 .1 .0;
+      greeted = z .1 .1 .1 .1 .0;
+      credit = z .1 .1 .1 .1 .1 .0;
+      user = z .1 .1 .1 .1 .1 .1;
+    })
     (λ f. (f .wired, (f .enabled, (f .direction, (f .network, (f .greeted, (f .credit, f .user)))))))
     (also (at-most _ _) (also (at-most _ _) (also (below _ _) (also (below _ _) (also (at-most _ _) (also (at-most _ _) (at-most _ _)))))))
 
 pub record PortFacts (p : ℕ) (k : Port) : Type 0 where
   pub head : k .counters .head < capacity
   pub held : k .counters .held ≤ capacity
-  pub kind : k .circuit .kind ≤ 5
-  pub network : ((tilePort p ≡ true → ⊥) ⊎ (isFree k ≡ true)) ⊎ (k .network < 4)
+  pub kind : k .leg .circuit .kind ≤ 5
+  pub network : ((tilePort p ≡ true → ⊥) ⊎ (isFree k ≡ true)) ⊎ (k .network < networks)
   pub sender : (k .sender .kind ≡ 0) ⊎ (k .sender .kind ≡ 2)
 
 pub port-counts : (p : ℕ) (k : Port) → Means (portCounts p k) (PortFacts p k)
@@ -60,15 +80,16 @@ port-counts p k =
     same-as
     (λ z. record { head = z .0; held = z .1 .0; kind = z .1 .1 .0; network = z .1 .1 .1 .0; sender = z .1 .1 .1 .1 })
     (λ f. (f .head, (f .held, (f .kind, (f .network, f .sender)))))
-    (also (below _ _) (also (at-most _ _) (also (at-most _ _) (also (either (either (denied (as-is (tilePort p))) (as-is (isFree k))) (below _ _)) (either (equal _ _) (equal _ _))))))
+    (also (below _ _) (also (at-most _ _) (also (at-most _ _)
+    (also (either (either (denied (as-is (tilePort p))) (as-is (isFree k))) (below _ _)) (either (equal _ _) (equal _ _))))))
 
 -- a destination that is there
-pub record AimFacts (k : End) : Type 0 where
-  pub number : k .number < 65536
-  pub network : k .network < 4
-  pub place : (k .aim ≡ 2) ⊎ ((k .aim ≡ 1) × (legalChannel (k .channel) ≡ true))
+pub record AimFacts (k : Aim) : Type 0 where
+  pub number : k .number < numbers
+  pub network : k .network < networks
+  pub place : (k .kind ≡ 2) ⊎ ((k .kind ≡ 1) × (legalChannel (k .channel) ≡ true))
 
-aim-counts : (k : End) → Means (aimCounts k) ((k .aim ≡ 0) ⊎ AimFacts k)
+aim-counts : (k : Aim) → Means (aimCounts k) ((k .kind ≡ 0) ⊎ AimFacts k)
 aim-counts k =
     either (equal _ _)
     (same-as
@@ -77,19 +98,19 @@ aim-counts k =
     (also (below _ _) (also (below _ _) (either (equal _ _) (also (equal _ _) (as-is (legalChannel (k .channel))))))))
 
 pub record EndFacts (k : End) : Type 0 where
-  pub aim : (k .aim ≡ 0) ⊎ AimFacts k
+  pub aim : (k .aim .kind ≡ 0) ⊎ AimFacts (k .aim)
   pub sending : k .sending .kind ≤ 2
   pub claim : k .claim .kind ≤ 2
-  pub held : k .held ≤ endBuffer
+  pub held : k .buffer .held ≤ endBuffer
 
 pub end-counts : (k : End) → Means (endCounts k) (EndFacts k)
 end-counts k =
     same-as
     (λ z. record { aim = z .0; sending = z .1 .0; claim = z .1 .1 .0; held = z .1 .1 .1 })
     (λ f. (f .aim, (f .sending, (f .claim, f .held))))
-    (also (aim-counts k) (also (at-most _ _) (also (at-most _ _) (at-most _ _))))
+    (also (aim-counts (k .aim)) (also (at-most _ _) (also (at-most _ _) (at-most _ _))))
 
-pub unit-counts : (k : Unit) → Means (unitCounts k) ((k .serves .kind ≤ 1) × ((k .serves .kind ≡ 0) ⊎ (k .heard ≤ 11)))
+pub unit-counts : (k : Unit) → Means (unitCounts k) ((k .serves .kind ≤ 1) × ((k .serves .kind ≡ 0) ⊎ (k .hearing .heard ≤ unitBuffer)))
 unit-counts k = also (at-most _ _) (either (equal _ _) (at-most _ _))
 
 -- Cables and credits
@@ -116,32 +137,34 @@ pub record Joined (s : Net) (n l : ℕ) (m : Slot) (k : ℕ) : Type 0 where
   pub node : m .0 < s .nodes
   pub link : k < links
   pub other : (m .0 ≡ n) × (k ≡ l) → ⊥
-  pub back : farOf (s .links (m .0) k) ≡ At (record { 0 = n }) l
+  pub back : farOf (s .links .cables (m .0) k) ≡ At (record { 0 = n }) l
 
-pub cables : (s : Net) (n l : ℕ) → Means (cable s n l) ((m : Slot) (k : ℕ) → farOf (s .links n l) ≡ At m k → Joined s n l m k)
+pub cables : (s : Net) (n l : ℕ) → Means (cable s n l) ((m : Slot) (k : ℕ) → farOf (s .links .cables n l) ≡ At m k → Joined s n l m k)
 cables s n l =
-    on-far {P = λ m k. Joined s n l m k} (farOf (s .links n l)) _
+    on-far {P = λ m k. Joined s n l m k} (farOf (s .links .cables n l)) _
     (λ m k. same-as
     (λ z. record { node = z .0; link = z .1 .0; other = z .1 .1 .0; back = z .1 .1 .1 })
     (λ j. (j .node, (j .link, (j .other, j .back))))
-    (also (below _ _) (also (below _ _) (also (denied (also (equal _ _) (equal _ _))) (leads-to (farOf (s .links (m .0) k)) n l)))))
+    (also (below _ _) (also (below _ _) (also (denied (also (equal _ _) (equal _ _))) (leads-to (farOf (s .links .cables (m .0) k)) n l)))))
 
-pub credits : (s : Net) (n l : ℕ) → Means (credited s n l) ((s .links n l .credit ≡ 0) ⊎ (s .links n l .greeted ≡ 1))
+pub credits : (s : Net) (n l : ℕ) → Means (credited s n l) ((s .links .flows n l .credit ≡ 0) ⊎ (s .links .flows n l .greeted ≡ 1))
 credits s n l = either (equal _ _) (equal _ _)
 
 pub rooms : (s : Net) (n l : ℕ)
-    → Means (room s n l) ((m : Slot) (k : ℕ) → farOf (s .links n l) ≡ At m k → s .links n l .credit + s .ports (m .0) k .counters .held ≤ capacity)
+    → Means (room s n l)
+    ((m : Slot) (k : ℕ) → farOf (s .links .cables n l) ≡ At m k → s .links .flows n l .credit + s .ports .counters (m .0) k .held ≤ capacity)
 rooms s n l =
-    on-far {P = λ m k. s .links n l .credit + s .ports (m .0) k .counters .held ≤ capacity} (farOf (s .links n l)) _ (λ m k. at-most _ _)
+    on-far {P = λ m k. s .links .flows n l .credit + s .ports .counters (m .0) k .held ≤ capacity}
+    (farOf (s .links .cables n l)) _ (λ m k. at-most _ _)
 
 -- a far end that is there and enabled
-pub record Hears (s : Net) (k : Link) : Type 0 where
+pub record Hears (s : Net) (k : Cable) : Type 0 where
   pub slot : Slot
   pub link : ℕ
   pub leads : farOf k ≡ At slot link
-  pub enabled : s .links (slot .0) link .enabled ≡ 1
+  pub enabled : s .links .setups (slot .0) link .enabled ≡ 1
 
-far-enabled : (s : Net) (k : Link) (c : Far) → farOf k ≡ c → Means (onFar c false (enabled s)) (Hears s k)
+far-enabled : (s : Net) (k : Cable) (c : Far) → farOf k ≡ c → Means (onFar c false (enabled s)) (Hears s k)
 far-enabled s k Nowhere e = record { sure = λ h. clash (sym h); back = λ z. let q = z .leads in never (cc) }
 far-enabled s k (At m j) e =
     record {
@@ -150,12 +173,15 @@ far-enabled s k (At m j) e =
           let q : At m j ≡ At (z .slot) (z .link) = sym e ∙ z .leads in
           let d : m ≡ z .slot = cc in
           let g : j ≡ z .link = cc in
-          equal _ 1 .back (ap (λ (x : Slot). s .links (x .0) j .enabled) d ∙ ap (λ (y : ℕ). s .links (z .slot .0) y .enabled) g ∙ z .enabled);
+          equal _ 1 .back
+          (ap (λ (x : Slot). s .links .setups (x .0) j .enabled) d
+          ∙ ap (λ (y : ℕ). s .links .setups (z .slot .0) y .enabled) g
+          ∙ z .enabled);
     }
 
 pub greetings : (s : Net) (n l : ℕ)
-    → Means (greeted s n l) ((s .links n l .greeted ≡ 1 → ⊥) ⊎ ((s .links n l .enabled ≡ 1) × Hears s (s .links n l)))
-greetings s n l = either (denied (equal _ _)) (also (equal _ _) (far-enabled s (s .links n l) (farOf (s .links n l)) refl))
+    → Means (greeted s n l) ((s .links .flows n l .greeted ≡ 1 → ⊥) ⊎ ((s .links .setups n l .enabled ≡ 1) × Hears s (s .links .cables n l)))
+greetings s n l = either (denied (equal _ _)) (also (equal _ _) (far-enabled s (s .links .cables n l) (farOf (s .links .cables n l)) refl))
 
 -- What names something is named back by it
 
@@ -173,5 +199,49 @@ pairs r s n i =
     on-named {P = λ j. (j < players (backward r)) × (namedBy (backward r) s n j ≡ One i)} (namedBy r s n i) _
     (λ j. also (below _ _) (is-named (namedBy (backward r) s n j) i))
 
-pub silences : (s : Net) (n i : ℕ) → Means (silent s n i) ((s .units n 0 .serves .kind ≡ 0) ⊎ (s .ports n replyPort .counters .held ≡ 0))
+pub silences : (s : Net) (n i : ℕ) → Means (silent s n i) ((s .units .serving n 0 .kind ≡ 0) ⊎ (s .ports .counters n replyPort .held ≡ 0))
 silences s n i = either (equal _ _) (equal _ _)
+
+-- What channel-ends and control units hold
+
+-- a channel-end and a control unit of a state have as many words as they can hold tokens
+pub end-words : (ws : List ℕ) (n c : ℕ) → length (view ws .ends .buffers n c .tokens) ≡ endBuffer
+unfolding view
+end-words ws n c = refl
+
+pub unit-words : (ws : List ℕ) (n : ℕ) → length (view ws .units .hearings n 0 .tokens) ≡ unitBuffer
+unfolding view
+unit-words ws n = refl
+
+pub filled-within : (size held : ℕ) → filled size held ≤ size
+filled-within size held =
+    by-test (ltb held size) (λ e. let l = ltb-true held size e in rw e (omega arith)) (λ e. rw e (omega arith))
+
+-- where no more are held than there is room for, each that is held counts
+pub filled-all : (size held i : ℕ) → held ≤ size → i < held → i < filled size held
+filled-all size held i a b =
+    by-test (ltb held size) (λ e. rw e b) (λ e. let l = ltb-false held size e in rw e (omega arith))
+
+legal-words : (ends : Bool) (size held : ℕ) (words : List ℕ)
+    → Means (legalWords ends size held words) ((i : ℕ) → i < filled size held → legalWord ends (getD words i 0) ≡ true)
+legal-words ends size held words =
+    each {P = λ i. legalWord ends (getD words i 0) ≡ true} (filled size held) (λ i. legalWord ends (getD words i 0)) (λ i. as-is _)
+
+pub helds : (s : Net) (n c : ℕ)
+    → let k = s .ends .buffers n c in
+    Means (heldTokens s n c) ((i : ℕ) → i < filled endBuffer (k .held) → legalWord true (getD (k .tokens) i 0) ≡ true)
+helds s n c = let k = s .ends .buffers n c in legal-words true endBuffer (k .held) (k .tokens)
+
+abbrev pub HeardLegal : Hearing → Type 0
+HeardLegal k = (i : ℕ) → i < filled unitBuffer (k .heard) → legalWord false (getD (k .tokens) i 0) ≡ true
+
+pub heards : (s : Net) (n i : ℕ) → Means (heardTokens s n i) ((s .units .serving n 0 .kind ≡ 0) ⊎ HeardLegal (s .units .hearings n 0))
+heards s n i = let k = s .units .hearings n 0 in either (equal _ 0) (legal-words false unitBuffer (k .heard) (k .tokens))
+
+-- a token that a control unit keeps is one that stands past a header and closes nothing
+pub plain : (t : ℕ) → legalWord false t ≡ true → shapeOf t ≡ Body
+unfolding shapeOf closes
+plain t e =
+    let kept = also (as-is (not (eqb t (controlWord pause)))) (as-is (not (eqb t (controlWord end)))) in
+    let z = also (as-is (ltb t 0x1C2)) kept .sure e in
+    rw (not-true (eqb t (controlWord end)) (z .1 .1), not-true (eqb t (controlWord pause)) (z .1 .0), z .0)

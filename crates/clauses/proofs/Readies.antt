@@ -1,5 +1,5 @@
--- A port that is ready: the memory reaches past its stretch, its counters are those of a ring, and a stage read off its tokens is that of the
--- port. Assumes nothing.
+-- A port that is ready: the memory reaches past its stretch, its counters are those of a ring, and the stages read off its tokens are those
+-- of the port. Assumes nothing.
 use Prim.Native.Nat.{ℕ, _+_, _*_, _/_, _≤_, _<_}
 use mathlib.Core.Bool.{true, false, not, _&&_}
 use mathlib.Core.List.{List, []}
@@ -7,22 +7,22 @@ use mathlib.Core.Path.{_≡_, refl, sym, ap}
 use native.Mathlib.Omega.{arith}
 use lib.Dec.{ltb, leb}
 use lib.ListN.{length}
-use Rattle.laws.specs.Pick.{pick}
 use Rattle.laws.proofs.All.{both, below, at-most}
 use Rattle.laws.proofs.Order.{by-test}
 use Rattle.names.specs.Size.{ports}
 use Rattle.circuits.specs.Circuit.{hopOf}
 use Rattle.circuits.specs.declared.Hop.{Hop}
 use Rattle.circuits.specs.declared.Hop.the-variants as Hops
-use Rattle.ports.specs.Queue.{capacity, Fair, contents, ring}
+use Rattle.ports.specs.Ring.{ring}
+use Rattle.ports.specs.Queue.{capacity, Fair, contents}
 use Rattle.ports.specs.Memory.{place, stretch}
 use Rattle.grammar.specs.Stage.{isBad}
-use Rattle.grammar.specs.Walk.{backOf}
-use Rattle.grammar.specs.declared.stage.Stage.{Stage}
-use Rattle.grammar.specs.declared.stage.Stage.the-variants.{Bad}
-use Rattle.cells.specs.World.{World, hop, queue}
+use Rattle.grammar.specs.Walk.{backOf, stagesOf}
+use Rattle.grammar.specs.declared.port.Stages.{Stages}
+use Rattle.cells.specs.View.{wholePort}
+use Rattle.cells.specs.World.{World, hop}
 use Rattle.cells.specs.declared.port.Port.{Port}
-use Rattle.clauses.specs.Contents.{ready}
+use Rattle.clauses.specs.Contents.{ready, stages}
 use Rattle.clauses.specs.Contents as Contents
 
 module _ (w : World) (n p : ℕ) where
@@ -30,34 +30,35 @@ module _ (w : World) (n p : ℕ) where
   pub record Ready : Type 0 where
     pub node : n < length (w .memory) / (ports * capacity)
     pub port : p < ports
-    pub head : w .net .ports n p .counters .head < capacity
-    pub held : w .net .ports n p .counters .held ≤ capacity
+    pub head : w .net .ports .counters n p .head < capacity
+    pub held : w .net .ports .counters n p .held ≤ capacity
 
   pub is-ready : ready w n p ≡ true → Ready
   is-ready e =
-      let c = w .net .ports n p .counters in
+      let c = w .net .ports .counters n p in
       let a = ltb n (length (w .memory) / (ports * capacity)) in
       let b = ltb p ports in
       let d = ltb (c .head) capacity in
       let f = leb (c .held) capacity in
-      let z = both a (b && (d && f)) (below n _) (both b (d && f) (below p _) (both d f (below (c .head) _) (at-most (c .held) _))) .sure e in
+      let ring = both d f (below (c .head) _) (at-most (c .held) _) in
+      let z = both a (b && (d && f)) (below n _) (both b (d && f) (below p _) ring) .sure e in
       record { node = z .0; port = z .1 .0; head = z .1 .1 .0; held = z .1 .1 .1 }
 
   module _ (e : ready w n p ≡ true) where
     pub reaches : place n p + capacity ≤ length (w .memory)
     reaches = let z = is-ready e in omega arith
 
-    pub fair : Fair (w .net .ports n p .counters)
+    pub fair : Fair (w .net .ports .counters n p)
     fair = let z = is-ready e in record { head-in = z .head; held-in = z .held }
 
-    -- a stage that is read off the port's record and its stretch
-    pub read-off : (f : Hop → List ℕ → Stage) {k : Port} {h : Hop} {s : List ℕ} {r : Stage}
-        → k ≡ w .net .ports n p
-        → h ≡ hopOf (k .circuit) (k .tile)
+    -- what is read off the port's record and its stretch
+    pub read-off : {k : Port} {h : Hop} {s : List ℕ} {r : Stages}
+        → k ≡ wholePort (w .net) n p
+        → h ≡ hopOf (k .leg .circuit) (k .leg .tile)
         → s ≡ stretch (w .memory) (place n p)
-        → r ≡ f h (contents (k .counters) s)
-        → r ≡ pick (ready w n p) (f (hop (w .net) n p) (queue w n p)) Bad
-    read-off f ek eh es er = rw (er, es, eh, ek, e)
+        → r ≡ stagesOf h (contents (k .counters) s)
+        → r ≡ stages w n p
+    read-off ek eh es er = rw (er, es, eh, ek, e)
 
 -- a port that holds nothing holds nothing wrong
 nothing-wrong : (h : Hop) → isBad (backOf h []) ≡ false
@@ -67,7 +68,7 @@ nothing-wrong (Hops.Channel c t) = refl
 nothing-wrong Hops.Unit = refl
 nothing-wrong (Hops.Dropped c) = refl
 
-pub empty-port : (w : World) (n p : ℕ) → w .net .ports n p .counters .held ≡ 0 → ready w n p ≡ Contents.contents w n p
+pub empty-port : (w : World) (n p : ℕ) → w .net .ports .counters n p .held ≡ 0 → ready w n p ≡ Contents.contents w n p
 unfolding ring
 empty-port w n p e =
     by-test (ready w n p)

@@ -6,7 +6,7 @@ use Rattle.names.specs.Size.{links}
 use Rattle.ports.specs.Queue.{capacity}
 use Rattle.cells.specs.View.{Net}
 use Rattle.cells.specs.World.{farOf}
-use Rattle.cells.specs.declared.link.Link.{Link}
+use Rattle.cells.specs.declared.link.Cable.{Cable}
 use Rattle.cells.specs.declared.link.Far.{Far}
 use Rattle.cells.specs.declared.link.Far.the-variants.{Nowhere, At}
 
@@ -21,26 +21,26 @@ leadsTo (At m k) n l = eqb (m .0) n && eqb k l
 
 -- "cables agree at both ends": a far end that is there, is another, and leads back
 abbrev pub joined : Net → ℕ → ℕ → ℕ → ℕ → Bool
-joined s n l m k = ltb m (s .nodes) && (ltb k links && (not (eqb m n && eqb k l) && leadsTo (farOf (s .links m k)) n l))
+joined s n l m k = ltb m (s .nodes) && (ltb k links && (not (eqb m n && eqb k l) && leadsTo (farOf (s .links .cables m k)) n l))
 
 abbrev pub cable : Net → ℕ → ℕ → Bool
-cable s n l = onFar (farOf (s .links n l)) true (joined s n l)
+cable s n l = onFar (farOf (s .links .cables n l)) true (joined s n l)
 
 -- "credit only where greeted"
 abbrev pub credited : Net → ℕ → ℕ → Bool
-credited s n l = eqb (s .links n l .credit) 0 || eqb (s .links n l .greeted) 1
+credited s n l = eqb (s .links .flows n l .credit) 0 || eqb (s .links .flows n l .greeted) 1
 
 -- "greeted only where wired with both ends enabled"
 abbrev pub enabled : Net → ℕ → ℕ → Bool
-enabled s n l = eqb (s .links n l .enabled) 1
+enabled s n l = eqb (s .links .setups n l .enabled) 1
 
-abbrev pub farEnabled : Net → Link → Bool
+abbrev pub farEnabled : Net → Cable → Bool
 farEnabled s k = onFar (farOf k) false (enabled s)
 
 abbrev pub greeted : Net → ℕ → ℕ → Bool
-greeted s n l = not (eqb (s .links n l .greeted) 1) || (enabled s n l && farEnabled s (s .links n l))
+greeted s n l = not (eqb (s .links .flows n l .greeted) 1) || (enabled s n l && farEnabled s (s .links .cables n l))
 
 -- "credit plus tokens held at the far end at most 64"
 abbrev pub room : Net → ℕ → ℕ → Bool
 room s n l =
-    onFar (farOf (s .links n l)) true (λ m k. leb (s .links n l .credit + s .ports m k .counters .held) capacity)
+    onFar (farOf (s .links .cables n l)) true (λ m k. leb (s .links .flows n l .credit + s .ports .counters m k .held) capacity)

@@ -4,7 +4,7 @@
 use Prim.Native.Nat.{ℕ}
 use mathlib.Core.Bool.{Bool, not, _&&_, _||_}
 use lib.Dec.{eqb, ltb, leb}
-use Rattle.names.specs.Size.{links, replyPort, endBuffer, unitBuffer, networks, directions}
+use Rattle.names.specs.Size.{firstTilePort, replyPort, endBuffer, unitBuffer, networks, directions, numbers}
 use Rattle.circuits.specs.Circuit.{legalPeer, legalHopKind}
 use Rattle.circuits.specs.declared.Circuit.{Circuit}
 use Rattle.ports.specs.Queue.{capacity}
@@ -14,6 +14,7 @@ use Rattle.cells.specs.declared.link.Link.{Link}
 use Rattle.cells.specs.declared.port.Port.{Port}
 use Rattle.cells.specs.declared.tile.Tile.{Tile}
 use Rattle.cells.specs.declared.end.End.{End}
+use Rattle.cells.specs.declared.end.Aim.{Aim}
 use Rattle.cells.specs.declared.unit.Unit.{Unit}
 
 -- 0 or 1
@@ -30,23 +31,23 @@ byEnd c = eqb (c .kind) 0 || eqb (c .kind) 2
 
 -- number 0..65535, width one or three (a direction entry cannot leave 0..15)
 abbrev pub nodeCounts : Node → Bool
-nodeCounts k = ltb (k .number) 65536 && (eqb (k .width) 1 || eqb (k .width) 3)
+nodeCounts k = ltb (k .number) numbers && (eqb (k .width) 1 || eqb (k .width) 3)
 
 -- "credit of a link 0..64; network number 0..3; direction 0..15"
 abbrev pub linkCounts : Link → Bool
 linkCounts k =
-    flag (k .wired)
-    && (flag (k .enabled)
-    && (ltb (k .direction) directions
-    && (ltb (k .network) networks && (flag (k .greeted) && (leb (k .credit) capacity && byPort (k .user))))))
+    flag (k .cable .wired)
+    && (flag (k .setup .enabled)
+    && (ltb (k .setup .direction) directions
+    && (ltb (k .setup .network) networks && (flag (k .flow .greeted) && (leb (k .flow .credit) capacity && byPort (k .user))))))
 
 -- "four links from the tile to the switch (ports 8..11)"
 abbrev pub tilePort : ℕ → Bool
-tilePort p = leb links p && ltb p replyPort
+tilePort p = leb firstTilePort p && ltb p replyPort
 
 -- no circuit, and no token
 abbrev pub isFree : Port → Bool
-isFree k = eqb (k .circuit .kind) 0 && eqb (k .counters .held) 0
+isFree k = eqb (k .leg .circuit .kind) 0 && eqb (k .counters .held) 0
 
 -- the network of the circuit that has taken a tile port; nothing reads that of another
 abbrev pub portNetwork : ℕ → Port → Bool
@@ -56,21 +57,21 @@ portNetwork p k = (not (tilePort p) || isFree k) || ltb (k .network) networks
 abbrev pub portCounts : ℕ → Port → Bool
 portCounts p k =
     ltb (k .counters .head) capacity
-    && (leb (k .counters .held) capacity && (legalHopKind (k .circuit) && (portNetwork p k && byEnd (k .sender))))
+    && (leb (k .counters .held) capacity && (legalHopKind (k .leg .circuit) && (portNetwork p k && byEnd (k .sender))))
 
 abbrev pub tileCounts : Tile → Bool
 tileCounts k = byPort (k .user)
 
 -- a destination: number, channel 0..31 or 255 (or a control unit), network
-abbrev pub aimCounts : End → Bool
+abbrev pub aimCounts : Aim → Bool
 aimCounts k =
-    eqb (k .aim) 0
-    || (ltb (k .number) 65536 && (ltb (k .network) networks && (eqb (k .aim) 2 || (eqb (k .aim) 1 && legalChannel (k .channel)))))
+    eqb (k .kind) 0
+    || (ltb (k .number) numbers && (ltb (k .network) networks && (eqb (k .kind) 2 || (eqb (k .kind) 1 && legalChannel (k .channel)))))
 
 -- "channel-end input buffer 8 tokens"
 abbrev pub endCounts : End → Bool
-endCounts k = aimCounts k && (legalPeer (k .sending) && (legalPeer (k .claim) && leb (k .held) endBuffer))
+endCounts k = aimCounts (k .aim) && (legalPeer (k .sending) && (legalPeer (k .claim) && leb (k .buffer .held) endBuffer))
 
 -- what a control unit has kept of a message, while it listens
 abbrev pub unitCounts : Unit → Bool
-unitCounts k = byPort (k .serves) && (eqb (k .serves .kind) 0 || leb (k .heard) unitBuffer)
+unitCounts k = byPort (k .serves) && (eqb (k .serves .kind) 0 || leb (k .hearing .heard) unitBuffer)

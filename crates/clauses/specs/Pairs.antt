@@ -11,7 +11,7 @@ use Rattle.circuits.specs.declared.Peer.{Peer}
 use Rattle.circuits.specs.declared.Peer.the-variants.{Nobody, Port, End}
 use Rattle.circuits.specs.declared.Hop.{Hop}
 use Rattle.circuits.specs.declared.Hop.the-variants.{Shut, Out, Channel, Unit, Dropped}
-use Rattle.cells.specs.View.{Net}
+use Rattle.cells.specs.View.{Net, wholePort}
 use Rattle.cells.specs.World.{hop}
 use Rattle.clauses.specs.Counts.{tilePort, isFree}
 use Rattle.clauses.specs.declared.pairs.Named.{Named}
@@ -70,17 +70,17 @@ claimOf (Dropped k) = Nothing
 -- what record i of node n names in each role
 abbrev pub namedBy : Role → Net → ℕ → ℕ → Named
 namedBy PortLink s n i = linkOf (hop s n i)
-namedBy LinkPort s n i = portOf (peerOf (s .links n i .user))
+namedBy LinkPort s n i = portOf (peerOf (s .links .users n i))
 namedBy PortTile s n i = tileOf (hop s n i)
 namedBy TilePort s n i = portOf (peerOf (s .tiles n i .user))
 namedBy PortUnit s n i = unitOf (hop s n i)
-namedBy UnitPort s n i = portOf (peerOf (s .units n 0 .serves))
+namedBy UnitPort s n i = portOf (peerOf (s .units .serving n 0))
 namedBy PortClaim s n i = claimOf (hop s n i)
-namedBy ClaimPort s n i = portOf (peerOf (s .ends n i .claim))
-namedBy EndClaim s n i = straightTo (peerOf (s .ends n i .sending))
-namedBy ClaimEnd s n i = endOf (peerOf (s .ends n i .claim))
-namedBy EndPort s n i = portOf (peerOf (s .ends n i .sending))
-namedBy PortEnd s n i = endOf (peerOf (s .ports n i .sender))
+namedBy ClaimPort s n i = portOf (peerOf (s .ends .claims n i))
+namedBy EndClaim s n i = straightTo (peerOf (s .ends .sendings n i))
+namedBy ClaimEnd s n i = endOf (peerOf (s .ends .claims n i))
+namedBy EndPort s n i = portOf (peerOf (s .ends .sendings n i))
+namedBy PortEnd s n i = endOf (peerOf (s .ports .senders n i))
 
 -- the other way round
 abbrev pub backward : Role → Role
@@ -130,7 +130,7 @@ agrees r s n i = onNamed (namedBy r s n i) (namesBack r s n i)
 
 -- "The port is taken until its END or PAUSE has left it": it has a circuit, or holds a token
 abbrev pub taken : Net → ℕ → ℕ → Bool
-taken s n p = not (isFree (s .ports n p))
+taken s n p = not (isFree (wholePort s n p))
 
 -- an open channel-end is aimed, and goes by a tile port that is taken, or straight to a channel
 abbrev pub openBy : Net → ℕ → Peer → Bool
@@ -140,8 +140,8 @@ openBy s n (End c) = eqb c sink || ltb c ends
 
 abbrev pub openEnd : Net → ℕ → ℕ → Bool
 openEnd s n e =
-    eqb (s .ends n e .sending .kind) 0 || (not (eqb (s .ends n e .aim) 0) && openBy s n (peerOf (s .ends n e .sending)))
+    eqb (s .ends .sendings n e .kind) 0 || (not (eqb (s .ends .aims n e .kind) 0) && openBy s n (peerOf (s .ends .sendings n e)))
 
 -- "port 12 is empty while the control unit serves a circuit"
 abbrev pub silent : Net → ℕ → ℕ → Bool
-silent s n i = eqb (s .units n 0 .serves .kind) 0 || eqb (s .ports n replyPort .counters .held) 0
+silent s n i = eqb (s .units .serving n 0 .kind) 0 || eqb (s .ports .counters n replyPort .held) 0

@@ -22,18 +22,18 @@ carriedFor w n (End e) = Fresh
 
 -- fed: over a cable the far port ends where the circuit that is sent to it has come to
 abbrev pub fedTo : World → ℕ → ℕ → ℕ → ℕ → Bool
-fedTo w n l m k = sameStage (back w m k) (carriedFor w n (peerOf (w .net .links n l .user)))
+fedTo w n l m k = sameStage (back w m k) (carriedFor w n (peerOf (w .net .links .users n l)))
 
 abbrev pub fed : World → ℕ → ℕ → Bool
-fed w n l = onFar (farOf (w .net .links n l)) true (fedTo w n l)
+fed w n l = onFar (farOf (w .net .links .cables n l)) true (fedTo w n l)
 
 -- unfed: an unwired link's port ends with a circuit's end
 abbrev pub unfed : World → ℕ → ℕ → Bool
-unfed w n l = eqb (w .net .links n l .wired) 1 || sameStage (back w n l) Fresh
+unfed w n l = eqb (w .net .links .cables n l .wired) 1 || sameStage (back w n l) Fresh
 
 -- idle: a disabled link is used by nobody
 abbrev pub idle : Net → ℕ → ℕ → Bool
-idle s n l = eqb (s .links n l .enabled) 1 || eqb (s .links n l .user .kind) 0
+idle s n l = eqb (s .links .setups n l .enabled) 1 || eqb (s .links .users n l .kind) 0
 
 -- sends: the port of an open channel-end ends past a header, without END or PAUSE
 abbrev pub inBody : World → ℕ → Peer → Bool
@@ -42,7 +42,7 @@ inBody w n (Port p) = sameStage (back w n p) Body
 inBody w n (End c) = true
 
 abbrev pub sends : World → ℕ → ℕ → Bool
-sends w n e = inBody w n (peerOf (w .net .ends n e .sending))
+sends w n e = inBody w n (peerOf (w .net .ends .sendings n e))
 
 -- replied: port 12 ends with a circuit's end
 abbrev pub replied : World → ℕ → ℕ → Bool

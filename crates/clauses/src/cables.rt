@@ -1,7 +1,8 @@
 // Cables and credits, link by link.
 use cells::link;
+use cells::link::Cable;
 use cells::link::Far;
-use cells::link::Link;
+use cells::link::far_at;
 use cells::link::far_of;
 use cells::node;
 use cells::port;
@@ -28,7 +29,7 @@ fn leads_to(f: Far, slot: Slot, l: usize) -> bool
 fn joined(st: &[u32], slot: Slot, l: usize, m: Slot, k: usize) -> bool
     ensures { λ r. ⌜ r ≡ joined (view (now (st .entry))) (slot .0) l (m .0) k ⌝ }
 {
-    let back = leads_to(far_of(link::at(st, m, k)), slot, l);
+    let back = leads_to(far_at(st, m, k), slot, l);
     (m.0 < node::count(st)) & ((k < LINKS) & (!((m.0 == slot.0) & (k == l)) & back))
 }
 
@@ -36,7 +37,7 @@ fn joined(st: &[u32], slot: Slot, l: usize, m: Slot, k: usize) -> bool
 pub fn cable(st: &[u32], slot: Slot, l: usize) -> bool
     ensures { λ r. ⌜ r ≡ cable (view (now (st .entry))) (slot .0) l ⌝ }
 {
-    match far_of(link::at(st, slot, l)) {
+    match far_at(st, slot, l) {
         Far::Nowhere => true,
         Far::At(m, k) => joined(st, slot, l, m, k),
     }
@@ -47,18 +48,18 @@ pub fn credited(st: &[u32], slot: Slot, l: usize) -> bool
     ensures { λ r. ⌜ r ≡ credited (view (now (st .entry))) (slot .0) l ⌝ }
 {
     let k = link::at(st, slot, l);
-    (k.credit == 0) | (k.greeted == 1)
+    (k.flow.credit == 0) | (k.flow.greeted == 1)
 }
 
 fn enabled(st: &[u32], slot: Slot, l: usize) -> bool
     ensures { λ r. ⌜ r ≡ enabled (view (now (st .entry))) (slot .0) l ⌝ }
 {
     let k = link::at(st, slot, l);
-    k.enabled == 1
+    k.setup.enabled == 1
 }
 
 // The far end exists and is enabled.
-pub fn far_enabled(st: &[u32], k: Link) -> bool
+pub fn far_enabled(st: &[u32], k: Cable) -> bool
     ensures { λ r. ⌜ r ≡ farEnabled (view (now (st .entry))) k ⌝ }
 {
     match far_of(k) {
@@ -72,7 +73,7 @@ pub fn greeted(st: &[u32], slot: Slot, l: usize) -> bool
     ensures { λ r. ⌜ r ≡ greeted (view (now (st .entry))) (slot .0) l ⌝ }
 {
     let k = link::at(st, slot, l);
-    !(k.greeted == 1) | ((k.enabled == 1) & far_enabled(st, k))
+    !(k.flow.greeted == 1) | ((k.setup.enabled == 1) & far_enabled(st, k.cable))
 }
 
 fn room_for(credit: u32, held: u32) -> bool
@@ -86,11 +87,11 @@ pub fn room(st: &[u32], slot: Slot, l: usize) -> bool
     ensures { λ r. ⌜ r ≡ room (view (now (st .entry))) (slot .0) l ⌝ }
 {
     let k = link::at(st, slot, l);
-    match far_of(k) {
+    match far_of(k.cable) {
         Far::Nowhere => true,
         Far::At(m, j) => {
             let far = port::at(st, m, j);
-            room_for(k.credit, far.counters.held)
+            room_for(k.flow.credit, far.counters.held)
         }
     }
 }

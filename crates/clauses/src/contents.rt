@@ -1,9 +1,10 @@
-// What ports and channel-ends hold.
+// What ports, channel-ends and control units hold.
 use cells::end;
-use cells::end::End;
 use cells::layout::TOKEN_WORDS;
 use cells::port;
+use cells::unit;
 use circuits::hop_of;
+use grammar::port::Stages;
 use grammar::stage::Stage;
 use grammar::stage::is_bad;
 use names::Slot;
@@ -11,11 +12,10 @@ use names::size::PORTS;
 use ports::Counters;
 use ports::stretch;
 ghost use mathlib.Core.Path.{_≡_};
-ghost use Prim.Native.Nat.{_<_};
-ghost use Rattle.names.specs.Size.{endBuffer};
+ghost use lib.ListN.{length};
 ghost use Rattle.cells.specs.View.{view};
 ghost use Rattle.cells.specs.World.{world};
-ghost use Rattle.clauses.specs.Contents.{ready, front, back, contents, legalHeld, heldToken, heldTokens};
+ghost use Rattle.clauses.specs.Contents.{ready, stages, front, back, contents, legalWord, filled, legalWords, heldTokens, heardTokens};
 
 // The memory has this port's stretch, and its counters are those of a ring.
 fn ready(st: &[u32], mem: &[u16], slot: Slot, p: usize) -> bool
@@ -27,26 +27,36 @@ fn ready(st: &[u32], mem: &[u16], slot: Slot, p: usize) -> bool
             & ((k.counters.head < Counters::CAPACITY) & (k.counters.held <= Counters::CAPACITY)))
 }
 
-// Where a port's circuit stands before its first token.
+// Where a port's tokens begin and end, to one who walks over them.
+fn stages(st: &[u32], mem: &[u16], slot: Slot, p: usize) -> Stages
+    ensures { λ r. ⌜ r ≡ stages (world (now (st .entry)) (now (mem .entry))) (slot .0) p ⌝ }
+{
+    if ready(st, mem, slot, p) {
+        let k = port::at(st, slot, p);
+        return grammar::port::stages_of(
+            hop_of(k.leg.circuit, k.leg.tile),
+            stretch(mem, slot, p),
+            k.counters,
+        );
+    }
+    Stages {
+        front: Stage::Bad,
+        back: Stage::Bad,
+    }
+}
+
 pub fn front(st: &[u32], mem: &[u16], slot: Slot, p: usize) -> Stage
     ensures { λ r. ⌜ r ≡ front (world (now (st .entry)) (now (mem .entry))) (slot .0) p ⌝ }
 {
-    if ready(st, mem, slot, p) {
-        let k = port::at(st, slot, p);
-        return grammar::port::front(hop_of(k.circuit, k.tile), stretch(mem, slot, p), k.counters);
-    }
-    Stage::Bad
+    let s = stages(st, mem, slot, p);
+    s.front
 }
 
-// And past its last.
 pub fn back(st: &[u32], mem: &[u16], slot: Slot, p: usize) -> Stage
     ensures { λ r. ⌜ r ≡ back (world (now (st .entry)) (now (mem .entry))) (slot .0) p ⌝ }
 {
-    if ready(st, mem, slot, p) {
-        let k = port::at(st, slot, p);
-        return grammar::port::back(hop_of(k.circuit, k.tile), stretch(mem, slot, p), k.counters);
-    }
-    Stage::Bad
+    let s = stages(st, mem, slot, p);
+    s.back
 }
 
 // The sentences of the list on what may stand in a port.
@@ -61,18 +71,35 @@ pub fn contents(st: &[u32], mem: &[u16], slot: Slot, p: usize) -> bool
     !is_bad(back(st, mem, slot, p))
 }
 
-fn legal_held(t: u32) -> bool
-    ensures { λ r. ⌜ r ≡ legalHeld t ⌝ }
+fn legal_word(t: u32, ends: bool) -> bool
+    ensures { λ r. ⌜ r ≡ legalWord ends t ⌝ }
 {
-    (t < 0x01C2) & !(t == 0x0102)
+    (t < 0x01C2) & (!(t == 0x0102) & (ends | !(t == 0x0101)))
 }
 
-fn held_token(k: End, i: usize) -> bool
-    requires { ⌜ i < endBuffer ⌝ }
-    ensures { λ r. ⌜ r ≡ heldToken k i ⌝ }
+// How many of so many words are held.
+fn filled(size: usize, held: u32) -> usize
+    ensures { λ r. ⌜ r ≡ filled size held ⌝ }
 {
-    let t = k.tokens;
-    (k.held as usize <= i) | legal_held(t[i])
+    if (held as usize) < size {
+        return held as usize;
+    }
+    size
+}
+
+// Each word that is held is legal, END where it is kept.
+fn legal_words(words: &[u32], held: u32, ends: bool) -> bool
+    ensures { λ r. ⌜ r ≡ legalWords ends (length (now (words .entry))) held (now (words .entry)) ⌝ }
+{
+    let most = filled(words.len(), held);
+    let mut i = 0;
+    while i < most {
+        if !legal_word(words[i], ends) {
+            return false;
+        }
+        i += 1;
+    }
+    true
 }
 
 // "tokens .. are legal": in a channel-end, no PAUSE.
@@ -80,10 +107,22 @@ pub fn held_tokens(st: &[u32], slot: Slot, c: usize) -> bool
     ensures { λ r. ⌜ r ≡ heldTokens (view (now (st .entry))) (slot .0) c ⌝ }
 {
     let k = end::at(st, slot, c);
-    if k.held == 0 {
+    if k.buffer.held == 0 {
+        // what holds nothing holds nothing wrong
         return true;
     }
-    let first = held_token(k, 0) & (held_token(k, 1) & (held_token(k, 2) & held_token(k, 3)));
-    let last = held_token(k, 4) & (held_token(k, 5) & (held_token(k, 6) & held_token(k, 7)));
-    first & last
+    let t = k.buffer.tokens;
+    legal_words(&t, k.buffer.held, true)
+}
+
+// And in a control unit that serves a circuit, neither END nor PAUSE, which end its message.
+pub fn heard_tokens(st: &[u32], slot: Slot) -> bool
+    ensures { λ r. ⌜ r ≡ heardTokens (view (now (st .entry))) (slot .0) 0 ⌝ }
+{
+    let k = unit::at(st, slot);
+    if k.serves.kind == 0 {
+        return true;
+    }
+    let t = k.hearing.tokens;
+    legal_words(&t, k.hearing.heard, false)
 }

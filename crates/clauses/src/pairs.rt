@@ -10,6 +10,7 @@ use circuits::hop_of;
 use circuits::peer_of;
 use names::Slot;
 use names::size::ENDS;
+use names::size::FIRST_TILE_PORT;
 use names::size::LINKS;
 use names::size::PORTS;
 use names::size::REPLY_PORT;
@@ -20,13 +21,6 @@ ghost use Rattle.cells.specs.View.{view};
 ghost use Rattle.cells.specs.World.{hop};
 ghost use Rattle.circuits.specs.Circuit.{peerOf};
 ghost use Rattle.clauses.specs.Pairs.{portOf, endOf, claimable, straightTo, linkOf, tileOf, unitOf, claimOf, namedBy, backward, players, isNamed, namesBack, agrees, taken, openBy, openEnd, silent};
-
-// The tile ports 8..11 and the channels 0..31, beside words of 32 bits.
-const FIRST_TILE_PORT: u32 = LINKS as u32;
-
-const AFTER_TILE_PORTS: u32 = REPLY_PORT as u32;
-
-const CHANNELS: u32 = ENDS as u32;
 
 // What is named.
 pub enum Named {
@@ -143,12 +137,12 @@ pub fn hop_at(st: &[u32], slot: Slot, p: usize) -> Hop
     ensures { λ r. ⌜ r ≡ hop (view (now (st .entry))) (slot .0) p ⌝ }
 {
     let k = port::at(st, slot, p);
-    hop_of(k.circuit, k.tile)
+    hop_of(k.leg.circuit, k.leg.tile)
 }
 
 // The port whose circuit leaves by a link.
 pub fn link_user(st: &[u32], slot: Slot, i: usize) -> Peer
-    ensures { λ r. ⌜ r ≡ peerOf (view (now (st .entry)) .links (slot .0) i .user) ⌝ }
+    ensures { λ r. ⌜ r ≡ peerOf (view (now (st .entry)) .links .users (slot .0) i) ⌝ }
 {
     let k = link::at(st, slot, i);
     peer_of(k.user)
@@ -164,7 +158,7 @@ pub fn tile_user(st: &[u32], slot: Slot, i: usize) -> Peer
 
 // Who sends to a channel-end.
 pub fn claim(st: &[u32], slot: Slot, i: usize) -> Peer
-    ensures { λ r. ⌜ r ≡ peerOf (view (now (st .entry)) .ends (slot .0) i .claim) ⌝ }
+    ensures { λ r. ⌜ r ≡ peerOf (view (now (st .entry)) .ends .claims (slot .0) i) ⌝ }
 {
     let k = end::at(st, slot, i);
     peer_of(k.claim)
@@ -172,7 +166,7 @@ pub fn claim(st: &[u32], slot: Slot, i: usize) -> Peer
 
 // Where the open circuit of a channel-end goes.
 pub fn sending(st: &[u32], slot: Slot, i: usize) -> Peer
-    ensures { λ r. ⌜ r ≡ peerOf (view (now (st .entry)) .ends (slot .0) i .sending) ⌝ }
+    ensures { λ r. ⌜ r ≡ peerOf (view (now (st .entry)) .ends .sendings (slot .0) i) ⌝ }
 {
     let k = end::at(st, slot, i);
     peer_of(k.sending)
@@ -180,7 +174,7 @@ pub fn sending(st: &[u32], slot: Slot, i: usize) -> Peer
 
 // The channel-end whose open circuit goes by a port.
 pub fn sender(st: &[u32], slot: Slot, i: usize) -> Peer
-    ensures { λ r. ⌜ r ≡ peerOf (view (now (st .entry)) .ports (slot .0) i .sender) ⌝ }
+    ensures { λ r. ⌜ r ≡ peerOf (view (now (st .entry)) .ports .senders (slot .0) i) ⌝ }
 {
     let k = port::at(st, slot, i);
     peer_of(k.sender)
@@ -188,7 +182,7 @@ pub fn sender(st: &[u32], slot: Slot, i: usize) -> Peer
 
 // The port that a control unit serves.
 pub fn serves(st: &[u32], slot: Slot) -> Peer
-    ensures { λ r. ⌜ r ≡ peerOf (view (now (st .entry)) .units (slot .0) 0 .serves) ⌝ }
+    ensures { λ r. ⌜ r ≡ peerOf (view (now (st .entry)) .units .serving (slot .0) 0) ⌝ }
 {
     let k = unit::at(st, slot);
     peer_of(k.serves)
@@ -284,7 +278,7 @@ pub fn taken(st: &[u32], slot: Slot, p: usize) -> bool
     ensures { λ r. ⌜ r ≡ taken (view (now (st .entry))) (slot .0) p ⌝ }
 {
     let k = port::at(st, slot, p);
-    !((k.circuit.kind == 0) & (k.counters.held == 0))
+    !((k.leg.circuit.kind == 0) & (k.counters.held == 0))
 }
 
 fn open_by(st: &[u32], slot: Slot, x: Peer) -> bool
@@ -292,9 +286,11 @@ fn open_by(st: &[u32], slot: Slot, x: Peer) -> bool
 {
     match x {
         Peer::Nobody => true,
-        Peer::Port(p) => ((FIRST_TILE_PORT <= p) & (p < AFTER_TILE_PORTS))
-            & taken(st, slot, p as usize),
-        Peer::End(c) => (c == SINK) | (c < CHANNELS),
+        Peer::Port(p) => {
+            let port = p as usize;
+            ((FIRST_TILE_PORT <= port) & (port < REPLY_PORT)) & taken(st, slot, port)
+        }
+        Peer::End(c) => (c == SINK) | ((c as usize) < ENDS),
     }
 }
 
@@ -303,7 +299,7 @@ pub fn open_end(st: &[u32], slot: Slot, e: usize) -> bool
     ensures { λ r. ⌜ r ≡ openEnd (view (now (st .entry))) (slot .0) e ⌝ }
 {
     let k = end::at(st, slot, e);
-    (k.sending.kind == 0) | (!(k.aim == 0) & open_by(st, slot, peer_of(k.sending)))
+    (k.sending.kind == 0) | (!(k.aim.kind == 0) & open_by(st, slot, peer_of(k.sending)))
 }
 
 // "port 12 is empty while the control unit serves a circuit"

@@ -5,7 +5,7 @@ use crate::pairs::link_user;
 use crate::pairs::sending;
 use cells::link;
 use cells::link::Far;
-use cells::link::far_of;
+use cells::link::far_at;
 use circuits::Peer;
 use grammar::stage::Stage;
 use grammar::stage::crossed;
@@ -39,7 +39,7 @@ fn fed_to(st: &[u32], mem: &[u16], slot: Slot, l: usize, m: Slot, k: usize) -> b
 pub fn fed(st: &[u32], mem: &[u16], slot: Slot, l: usize) -> bool
     ensures { λ r. ⌜ r ≡ fed (world (now (st .entry)) (now (mem .entry))) (slot .0) l ⌝ }
 {
-    match far_of(link::at(st, slot, l)) {
+    match far_at(st, slot, l) {
         Far::Nowhere => true,
         Far::At(m, k) => fed_to(st, mem, slot, l, m, k),
     }
@@ -50,7 +50,7 @@ pub fn unfed(st: &[u32], mem: &[u16], slot: Slot, l: usize) -> bool
     ensures { λ r. ⌜ r ≡ unfed (world (now (st .entry)) (now (mem .entry))) (slot .0) l ⌝ }
 {
     let k = link::at(st, slot, l);
-    (k.wired == 1) | is_same(back(st, mem, slot, l), Stage::Fresh)
+    (k.cable.wired == 1) | is_same(back(st, mem, slot, l), Stage::Fresh)
 }
 
 // A disabled link is used by nobody.
@@ -58,7 +58,7 @@ pub fn idle(st: &[u32], slot: Slot, l: usize) -> bool
     ensures { λ r. ⌜ r ≡ idle (view (now (st .entry))) (slot .0) l ⌝ }
 {
     let k = link::at(st, slot, l);
-    (k.enabled == 1) | (k.user.kind == 0)
+    (k.setup.enabled == 1) | (k.user.kind == 0)
 }
 
 fn in_body(st: &[u32], mem: &[u16], slot: Slot, x: Peer) -> bool

@@ -1,7 +1,10 @@
 // For each clause of the Sound list, a state that fails exactly that clause, and its twin, which is
 // sound. Each state is a fresh network of two nodes with a few records changed.
 use cells::end;
+use cells::end::Buffer;
 use cells::end::End;
+use cells::layout::STRIDE;
+use cells::layout::TOKEN_WORDS;
 use cells::link;
 use cells::link::Link;
 use cells::node;
@@ -10,36 +13,35 @@ use cells::port::Port;
 use cells::tile;
 use cells::tile::Tile;
 use cells::unit;
+use cells::unit::Hearing;
 use libc::STDOUT_FILENO;
 use names::Slot;
 use names::size::ENDS;
 use names::size::LINKS;
+use names::size::NODES;
 use names::size::PORTS;
+use names::size::REPLY_PORT;
 use names::size::TILE_LINKS;
-use sound::clause_of;
-use sound::sound_test;
-use sound::tests::everywhere;
+use names::size::UNIT_BUFFER;
+use ports::Counters;
+use sound::clause_after;
 use sound::unsound_clause;
 
-const WORDS: usize = 1508;
+const WORDS: usize = 2 * STRIDE;
 
-const TOKENS: usize = 1664;
+const TOKENS: usize = 2 * TOKEN_WORDS;
 
 fn say(text: &[u8]) {
     io::write_all(STDOUT_FILENO, text);
 }
 
-fn say_clause(st: &[u32], mem: &[u16], k: u32) {
-    if !everywhere(st, mem, sound_test(k)) {
-        say(b" ");
-        io::print_decimal(STDOUT_FILENO, clause_of(k) as u64);
-    }
-}
-
-// The clause of each test of the list that fails.
+// Every clause that fails, one after the other.
 fn say_failing(st: &[u32], mem: &[u16]) {
-    for k in 0..sound::MANY {
-        say_clause(st, mem, k);
+    let mut clause = clause_after(st, mem, 0);
+    while !(clause == 0) {
+        say(b" ");
+        io::print_decimal(STDOUT_FILENO, clause as u64);
+        clause = clause_after(st, mem, clause);
     }
 }
 
@@ -98,11 +100,12 @@ fn put_end(st: &mut [u32], n: usize, c: usize, k: End) {
     }
 }
 
-fn set_heard(st: &mut [u32], n: usize, heard: u32) {
+fn set_heard(st: &mut [u32], n: usize, heard: u32, token: u32) {
     if n < node::count(st) {
-        let mut k = unit::at(st, Slot(n));
-        k.heard = heard;
-        unit::put(st, Slot(n), k);
+        let k = unit::at(st, Slot(n));
+        let mut t = k.hearing.tokens;
+        t[0] = token;
+        unit::put_hearing(st, Slot(n), Hearing { heard, tokens: t });
     }
 }
 
@@ -118,17 +121,17 @@ fn set_serves(st: &mut [u32], n: usize, kind: u32, p: u32) {
 // A link that is wired to link k of slot m.
 fn set_wired(st: &mut [u32], n: usize, l: usize, m: u32, k: u32) {
     let mut x = link::at(st, Slot(n), l);
-    x.wired = 1;
-    x.far_slot = m;
-    x.far_link = k;
+    x.cable.wired = 1;
+    x.cable.far_slot = m;
+    x.cable.far_link = k;
     put_link(st, n, l, x);
 }
 
 fn set_credit(st: &mut [u32], n: usize, l: usize, enabled: u32, greeted: u32, credit: u32) {
     let mut x = link::at(st, Slot(n), l);
-    x.enabled = enabled;
-    x.greeted = greeted;
-    x.credit = credit;
+    x.setup.enabled = enabled;
+    x.flow.greeted = greeted;
+    x.flow.credit = credit;
     put_link(st, n, l, x);
 }
 
@@ -148,9 +151,9 @@ fn set_tile_user(st: &mut [u32], n: usize, t: usize, kind: u32, p: u32) {
 
 fn set_hop(st: &mut [u32], n: usize, p: usize, kind: u32, index: u32, tile: u32) {
     let mut x = port::at(st, Slot(n), p);
-    x.circuit.kind = kind;
-    x.circuit.index = index;
-    x.tile = tile;
+    x.leg.circuit.kind = kind;
+    x.leg.circuit.index = index;
+    x.leg.tile = tile;
     put_port(st, n, p, x);
 }
 
@@ -170,7 +173,7 @@ fn set_claim(st: &mut [u32], n: usize, c: usize, kind: u32, p: u32) {
 
 fn set_sending(st: &mut [u32], n: usize, c: usize, aim: u32, kind: u32, p: u32) {
     let mut x = end::at(st, Slot(n), c);
-    x.aim = aim;
+    x.aim.kind = aim;
     x.sending.kind = kind;
     x.sending.index = p;
     put_end(st, n, c, x);
@@ -178,10 +181,10 @@ fn set_sending(st: &mut [u32], n: usize, c: usize, aim: u32, kind: u32, p: u32) 
 
 fn set_held(st: &mut [u32], n: usize, c: usize, held: u32, token: u32) {
     let mut x = end::at(st, Slot(n), c);
-    let mut t = x.tokens;
+    let mut t = x.buffer.tokens;
     t[0] = token;
-    x.held = held;
-    x.tokens = t;
+    let held = Buffer { held, tokens: t };
+    x.buffer = held;
     put_end(st, n, c, x);
 }
 
@@ -190,9 +193,9 @@ fn set_word(st: &mut [u32], mem: &mut [u16], n: usize, p: usize, held: u32, word
     let mut x = port::at(st, Slot(n), p);
     x.counters.held = held;
     put_port(st, n, p, x);
-    if n < 16 {
+    if n < NODES {
         if p < PORTS {
-            let at = (n * PORTS + p) * 64;
+            let at = (n * PORTS + p) * Counters::CAPACITY as usize;
             if at < mem.len() {
                 mem[at] = word;
             }
@@ -207,10 +210,10 @@ fn fresh(st: &mut [u32]) {
 
 fn lengths() {
     let mut st = [0u32; WORDS];
-    let mem = [0u16; 1665];
+    let mem = [0u16; TOKENS + 1];
     fresh(&mut st);
     report(b"1 a memory one word too long", &st, &mem);
-    report(b"1 a memory of the right length", &st, &mem[..1664]);
+    report(b"1 a memory of the right length", &st, &mem[..TOKENS]);
 }
 
 fn node_counts() {
@@ -237,9 +240,9 @@ fn port_counts() {
     let mut st = [0u32; WORDS];
     let mem = [0u16; TOKENS];
     fresh(&mut st);
-    set_hop(&mut st, 1, 12, 6, 0, 0);
+    set_hop(&mut st, 1, REPLY_PORT, 6, 0, 0);
     report(b"2 a circuit of no kind", &st, &mem);
-    set_hop(&mut st, 1, 12, 5, 0, 0);
+    set_hop(&mut st, 1, REPLY_PORT, 5, 0, 0);
     report(b"2 a circuit dropped as NoRoute", &st, &mem);
 }
 
@@ -269,9 +272,9 @@ fn unit_counts() {
     fresh(&mut st);
     set_hop(&mut st, 1, 0, 3, 0, 0);
     set_serves(&mut st, 1, 1, 0);
-    set_heard(&mut st, 1, 12);
+    set_heard(&mut st, 1, UNIT_BUFFER + 1, 0x01C1);
     report(b"2 twelve tokens heard", &st, &mem);
-    set_heard(&mut st, 1, 11);
+    set_heard(&mut st, 1, UNIT_BUFFER, 0x01C1);
     report(b"2 eleven tokens heard", &st, &mem);
 }
 
@@ -308,10 +311,10 @@ fn room() {
     let mut st = [0u32; WORDS];
     let mut mem = [0u16; TOKENS];
     fresh(&mut st);
-    join(&mut st, 1, 64);
+    join(&mut st, 1, Counters::CAPACITY);
     set_word(&mut st, &mut mem, 1, 3, 1, 0x0227);
     report(b"5 credit 64, one token held at the far end", &st, &mem);
-    join(&mut st, 1, 63);
+    join(&mut st, 1, Counters::CAPACITY - 1);
     report(b"5 credit 63, one token held at the far end", &st, &mem);
 }
 
@@ -329,9 +332,9 @@ fn contents() {
     let mut st = [0u32; WORDS];
     let mut mem = [0u16; TOKENS];
     fresh(&mut st);
-    set_word(&mut st, &mut mem, 1, 12, 1, 0x0027);
+    set_word(&mut st, &mut mem, 1, REPLY_PORT, 1, 0x0027);
     report(b"7 data where a header must stand", &st, &mem);
-    set_word(&mut st, &mut mem, 1, 12, 1, 0x0227);
+    set_word(&mut st, &mut mem, 1, REPLY_PORT, 1, 0x0227);
     report(b"7 a header", &st, &mem);
 }
 
@@ -343,6 +346,18 @@ fn held() {
     report(b"8 PAUSE in a channel-end", &st, &mem);
     set_held(&mut st, 1, 31, 1, 0x0101);
     report(b"8 END in a channel-end", &st, &mem);
+}
+
+fn heard() {
+    let mut st = [0u32; WORDS];
+    let mem = [0u16; TOKENS];
+    fresh(&mut st);
+    set_hop(&mut st, 1, 0, 3, 0, 0);
+    set_serves(&mut st, 1, 1, 0);
+    set_heard(&mut st, 1, 1, 0x0101);
+    report(b"8 END kept by a control unit", &st, &mem);
+    set_heard(&mut st, 1, 1, 0x01C1);
+    report(b"8 READC kept by a control unit", &st, &mem);
 }
 
 fn outputs() {
@@ -391,13 +406,13 @@ fn replies() {
     fresh(&mut st);
     set_hop(&mut st, 1, 0, 3, 0, 0);
     set_serves(&mut st, 1, 1, 0);
-    set_word(&mut st, &mut mem, 1, 12, 1, 0x0227);
+    set_word(&mut st, &mut mem, 1, REPLY_PORT, 1, 0x0227);
     report(
         b"12 a reply in port 12 while a circuit is served",
         &st,
         &mem,
     );
-    set_word(&mut st, &mut mem, 1, 12, 0, 0);
+    set_word(&mut st, &mut mem, 1, REPLY_PORT, 0, 0);
     report(b"12 port 12 empty while a circuit is served", &st, &mem);
 }
 
@@ -423,6 +438,7 @@ fn main() {
     links();
     contents();
     held();
+    heard();
     outputs();
     claims();
     senders();

@@ -4,21 +4,18 @@ use Prim.Native.Nat.{ℕ, _<_}
 use mathlib.Core.Path.{_≡_, refl, ap, _∙_}
 use mathlib.Core.List.{List, [], _∷_}
 use lib.Dec.{lit≤}
-use Rattle.names.specs.Size.{ends}
 use Rattle.tokens.specs.Header.{headerOf, words}
 use Rattle.tokens.specs.declared.header.Header.{Header}
 use Rattle.tokens.specs.declared.header.Header.the-variants as H
 use Rattle.tokens.specs.declared.header.Target.{Target}
-use Rattle.circuits.specs.Circuit.{ofPeer}
-use Rattle.circuits.specs.declared.Circuit.{Circuit}
+use Rattle.circuits.specs.declared.Peer.{Peer}
 use Rattle.circuits.specs.declared.Peer.the-variants as Peers
-use Rattle.cells.specs.View.{Net, withEnd}
-use Rattle.cells.specs.Changes.{claimAs, sendingAs}
-use Rattle.cells.specs.declared.end.End.{End}
+use Rattle.cells.specs.View.{Net}
 use Rattle.cells.specs.World.{World}
-use Rattle.acts.specs.Acts.{Room, pushed, pushedAll, widthAt, kept, still}
+use Rattle.acts.specs.Acts.{pushed, pushedAll, widthAt, networked, still, claimedBy, handed, sendsTo}
+use Rattle.acts.specs.Needs.{Room}
 use Rattle.acts.proofs.Pushes.{less, room-left}
-use Rattle.ends.specs.Output.{goesBy, networked, opensBy, goesBehind, claims, goesStraight}
+use Rattle.ends.specs.Output.{goesBy, opensBy, goesBehind, goesStraight}
 
 -- a push leaves the number of nodes
 pushed-nodes : (w : World) (n p t : ℕ) → pushed w n p t .net .nodes ≡ w .net .nodes
@@ -37,10 +34,13 @@ room-header w z n p (H.Three a b c) r e =
     rw e (room-left (pushed (pushed w n p a) n p b) n p c 1 (room-left (pushed w n p a) n p b 2 (room-left w n p a 3 r)))
 
 -- what a circuit that goes by a port asks of the state after a push
-pub ready-behind : (w : World) (s : Net) (m : List ℕ) (n p t : ℕ) → record { net = s; memory = m } ≡ pushed w n p t → n < w .net .nodes → n < s .nodes
+pub ready-behind : (w : World) (s : Net) (m : List ℕ) (n p t : ℕ) → record { net = s; memory = m } ≡ pushed w n p t
+    → n < w .net .nodes
+    → n < s .nodes
 ready-behind w s m n p t e h = rw (ap (λ (z : World). z .net .nodes) e ∙ pushed-nodes w n p t) h
 
-pub ready-opened : (w : World) (s : Net) (m : List ℕ) (n p t : ℕ) (ts : List ℕ) → record { net = s; memory = m } ≡ pushed (pushedAll w n p ts) n p t
+pub ready-opened : (w : World) (s : Net) (m : List ℕ) (n p t : ℕ) (ts : List ℕ)
+    → record { net = s; memory = m } ≡ pushed (pushedAll w n p ts) n p t
     → n < w .net .nodes
     → n < s .nodes
 ready-opened w s m n p t ts e h =
@@ -57,7 +57,7 @@ behind-gives w s z m n c p t e h =
 
 pub opens-gives : (w : World) (s y z : Net) (m : List ℕ) (n c p t v : ℕ) (g : Target) (h : Header)
     → h ≡ headerOf g (widthAt (w .net) n)
-    → v ≡ w .net .ends n c .network
+    → v ≡ w .net .ends .aims n c .network
     → record { net = s; memory = m } ≡ pushed (pushedAll w n p (words h)) n p t
     → y ≡ networked s n p v
     → z ≡ goesBy y n c p t
@@ -65,24 +65,21 @@ pub opens-gives : (w : World) (s y z : Net) (m : List ℕ) (n c p t v : ℕ) (g 
 opens-gives w s y z m n c p t v g h a b e d f =
     let q : record { net = s; memory = m } ≡ pushed (pushedAll w n p (words (headerOf g (widthAt (w .net) n)))) n p t =
     e ∙ ap (λ (k : Header). pushed (pushedAll w n p (words k)) n p t) a in
+    let v = w .net .ends .aims n c .network in
+    let k : z ≡ goesBy (networked s n p v) n c p t = f ∙ ap (λ (x : Net). goesBy x n c p t) (d ∙ ap (networked s n p) b) in
     λ j. record {
-      net = (f ∙ ap (λ (x : Net). goesBy x n c p t) (d ∙ ap (networked s n p) b) ∙ ap (λ (x : World). goesBy (networked (x .net) n p (w .net .ends n c .network)) n c p t) q) j;
+      net = (k ∙ ap (λ (x : World). goesBy (networked (x .net) n p v) n c p t) q) j;
       memory = ap (λ (x : World). x .memory) q j;
     }
 
-pub straight-gives : (s y z : Net) (n c d t : ℕ) (k far : End) (a b : Circuit)
-    → k ≡ s .ends n d
-    → far ≡ kept k t
-    → a ≡ still t (ofPeer (Peers.End c))
-    → y ≡ withEnd s n d (claimAs far a)
-    → b ≡ still t (ofPeer (Peers.End d))
-    → z ≡ withEnd y n c (sendingAs (y .ends n c) b)
-    → z ≡ goesStraight s n c d t
-straight-gives s y z n c d t k far a b hk hf ha hy hb hz =
-    let q : y ≡ claims s n c d t =
-    hy
-    ∙ ap (λ (x : End). withEnd s n d (claimAs x a)) (hf ∙ ap (λ (x : End). kept x t) hk)
-    ∙ ap (λ (x : Circuit). withEnd s n d (claimAs (kept (s .ends n d) t) x)) ha in
-    hz
-    ∙ ap (λ (x : Circuit). withEnd y n c (sendingAs (y .ends n c) x)) hb
-    ∙ ap (λ (x : Net). withEnd x n c (sendingAs (x .ends n c) (still t (ofPeer (Peers.End d))))) q
+pub straight-gives : (s y z v : Net) (n c d t : ℕ) (a b : Peer)
+    → y ≡ handed s n d t
+    → a ≡ still t (Peers.End c)
+    → z ≡ claimedBy y n d a
+    → b ≡ still t (Peers.End d)
+    → v ≡ sendsTo z n c b
+    → v ≡ goesStraight s n c d t
+straight-gives s y z v n c d t a b hy ha hz hb hv =
+    let q : z ≡ claimedBy (handed s n d t) n d (still t (Peers.End c)) =
+    hz ∙ ap (claimedBy y n d) ha ∙ ap (λ (x : Net). claimedBy x n d (still t (Peers.End c))) hy in
+    hv ∙ ap (sendsTo z n c) hb ∙ ap (λ (x : Net). sendsTo x n c (still t (Peers.End d))) q

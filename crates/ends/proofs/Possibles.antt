@@ -1,90 +1,93 @@
 -- The plan of an Output on a sound state can be carried out. Assumes nothing.
 use Prim.{tt}
-use Prim.Native.Nat.{ℕ, _+_, _-_, _<_, _≤_}
-use mathlib.Core.Path.{_≡_, sym, _∙_}
-use mathlib.Core.Bool.{true, false, not, _&&_, _||_}
+use Prim.Native.Nat.{ℕ, _+_, _<_, _≤_}
+use mathlib.Core.Path.{_≡_}
+use mathlib.Core.Bool.{true, false, not, _||_}
 use mathlib.Core.Logic.{inl, inr, ⊎-elim}
 use native.Mathlib.Omega.{arith}
 use lib.Dec.{eqb, ltb, leb}
-use borrow.Author.Tests.{eqb-true, eqb-false, eq-eqb, leb-false, not-false}
-use Rattle.laws.proofs.All.{also, as-is, either, equal, below, Sought, fails, passes, seek}
-use Rattle.laws.proofs.Order.{by-test, clash}
-use Rattle.names.specs.Size.{links, replyPort, ports, ends, endBuffer, sink}
+use borrow.Author.Tests.{eqb-true, eqb-false, leb-false}
+use Rattle.laws.specs.All.{first}
+use Rattle.laws.proofs.All.{also, as-is, either, equal, below, first-passes, first-found}
+use Rattle.laws.proofs.Order.{by-test}
+use Rattle.names.specs.Size.{firstTilePort, replyPort, ports, ends, sink}
 use Rattle.circuits.specs.Circuit.{peerOf}
 use Rattle.circuits.specs.declared.Peer.{Peer}
 use Rattle.circuits.specs.declared.Peer.the-variants as Peers
 use Rattle.tokens.specs.Header.{headerOf, isNarrow, legalTarget}
-use Rattle.tokens.specs.Word.{isPause}
 use Rattle.tokens.specs.declared.header.Target.{Target}
 use Rattle.tokens.specs.declared.header.Target.the-variants.{Channel, Unit}
+use Rattle.tokens.specs.Shape.{legalChannel}
+use Rattle.tokens.proofs.Channels.{legal-channel}
 use Rattle.routing.specs.Way.{wayTo}
 use Rattle.routing.specs.declared.way.Way.{Way}
 use Rattle.routing.specs.declared.way.Way.the-variants.{ThisNode, OtherNode}
 use Rattle.ports.specs.Queue.{capacity}
+use Rattle.cells.specs.View.{wholePort}
 use Rattle.cells.specs.World.{World}
-use Rattle.cells.specs.declared.end.End.{End}
+use Rattle.cells.specs.declared.end.Aim.{Aim}
 use Rattle.clauses.specs.Counts.{tilePort}
 use Rattle.clauses.specs.Pairs.{taken, openBy}
 use Rattle.clauses.proofs.Meanings.{AimFacts}
-use Rattle.acts.specs.Acts.{Room, Keeps, widthAt, numberAt}
+use Rattle.acts.specs.Acts.{widthAt, numberAt, channelClaimed, channelFull}
+use Rattle.acts.specs.Needs.{Room, Door}
+use Rattle.acts.proofs.Doors.{given-room}
 use Rattle.sound.specs.Sound.{sound}
 use Rattle.sound.proofs.Facts.{end-facts, open-facts, fair, reaches}
 use Rattle.ends.specs.Ends.{endAt}
-use Rattle.ends.specs.Plan.{AimFits, Fits, targetOf, lowestFree, portPlan, straightPlan, channelPlan, byWay, targetPlan, openPlan, behindPlan, onPlan, byPeer, planOf}
-use Rattle.ends.specs.Output.{Possible, Sends}
+use Rattle.ends.specs.Plan.{targetOf, freePort, lowestFree, portPlan, straightPlan, channelPlan, byWay, targetPlan}
+use Rattle.ends.specs.Plan.{openPlan, behindPlan, byPeer, planOf}
+use Rattle.ends.specs.Needs.{AimFits, Fits, Possible, Sends}
 use Rattle.ends.proofs.There.{is-there}
 
 one-not-two : {a : ℕ} → a ≡ 1 → a ≡ 2 → ⊥
 one-not-two e f = omega arith
 
+tile-there : (p : ℕ) → tilePort p ≡ true → p < ports
+tile-there p e = let z = also (as-is (leb firstTilePort p)) (below p replyPort) .sure e in omega (arith, z .1)
+
+-- a channel that can be named is the sink, or is there
+legal-door : (d : ℕ) → legalChannel d ≡ true → Door d
+legal-door d l = ⊎-elim (λ h. inr (omega arith)) (λ h. inl h) (legal-channel d .sure l)
+
 module _ (w : World) (n c t : ℕ) (g : Target) (s : Sends w n c g) where
   -- a port of the node, with room
-  roomy : (p k : ℕ) → p < ports → w .net .ports n p .counters .held + k ≤ capacity → Room w n p k
-  roomy p k h r = record { node = s .node; port = h; fair = fair w (s .all) n (s .node) p h; room = r; reaches = reaches w (s .all) n (s .node) p h }
+  roomy : (p k : ℕ) → p < ports → w .net .ports .counters n p .held + k ≤ capacity → Room w n p k
+  roomy p k h r =
+      record {
+        node = s .node;
+        port = h;
+        fair = fair w (s .all) n (s .node) p h;
+        room = r;
+        reaches = reaches w (s .all) n (s .node) p h;
+      }
 
-  free-room : taken (w .net) n (lowestFree (w .net) n) ≡ false → lowestFree (w .net) n < replyPort → Room w n (lowestFree (w .net) n) 4
-  free-room e h =
-      let z = also (equal (w .net .ports n (lowestFree (w .net) n) .circuit .kind) 0) (equal (w .net .ports n (lowestFree (w .net) n) .counters .held) 0) .sure (not-false _ e) in
-      roomy (lowestFree (w .net) n) 4 (omega arith) (omega (arith, z .1))
+  free-room : (p : ℕ) → freePort (w .net) n p ≡ true → Room w n p 4
+  free-room p e =
+      let k = wholePort (w .net) n p in
+      let z = also (as-is (tilePort p)) (also (equal (k .leg .circuit .kind) 0) (equal (k .counters .held) 0)) .sure e in
+      roomy p 4 (tile-there p (z .0)) (omega (arith, z .1 .1))
 
   port-possible : Possible w n t (portPlan (w .net) n)
   port-possible =
+      let f = freePort (w .net) n in
       by-test (eqb (lowestFree (w .net) n) replyPort)
       (λ e. rw e tt)
-      (λ e. rw e (found (eqb-false _ _ e) (seek (taken (w .net) n) (replyPort - links) links)))
-    where
-      found : (lowestFree (w .net) n ≡ replyPort → ⊥) → Sought (taken (w .net) n) (replyPort - links) links → Room w n (lowestFree (w .net) n) 4
-      found ne (fails h e) = free-room e h
-      found ne (passes q h) = absurd (ne q)
+      (λ e. rw e (free-room (first replyPort f) (first-passes f replyPort (first-found f replyPort (eqb-false _ _ e)))))
 
-  straight-possible : (d : ℕ) → d < ends → Possible w n t (straightPlan (w .net) n d t)
+  straight-possible : (d : ℕ) → Door d → Possible w n t (straightPlan (w .net) n d t)
   straight-possible d h =
-      by-test (leb endBuffer (w .net .ends n d .held) && not (isPause t))
-      (λ e. rw e tt)
-      (λ e. rw e (h, keeps e))
-    where
-      keeps : (leb endBuffer (w .net .ends n d .held) && not (isPause t)) ≡ false → Keeps (w .net .ends n d) t
-      keeps e =
-          by-test (isPause t)
-          (λ f. inl f)
-          (λ f. inr (by-test (leb endBuffer (w .net .ends n d .held))
-          (λ q. clash (rw (q, f) at e))
-          (λ q. omega (arith, leb-false endBuffer (w .net .ends n d .held) q))))
+      by-test (channelFull (w .net) n d t) (λ e. rw e tt) (λ e. rw e (given-room (w .net) n d t h e))
 
-  channel-possible : (d : ℕ) → (ltb d ends || eqb d sink) ≡ true → Possible w n t (channelPlan (w .net) n d t)
-  channel-possible d l =
-      by-test (eqb d sink)
-      (λ e. rw e tt)
-      (λ e. rw e (by-test (not (eqb (w .net .ends n d .claim .kind) 0))
-      (λ f. rw f tt)
-      (λ f. rw f (straight-possible d (⊎-elim (λ h. h) (λ q. clash (sym (eq-eqb d sink q) ∙ e)) (either (below d ends) (equal d sink) .sure l))))))
+  channel-possible : (d : ℕ) → Door d → Possible w n t (channelPlan (w .net) n d t)
+  channel-possible d h = by-test (channelClaimed (w .net) n d) (λ e. rw e tt) (λ e. rw e (straight-possible d h))
 
-  way-possible : (y : Way) (d : ℕ) → (ltb d ends || eqb d sink) ≡ true → Possible w n t (byWay (w .net) n y d t)
+  way-possible : (y : Way) (d : ℕ) → Door d → Possible w n t (byWay (w .net) n y d t)
   way-possible ThisNode d l = channel-possible d l
   way-possible (OtherNode b) d l = port-possible
 
   target-possible : (x : Target) → legalTarget x ≡ true → Possible w n t (targetPlan (w .net) n x t)
-  target-possible (Channel m d) l = way-possible (wayTo (widthAt (w .net) n) m (numberAt (w .net) n)) d l
+  target-possible (Channel m d) l = way-possible (wayTo (widthAt (w .net) n) m (numberAt (w .net) n)) d (legal-door d l)
   target-possible (Unit m) l = port-possible
 
   open-possible : legalTarget g ≡ true → Possible w n t (openPlan (w .net) n g t)
@@ -93,59 +96,52 @@ module _ (w : World) (n c t : ℕ) (g : Target) (s : Sends w n c g) where
 
   behind-possible : (p : ℕ) → tilePort p ≡ true → Possible w n t (behindPlan (w .net) n p)
   behind-possible p h =
-      let z = also (as-is (leb links p)) (below p replyPort) .sure h in
-      by-test (leb capacity (w .net .ports n p .counters .held))
+      by-test (leb capacity (w .net .ports .counters n p .held))
       (λ e. rw e tt)
-      (λ e. rw e (roomy p 1 (omega (arith, z .1)) (omega (arith, leb-false capacity (w .net .ports n p .counters .held) e))))
-
-  on-possible : (d : ℕ) → (eqb d sink || ltb d ends) ≡ true → Possible w n t (onPlan (w .net) n d t)
-  on-possible d h =
-      by-test (eqb d sink)
-      (λ e. rw e tt)
-      (λ e. rw e (straight-possible d (⊎-elim (λ q. clash (sym (eq-eqb d sink q) ∙ e)) (λ q. q) (either (equal d sink) (below d ends) .sure h))))
+      (λ e. rw e (roomy p 1 (tile-there p h) (omega (arith, leb-false capacity (w .net .ports .counters n p .held) e))))
 
   peer-possible : (x : Peer) → openBy (w .net) n x ≡ true → legalTarget g ≡ true → Possible w n t (byPeer (w .net) n x g t)
   peer-possible Peers.Nobody h l = open-possible l
   peer-possible (Peers.Port p) h l = behind-possible p (also (as-is (tilePort p)) (as-is (taken (w .net) n p)) .sure h .0)
-  peer-possible (Peers.End d) h l = on-possible d h
+  peer-possible (Peers.End d) h l = straight-possible d (either (equal d sink) (below d ends) .sure h)
 
   -- a channel-end that is open goes where it can go
-  opened : openBy (w .net) n (peerOf (w .net .ends n c .sending)) ≡ true
+  opened : openBy (w .net) n (peerOf (w .net .ends .sendings n c)) ≡ true
   opened =
-      by-test (eqb (w .net .ends n c .sending .kind) 0)
-      (λ e. rw (eqb-true (w .net .ends n c .sending .kind) 0 e))
+      by-test (eqb (w .net .ends .sendings n c .kind) 0)
+      (λ e. rw (eqb-true (w .net .ends .sendings n c .kind) 0 e))
       (λ e.
       let o = rw e at (open-facts w (s .all) n (s .node) c (s .end)) in
-      also (as-is (not (eqb (w .net .ends n c .aim) 0))) (as-is (openBy (w .net) n (peerOf (w .net .ends n c .sending)))) .sure o .1)
+      also (as-is (not (eqb (w .net .ends .aims n c .kind) 0))) (as-is (openBy (w .net) n (peerOf (w .net .ends .sendings n c)))) .sure o .1)
 
-  aim-facts : AimFacts (w .net .ends n c)
+  aim-facts : AimFacts (w .net .ends .aims n c)
   aim-facts = ⊎-elim (λ z. absurd (s .aimed z)) (λ f. f) (end-facts w (s .all) n (s .node) c (s .end) .aim)
 
   legal : legalTarget g ≡ true
   legal =
-      rw (s .target) (by-test (eqb (w .net .ends n c .aim) 1)
+      rw (s .target) (by-test (eqb (w .net .ends .aims n c .kind) 1)
       (λ e. rw e (⊎-elim (λ z. absurd (one-not-two (eqb-true _ _ e) z)) (λ z. z .1) (aim-facts .place)))
       (λ e. rw e))
 
   pub plan-possible : Possible w n t (planOf (w .net) n c g t)
   unfolding planOf
-  plan-possible = peer-possible (peerOf (w .net .ends n c .sending)) opened legal
+  plan-possible = peer-possible (peerOf (w .net .ends .sendings n c)) opened legal
 
 -- a destination that is aimed fits its words
-pub aim-fits : (k : End) → AimFacts k → AimFits k
+pub aim-fits : (k : Aim) → AimFacts k → AimFits k
 aim-fits k f = (f .number, λ e. ⊎-elim (λ z. absurd (one-not-two e z)) (λ z. narrow (z .1)) (f .place))
   where
-    narrow : (ltb (k .channel) ends || eqb (k .channel) sink) ≡ true → k .channel < 256
-    narrow l = ⊎-elim (λ h. omega arith) (λ h. omega arith) (either (below (k .channel) ends) (equal (k .channel) sink) .sure l)
+    narrow : legalChannel (k .channel) ≡ true → k .channel < 256
+    narrow l = ⊎-elim (λ h. omega arith) (λ h. omega arith) (legal-channel (k .channel) .sure l)
 
 module _ (w : World) (n c : ℕ) (s : sound w ≡ true) (h : endAt (w .net) n c ≡ true) where
   -- so does that of a channel-end of a sound state
-  pub fits-here : Fits (w .net .ends n c)
+  pub fits-here : Fits (w .net .ends .aims n c)
   fits-here ne =
       let z = is-there (w .net) n c h in
-      aim-fits (w .net .ends n c) (⊎-elim (λ a. absurd (ne a)) (λ f. f) (end-facts w s n (z .0) c (z .1) .aim))
+      aim-fits (w .net .ends .aims n c) (⊎-elim (λ a. absurd (ne a)) (λ f. f) (end-facts w s n (z .0) c (z .1) .aim))
 
-  pub sends-here : (g : Target) → (eqb (w .net .ends n c .aim) 0 ≡ false) × (g ≡ targetOf (w .net .ends n c)) → Sends w n c g
+  pub sends-here : (g : Target) → (eqb (w .net .ends .aims n c .kind) 0 ≡ false) × (g ≡ targetOf (w .net .ends .aims n c)) → Sends w n c g
   sends-here g a =
       let z = is-there (w .net) n c h in
       record { all = s; node = z .0; end = z .1; aimed = eqb-false _ _ (a .0); target = a .1 }

@@ -31,9 +31,9 @@ pub input-there : (s : Net) (n c : ℕ) (k : Wanted) → refusal (inputRows s n 
 input-there s n c k e = is-there s n c (not-false _ (all-passed (inputRows s n c k) e .0))
 
 -- a token that Input can take
-pub some-held : (s : Net) (n c : ℕ) (k : Wanted) → refusal (inputRows s n c k) ≡ passes → 0 < s .ends n c .held
+pub some-held : (s : Net) (n c : ℕ) (k : Wanted) → refusal (inputRows s n c k) ≡ passes → 0 < s .ends .buffers n c .held
 some-held s n c k e =
-    above (s .ends n c .held) (eqb-false _ _ (all-passed (inputRows s n c k) e .1 .0))
+    above (s .ends .buffers n c .held) (eqb-false _ _ (all-passed (inputRows s n c k) e .1 .0))
   where
     above : (h : ℕ) → (h ≡ 0 → ⊥) → 0 < h
     above h ne = omega arith

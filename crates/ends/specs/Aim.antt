@@ -10,9 +10,8 @@ use Rattle.tokens.specs.Shape.{legalChannel}
 use Rattle.answers.specs.Rows.{Row, row}
 use Rattle.answers.specs.Out.{Out, out, attempt}
 use Rattle.answers.specs.declared.Answer.the-variants.{Done}
-use Rattle.cells.specs.View.{Net, withEnd}
-use Rattle.cells.specs.Changes.{aimAs}
-use Rattle.cells.specs.declared.end.End.{End}
+use Rattle.cells.specs.View.{Net, withAim}
+use Rattle.cells.specs.declared.end.Aim.{Aim}
 use Rattle.ends.specs.Ends.{endAt, isOpen}
 use Rattle.ends.specs.declared.aim.Goal.{Goal}
 use Rattle.ends.specs.declared.aim.Goal.the-variants.{Channel, Unit}
@@ -25,14 +24,14 @@ goalRanged (Unit m) = isNumber m
 -- "Open: Aim between its opening Output and that circuit's END or PAUSE"
 abbrev pub aimRows : Net → ℕ → ℕ → Goal → ℕ → List Row
 aimRows s n c g v =
-    row (not (endAt s n c)) NoSuch ∷ row (not (goalRanged g && ltb v networks)) Value ∷ row (isOpen (s .ends n c)) Open ∷ []
+    row (not (endAt s n c)) NoSuch ∷ row (not (goalRanged g && ltb v networks)) Value ∷ row (isOpen s n c) Open ∷ []
 
-abbrev pub aimedAt : End → Goal → ℕ → End
-aimedAt k (Channel m c) v = aimAs k 1 m c v
-aimedAt k (Unit m) v = aimAs k 2 m 0 v
+abbrev pub aimedAt : Goal → ℕ → Aim
+aimedAt (Channel m c) v = record { kind = 1; number = m; channel = c; network = v }
+aimedAt (Unit m) v = record { kind = 2; number = m; channel = 0; network = v }
 
 abbrev pub aimMade : Net → ℕ → ℕ → Goal → ℕ → Net
-aimMade s n c g v = withEnd s n c (aimedAt (s .ends n c) g v)
+aimMade s n c g v = withAim s n c (aimedAt g v)
 
 unfoldable pub aim : Net → ℕ → ℕ → Goal → ℕ → Out Net
 aim s n c g v = attempt (aimRows s n c g v) s (out Done (aimMade s n c g v))

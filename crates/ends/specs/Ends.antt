@@ -4,12 +4,11 @@ use mathlib.Core.Bool.{Bool, not, _&&_}
 use lib.Dec.{eqb, ltb}
 use Rattle.names.specs.Size.{ends}
 use Rattle.cells.specs.View.{Net}
-use Rattle.cells.specs.declared.end.End.{End}
 
 -- "channel-end (0..31) not present" is NoSuch
 abbrev pub endAt : Net → ℕ → ℕ → Bool
 endAt s n c = ltb n (s .nodes) && ltb c ends
 
 -- "between its opening Output and that circuit's END or PAUSE"
-abbrev pub isOpen : End → Bool
-isOpen k = not (eqb (k .sending .kind) 0)
+abbrev pub isOpen : Net → ℕ → ℕ → Bool
+isOpen s n c = not (eqb (s .ends .sendings n c .kind) 0)

@@ -1,13 +1,9 @@
 -- "Output a token." (document 01, "Calls"): a plan carried out by the acts, and when it is refused.
-use Prim.{Unit}
-use Prim.Native.Nat.{ℕ, _<_}
-use mathlib.Core.Path.{_≡_}
+use Prim.Native.Nat.{ℕ}
 use mathlib.Core.Bool.{Bool, true, false, not}
 use mathlib.Core.List.{List, [], _∷_}
 use lib.Dec.{eqb}
-use Rattle.names.specs.Size.{ends, sink}
 use Rattle.names.specs.No as Names
-use Rattle.circuits.specs.Circuit.{ofPeer}
 use Rattle.circuits.specs.declared.Peer.the-variants as Peers
 use Rattle.tokens.specs.Control.{outputNo}
 use Rattle.tokens.specs.Word.{dataWord, controlWord}
@@ -16,18 +12,16 @@ use Rattle.tokens.specs.declared.header.Target.{Target}
 use Rattle.tokens.specs.declared.header.Target.the-variants as Targets
 use Rattle.answers.specs.Rows.{Row, row}
 use Rattle.answers.specs.Out.{Out, out, attempt}
-use Rattle.answers.specs.declared.Answer.the-variants.{No, Done}
-use Rattle.cells.specs.View.{Net, withPort, withEnd}
+use Rattle.answers.specs.declared.Answer.the-variants.{Done}
+use Rattle.cells.specs.View.{Net}
 use Rattle.cells.specs.World.{World}
-use Rattle.cells.specs.Changes.{senderAs, portNetworkAs, sendingAs, claimAs}
-use Rattle.acts.specs.Acts.{withNet, widthAt, Room, pushed, pushedAll, still, kept, Keeps}
-use Rattle.sound.specs.Sound.{sound}
+use Rattle.acts.specs.Acts.{withNet, widthAt, pushed, pushedAll, networked, sentBy, sendsTo, still, claimedBy, handed}
 use Rattle.ends.specs.Ends.{endAt}
 use Rattle.ends.specs.Plan.{targetOf, planOf}
 use Rattle.ends.specs.declared.Token.{Token}
 use Rattle.ends.specs.declared.Token.the-variants.{Data, Control}
 use Rattle.ends.specs.declared.plan.Plan.{Plan}
-use Rattle.ends.specs.declared.plan.Plan.the-variants.{Narrow, Full, Opens, Behind, Straight, Forgotten}
+use Rattle.ends.specs.declared.plan.Plan.the-variants.{Narrow, Full, Opens, Behind, Straight}
 
 -- the word of a token
 abbrev pub wordOf : Token → ℕ
@@ -45,34 +39,22 @@ tokenNo (Control v) g = outputNo v (isUnit g)
 
 -- the circuit of channel-end c goes by port p, until this token closes it
 abbrev pub goesBy : Net → ℕ → ℕ → ℕ → ℕ → Net
-goesBy s n c p t =
-    withEnd (withPort s n p (senderAs (s .ports n p) (still t (ofPeer (Peers.End c))))) n c
-    (sendingAs (s .ends n c) (still t (ofPeer (Peers.Port p))))
+goesBy s n c p t = sendsTo (sentBy s n p (still t (Peers.End c))) n c (still t (Peers.Port p))
 
 -- "the lowest free port 8..11 is taken and receives header and token": the network is the circuit's
-abbrev pub networked : Net → ℕ → ℕ → ℕ → Net
-networked s n p v = withPort s n p (portNetworkAs (s .ports n p) v)
-
 abbrev pub opensBy : World → ℕ → ℕ → Target → ℕ → ℕ → World
 opensBy w n c g p t =
     let z = pushed (pushedAll w n p (words (headerOf g (widthAt (w .net) n)))) n p t in
-    withNet z (goesBy (networked (z .net) n p (w .net .ends n c .network)) n c p t)
+    withNet z (goesBy (networked (z .net) n p (w .net .ends .aims n c .network)) n c p t)
 
 -- later tokens go behind, in the same port
 abbrev pub goesBehind : World → ℕ → ℕ → ℕ → ℕ → World
 goesBehind w n c p t = withNet (pushed w n p t) (goesBy (pushed w n p t .net) n c p t)
 
 -- "tokens go straight to that channel-end with no header and no link, and the channel-end is claimed until END or PAUSE"
-abbrev pub claims : Net → ℕ → ℕ → ℕ → ℕ → Net
-claims s n c d t = withEnd s n d (claimAs (kept (s .ends n d) t) (still t (ofPeer (Peers.End c))))
-
 abbrev pub goesStraight : Net → ℕ → ℕ → ℕ → ℕ → Net
 goesStraight s n c d t =
-    withEnd (claims s n c d t) n c (sendingAs (claims s n c d t .ends n c) (still t (ofPeer (Peers.End d))))
-
--- "Channel 255 is the sink: it takes and forgets"
-abbrev pub forgets : Net → ℕ → ℕ → ℕ → Net
-forgets s n c t = withEnd s n c (sendingAs (s .ends n c) (still t (ofPeer (Peers.End sink))))
+    sendsTo (claimedBy (handed s n d t) n d (still t (Peers.End c))) n c (still t (Peers.End d))
 
 -- a plan carried out
 abbrev pub performed : World → ℕ → ℕ → Target → ℕ → Plan → World
@@ -81,7 +63,6 @@ performed w n c g t Full = w
 performed w n c g t (Opens p) = opensBy w n c g p t
 performed w n c g t (Behind p) = goesBehind w n c p t
 performed w n c g t (Straight d) = withNet w (goesStraight (w .net) n c d t)
-performed w n c g t Forgotten = withNet w (forgets (w .net) n c t)
 
 abbrev pub isNarrow : Plan → Bool
 isNarrow Narrow = true
@@ -89,7 +70,6 @@ isNarrow Full = false
 isNarrow (Opens p) = false
 isNarrow (Behind p) = false
 isNarrow (Straight d) = false
-isNarrow Forgotten = false
 
 abbrev pub isFull : Plan → Bool
 isFull Narrow = false
@@ -97,59 +77,29 @@ isFull Full = true
 isFull (Opens p) = false
 isFull (Behind p) = false
 isFull (Straight d) = false
-isFull Forgotten = false
 
--- "After 1 and 2, Output looks at the destination before the token"
+-- what refuses a plan; a token towards a destination; and an Output. "After 1 and 2, Output looks at the destination before the token"
+abbrev pub planRows : Plan → List Row
+planRows x = row (isNarrow x) Names.Narrow ∷ row (isFull x) Names.Full ∷ []
+
+abbrev pub sendRows : Net → ℕ → ℕ → Target → Token → List Row
+sendRows s n c g x =
+    row (eqb (tokenNo x g) (Names.number Names.Hardware)) Names.Hardware
+    ∷ row (eqb (tokenNo x g) (Names.number Names.Privileged)) Names.Privileged
+    ∷ planRows (planOf s n c g (wordOf x))
+
 abbrev pub outputRows : Net → ℕ → ℕ → Token → List Row
 outputRows s n c x =
-    let k = s .ends n c in
     row (not (endAt s n c)) Names.NoSuch
-    ∷ row (eqb (k .aim) 0) Names.Unaimed
-    ∷ row (eqb (tokenNo x (targetOf k)) (Names.number Names.Hardware)) Names.Hardware
-    ∷ row (eqb (tokenNo x (targetOf k)) (Names.number Names.Privileged)) Names.Privileged
-    ∷ row (isNarrow (planOf s n c (targetOf k) (wordOf x))) Names.Narrow
-    ∷ row (isFull (planOf s n c (targetOf k) (wordOf x))) Names.Full
-    ∷ []
+    ∷ row (eqb (s .ends .aims n c .kind) 0) Names.Unaimed
+    ∷ sendRows s n c (targetOf (s .ends .aims n c)) x
+
+-- what comes of a token towards a destination, and of an Output
+abbrev pub sent : World → ℕ → ℕ → Target → Token → World
+sent w n c g x = performed w n c g (wordOf x) (planOf (w .net) n c g (wordOf x))
 
 abbrev pub outputMade : World → ℕ → ℕ → Token → World
-outputMade w n c x =
-    performed w n c (targetOf (w .net .ends n c)) (wordOf x) (planOf (w .net) n c (targetOf (w .net .ends n c)) (wordOf x))
+outputMade w n c x = sent w n c (targetOf (w .net .ends .aims n c)) x
 
 unfoldable pub output : World → ℕ → ℕ → Token → Out World
 output w n c x = attempt (outputRows (w .net) n c x) w (out Done (outputMade w n c x))
-
--- What the code has on its way: a plan that can be carried out
-abbrev pub Possible : World → ℕ → ℕ → Plan → Type 0
-Possible w n t Narrow = Unit
-Possible w n t Full = Unit
-Possible w n t (Opens p) = Room w n p 4
-Possible w n t (Behind p) = Room w n p 1
-Possible w n t (Straight d) = (d < ends) × Keeps (w .net .ends n d) t
-Possible w n t Forgotten = Unit
-
--- a channel-end that is there and aimed at g, of a state that is sound
-pub record Sends (w : World) (n c : ℕ) (g : Target) : Type 0 where
-  pub all : sound w ≡ true
-  pub node : n < w .net .nodes
-  pub end : c < ends
-  pub aimed : w .net .ends n c .aim ≡ 0 → ⊥
-  pub target : g ≡ targetOf (w .net .ends n c)
-
--- .. and its answer
-abbrev pub carried : World → ℕ → ℕ → Target → ℕ → Plan → Out World
-carried w n c g t Narrow = out (No (Names.number Names.Narrow)) w
-carried w n c g t Full = out (No (Names.number Names.Full)) w
-carried w n c g t (Opens p) = out Done (opensBy w n c g p t)
-carried w n c g t (Behind p) = out Done (goesBehind w n c p t)
-carried w n c g t (Straight d) = out Done (withNet w (goesStraight (w .net) n c d t))
-carried w n c g t Forgotten = out Done (withNet w (forgets (w .net) n c t))
-
--- a token towards a destination
-abbrev pub sent : World → ℕ → ℕ → Target → Token → Out World
-sent w n c g x =
-    attempt
-    (row (eqb (tokenNo x g) (Names.number Names.Hardware)) Names.Hardware
-    ∷ row (eqb (tokenNo x g) (Names.number Names.Privileged)) Names.Privileged
-    ∷ [])
-    w
-    (carried w n c g (wordOf x) (planOf (w .net) n c g (wordOf x)))

@@ -1,60 +1,53 @@
 -- What an Output is to do (document 01, "Calls" and 9, 10 of "Numbers for no"): read off the state, with nothing changed.
-use Prim.Native.Nat.{ℕ, _-_, _<_}
-use mathlib.Core.Path.{_≡_}
-use mathlib.Core.Bool.{not, _&&_}
+use Prim.Native.Nat.{ℕ}
+use mathlib.Core.Bool.{Bool, _&&_}
 use lib.Dec.{eqb, leb}
 use Rattle.laws.specs.Pick.{pick}
-use Rattle.laws.specs.All.{failing}
-use Rattle.names.specs.Size.{links, replyPort, endBuffer, sink}
+use Rattle.laws.specs.All.{first}
+use Rattle.names.specs.Size.{replyPort}
 use Rattle.circuits.specs.Circuit.{peerOf}
 use Rattle.circuits.specs.declared.Peer.{Peer}
 use Rattle.circuits.specs.declared.Peer.the-variants as Peers
 use Rattle.tokens.specs.Header.{headerOf, isNarrow}
-use Rattle.tokens.specs.Word.{isPause}
 use Rattle.tokens.specs.declared.header.Target.{Target}
 use Rattle.tokens.specs.declared.header.Target.the-variants.{Channel, Unit}
 use Rattle.routing.specs.Way.{wayTo}
 use Rattle.routing.specs.declared.way.Way.{Way}
 use Rattle.routing.specs.declared.way.Way.the-variants.{ThisNode, OtherNode}
 use Rattle.ports.specs.Queue.{capacity}
-use Rattle.cells.specs.View.{Net}
-use Rattle.cells.specs.declared.end.End.{End}
-use Rattle.clauses.specs.Pairs.{taken}
-use Rattle.acts.specs.Acts.{widthAt, numberAt}
+use Rattle.cells.specs.View.{Net, wholePort}
+use Rattle.cells.specs.declared.end.Aim.{Aim}
+use Rattle.clauses.specs.Counts.{tilePort, isFree}
+use Rattle.acts.specs.Acts.{widthAt, numberAt, channelClaimed, channelFull}
 use Rattle.ends.specs.declared.output.Destination.{Destination}
 use Rattle.ends.specs.declared.output.Destination.the-variants.{Unaimed, Aimed}
 use Rattle.ends.specs.declared.plan.Plan.{Plan}
-use Rattle.ends.specs.declared.plan.Plan.the-variants.{Narrow, Full, Opens, Behind, Straight, Forgotten}
+use Rattle.ends.specs.declared.plan.Plan.the-variants.{Narrow, Full, Opens, Behind, Straight}
 
 -- a channel-end's destination
-abbrev pub targetOf : End → Target
-targetOf k = pick (eqb (k .aim) 1) (Channel (record { 0 = k .number }) (k .channel)) (Unit (record { 0 = k .number }))
+abbrev pub targetOf : Aim → Target
+targetOf k = pick (eqb (k .kind) 1) (Channel (record { 0 = k .number }) (k .channel)) (Unit (record { 0 = k .number }))
 
-abbrev pub destinationOf : End → Destination
-destinationOf k = pick (eqb (k .aim) 0) Unaimed (Aimed (targetOf k))
+abbrev pub destinationOf : Aim → Destination
+destinationOf k = pick (eqb (k .kind) 0) Unaimed (Aimed (targetOf k))
 
--- a number of 16 bits and a channel of 8: a sound state has no other
-abbrev pub AimFits : End → Type 0
-AimFits k = (k .number < 65536) × (k .aim ≡ 1 → k .channel < 256)
+-- "Otherwise the lowest free port 8..11 is taken"; the reply port, 12, where none is free
+abbrev pub freePort : Net → ℕ → ℕ → Bool
+freePort s n p = tilePort p && isFree (wholePort s n p)
 
--- .. while it is aimed
-abbrev pub Fits : End → Type 0
-Fits k = (k .aim ≡ 0 → ⊥) → AimFits k
-
--- "Otherwise the lowest free port 8..11 is taken"; the reply port where none is free
 abbrev pub lowestFree : Net → ℕ → ℕ
-lowestFree s n = failing (replyPort - links) links (taken s n)
+lowestFree s n = first replyPort (freePort s n)
 
 abbrev pub portPlan : Net → ℕ → Plan
 portPlan s n = pick (eqb (lowestFree s n) replyPort) Full (Opens (lowestFree s n))
 
--- "8 are held and the token is not PAUSE"
+-- "8 are held and the token is not PAUSE (the sink is never full)"
 abbrev pub straightPlan : Net → ℕ → ℕ → ℕ → Plan
-straightPlan s n d t = pick (leb endBuffer (s .ends n d .held) && not (isPause t)) Full (Straight d)
+straightPlan s n d t = pick (channelFull s n d t) Full (Straight d)
 
--- "locally: another circuit claims the channel, or .. (the sink is never full)"
+-- "locally: another circuit claims the channel, or .."
 abbrev pub channelPlan : Net → ℕ → ℕ → ℕ → Plan
-channelPlan s n c t = pick (eqb c sink) Forgotten (pick (not (eqb (s .ends n c .claim .kind) 0)) Full (straightPlan s n c t))
+channelPlan s n c t = pick (channelClaimed s n c) Full (straightPlan s n c t)
 
 -- "If the destination matches this node at that width and is a channel, tokens go straight to that channel-end"
 abbrev pub byWay : Net → ℕ → Way → ℕ → ℕ → Plan
@@ -71,16 +64,13 @@ openPlan s n g t = pick (isNarrow (headerOf g (widthAt s n))) Narrow (targetPlan
 
 -- "the taken port holds 64"
 abbrev pub behindPlan : Net → ℕ → ℕ → Plan
-behindPlan s n p = pick (leb capacity (s .ports n p .counters .held)) Full (Behind p)
-
-abbrev pub onPlan : Net → ℕ → ℕ → ℕ → Plan
-onPlan s n d t = pick (eqb d sink) Forgotten (straightPlan s n d t)
+behindPlan s n p = pick (leb capacity (s .ports .counters n p .held)) Full (Behind p)
 
 -- "The first opens a circuit"; the others go on as it was opened, whatever settings change
 abbrev pub byPeer : Net → ℕ → Peer → Target → ℕ → Plan
 byPeer s n Peers.Nobody g t = openPlan s n g t
 byPeer s n (Peers.Port p) g t = behindPlan s n p
-byPeer s n (Peers.End d) g t = onPlan s n d t
+byPeer s n (Peers.End d) g t = straightPlan s n d t
 
 unfoldable pub planOf : Net → ℕ → ℕ → Target → ℕ → Plan
-planOf s n c g t = byPeer s n (peerOf (s .ends n c .sending)) g t
+planOf s n c g t = byPeer s n (peerOf (s .ends .sendings n c)) g t

@@ -2,23 +2,19 @@
 use crate::end_at;
 use answers::Answer;
 use cells::end;
-use cells::end::End;
+use cells::end::Aim;
 use names::Slot;
 use names::is_number;
 use names::no::NO_SUCH;
 use names::no::OPEN;
 use names::no::VALUE;
-use names::size::ENDS;
 use names::size::NETWORKS;
-use names::size::SINK;
+use tokens::header::is_channel;
 ghost use mathlib.Core.Path.{_≡_};
 ghost use Rattle.answers.specs.Rows.{refusal};
 ghost use Rattle.answers.specs.Out.{out};
 ghost use Rattle.cells.specs.View.{view};
 ghost use Rattle.ends.specs.Aim.{goalRanged, aimedAt, aimRows, aim};
-
-// Channels 0..31, beside words of 32 bits.
-const CHANNELS: u32 = ENDS as u32;
 
 // A destination as it is asked for: a channel of a number, or a number's control unit. Values out of
 // range are refused.
@@ -32,7 +28,7 @@ fn goal_ranged(g: Goal) -> bool
     ensures { λ r. ⌜ r ≡ goalRanged g ⌝ }
 {
     match g {
-        Goal::Channel(m, c) => is_number(m) & ((c < CHANNELS) | (c == SINK)),
+        Goal::Channel(m, c) => is_number(m) & is_channel(c),
         Goal::Unit(m) => is_number(m),
     }
 }
@@ -55,25 +51,24 @@ fn aim_no(st: &[u32], slot: Slot, c: usize, g: Goal, network: u32) -> u8
     0
 }
 
-// A channel-end with a destination.
-fn aimed_at(k: End, g: Goal, network: u32) -> End
-    ensures { λ r. ⌜ r ≡ aimedAt k g network ⌝ }
+// A destination and network as a channel-end has them.
+fn aimed_at(g: Goal, network: u32) -> Aim
+    ensures { λ r. ⌜ r ≡ aimedAt g network ⌝ }
 {
-    let mut j = k;
-    j.network = network;
     match g {
-        Goal::Channel(m, c) => {
-            j.aim = 1;
-            j.number = m;
-            j.channel = c;
-        }
-        Goal::Unit(m) => {
-            j.aim = 2;
-            j.number = m;
-            j.channel = 0;
-        }
+        Goal::Channel(m, c) => Aim {
+            kind: 1,
+            number: m,
+            channel: c,
+            network,
+        },
+        Goal::Unit(m) => Aim {
+            kind: 2,
+            number: m,
+            channel: 0,
+            network,
+        },
     }
-    j
 }
 
 // Aim, whole: refused by its number with nothing changed, or made.
@@ -84,7 +79,6 @@ pub fn aim(st: &mut [u32], slot: Slot, c: usize, g: Goal, network: u32) -> Answe
     if no != 0 {
         return Answer::No(no);
     }
-    let k = aimed_at(end::at(st, slot, c), g, network);
-    end::put(st, slot, c, k);
+    end::put_aim(st, slot, c, aimed_at(g, network));
     Answer::Done
 }

@@ -3,7 +3,7 @@ use crate::Wanted;
 use crate::end_at;
 use answers::Answer;
 use cells::end;
-use cells::end::End;
+use cells::end::Buffer;
 use names::Slot;
 use names::no::EMPTY;
 use names::no::NO_SUCH;
@@ -27,7 +27,7 @@ fn is_wanted(word: u32, wanted: Wanted) -> bool
 }
 
 // The oldest token.
-fn first_held(k: End) -> u32
+fn first_held(k: Buffer) -> u32
     ensures { λ r. ⌜ r ≡ firstHeld k ⌝ }
 {
     let t = k.tokens;
@@ -41,7 +41,8 @@ fn input_no(st: &[u32], slot: Slot, c: usize, wanted: Wanted) -> u8
     if !end_at(st, slot, c) {
         return NO_SUCH;
     }
-    let k = end::at(st, slot, c);
+    let e = end::at(st, slot, c);
+    let k = e.buffer;
     if k.held == 0 {
         return EMPTY;
     }
@@ -51,16 +52,16 @@ fn input_no(st: &[u32], slot: Slot, c: usize, wanted: Wanted) -> u8
     0
 }
 
-// A channel-end without its oldest token.
-fn took_first(k: End) -> End
+// A channel-end's buffer without its oldest token.
+fn took_first(k: Buffer) -> Buffer
     requires { ⌜ 0 < k .held ⌝ }
     ensures { λ r. ⌜ r ≡ tookFirst k ⌝ }
 {
     let t = k.tokens;
-    let mut j = k;
-    j.tokens = [t[1], t[2], t[3], t[4], t[5], t[6], t[7], 0];
-    j.held = k.held - 1;
-    j
+    Buffer {
+        held: k.held - 1,
+        tokens: [t[1], t[2], t[3], t[4], t[5], t[6], t[7], 0],
+    }
 }
 
 // Input, whole: refused by its number with nothing changed (the token stays), or the token's value.
@@ -72,7 +73,7 @@ pub fn input(st: &mut [u32], slot: Slot, c: usize, wanted: Wanted) -> Answer
         return Answer::No(no);
     }
     let k = end::at(st, slot, c);
-    let word = first_held(k);
-    end::put(st, slot, c, took_first(k));
+    let word = first_held(k.buffer);
+    end::put_buffer(st, slot, c, took_first(k.buffer));
     Answer::Token((word % 256) as u8)
 }

@@ -3,7 +3,8 @@ use crate::Token;
 use crate::end_at;
 use crate::plan::Plan;
 use crate::plan::plan_of;
-use acts::keep;
+use acts::circuit::claim;
+use acts::give;
 use acts::push;
 use acts::push_header;
 use acts::set_network;
@@ -13,16 +14,14 @@ use acts::still;
 use acts::width_at;
 use answers::Answer;
 use cells::end;
-use cells::end::End;
+use cells::end::Aim;
 use circuits::Peer;
-use circuits::of_peer;
 use names::NodeNumber;
 use names::Slot;
 use names::no::FULL;
 use names::no::NARROW;
 use names::no::NO_SUCH;
 use names::no::UNAIMED;
-use names::size::SINK;
 use tokens::control::output_no;
 use tokens::header::Header;
 use tokens::header::Target;
@@ -33,14 +32,18 @@ ghost use mathlib.Core.Path.{_≡_};
 ghost use mathlib.Core.Bool.{true};
 ghost use Prim.Native.Nat.{_<_};
 ghost use Rattle.names.specs.Size.{ports, ends};
-ghost use Rattle.answers.specs.Out.{out};
-ghost use Rattle.acts.specs.Acts.{Room, pushed, pushedAll, Keeps};
+ghost use Rattle.answers.specs.Out.{out, attempt};
+ghost use Rattle.answers.specs.declared.Answer.the-variants.{Done};
+ghost use Rattle.acts.specs.Acts.{pushed, pushedAll};
+ghost use Rattle.acts.specs.Needs.{Room, Given};
 ghost use Rattle.tokens.specs.Header.{words};
 ghost use Rattle.cells.specs.View.{view};
 ghost use Rattle.cells.specs.World.{world};
 ghost use Rattle.sound.specs.Sound.{sound};
-ghost use Rattle.ends.specs.Plan.{AimFits, Fits, targetOf, destinationOf};
-ghost use Rattle.ends.specs.Output.{wordOf, isUnit, tokenNo, goesBy, goesStraight, forgets, opensBy, goesBehind, Possible, carried, Sends, sent, output};
+ghost use Rattle.ends.specs.Plan.{targetOf, destinationOf};
+ghost use Rattle.ends.specs.Needs.{AimFits, Fits, Possible, Sends};
+ghost use Rattle.ends.specs.Output.{wordOf, isUnit, tokenNo, goesBy, opensBy, goesBehind};
+ghost use Rattle.ends.specs.Output.{goesStraight, performed, planRows, sendRows, sent, output};
 
 // A channel-end's destination.
 pub enum Destination {
@@ -48,22 +51,22 @@ pub enum Destination {
     Aimed(Target),
 }
 
-fn target_of(k: End) -> Target
+fn target_of(k: Aim) -> Target
     requires { ⌜ AimFits k ⌝ }
     ensures { λ r. ⌜ r ≡ targetOf k ⌝ }
 {
     let n = NodeNumber(k.number as u16);
-    if k.aim == 1 {
+    if k.kind == 1 {
         return Target::Channel(n, k.channel as u8);
     }
     Target::Unit(n)
 }
 
-fn destination_of(k: End) -> Destination
+fn destination_of(k: Aim) -> Destination
     requires { ⌜ Fits k ⌝ }
     ensures { λ r. ⌜ r ≡ destinationOf k ⌝ }
 {
-    if k.aim == 0 {
+    if k.kind == 0 {
         return Destination::Unaimed;
     }
     Destination::Aimed(target_of(k))
@@ -102,16 +105,15 @@ fn go_by(st: &mut [u32], slot: Slot, c: usize, p: usize, word: u16)
     requires { ⌜ (slot .0 < view (now st) .nodes) × (c < ends) × (p < ports) ⌝ }
     ensures { λ r. ⌜ view (now (st .exit)) ≡ goesBy (view (now (st .entry))) (slot .0) c p word ⌝ }
 {
-    let sender = still(word, of_peer(Peer::End(c as u32)));
-    let sending = still(word, of_peer(Peer::Port(p as u32)));
-    set_sender(st, slot, p, sender);
-    set_sending(st, slot, c, sending);
+    set_sender(st, slot, p, still(word, Peer::End(c as u32)));
+    set_sending(st, slot, c, still(word, Peer::Port(p as u32)));
 }
 
 // Header and token into the port that is taken.
 fn fill(st: &mut [u32], mem: &mut [u16], slot: Slot, p: usize, h: Header, word: u16)
     requires { ⌜ Room (world (now st) (now mem)) (slot .0) p 4 ⌝ }
-    ensures { λ r. ⌜ world (now (st .exit)) (now (mem .exit)) ≡ pushed (pushedAll (world (now (st .entry)) (now (mem .entry))) (slot .0) p (words h)) (slot .0) p word ⌝ }
+    ensures { λ r. ⌜ world (now (st .exit)) (now (mem .exit))
+        ≡ pushed (pushedAll (world (now (st .entry)) (now (mem .entry))) (slot .0) p (words h)) (slot .0) p word ⌝ }
 {
     push_header(st, mem, slot, p, h);
     push(st, mem, slot, p, word);
@@ -120,41 +122,34 @@ fn fill(st: &mut [u32], mem: &mut [u16], slot: Slot, p: usize, h: Header, word: 
 // "the lowest free port 8..11 is taken and receives header and token"
 fn open_by(st: &mut [u32], mem: &mut [u16], slot: Slot, c: usize, g: Target, p: usize, word: u16)
     requires { ⌜ (c < ends) × Room (world (now st) (now mem)) (slot .0) p 4 ⌝ }
-    ensures { λ r. ⌜ world (now (st .exit)) (now (mem .exit)) ≡ opensBy (world (now (st .entry)) (now (mem .entry))) (slot .0) c g p word ⌝ }
+    ensures { λ r. ⌜ world (now (st .exit)) (now (mem .exit))
+        ≡ opensBy (world (now (st .entry)) (now (mem .entry))) (slot .0) c g p word ⌝ }
 {
     let k = end::at(st, slot, c);
     let h = make_header(g, width_at(st, slot));
     fill(st, mem, slot, p, h, word);
-    set_network(st, slot, p, k.network);
+    set_network(st, slot, p, k.aim.network);
     go_by(st, slot, c, p, word);
 }
 
 // Behind the circuit's tokens in its port.
 fn go_behind(st: &mut [u32], mem: &mut [u16], slot: Slot, c: usize, p: usize, word: u16)
     requires { ⌜ (c < ends) × Room (world (now st) (now mem)) (slot .0) p 1 ⌝ }
-    ensures { λ r. ⌜ world (now (st .exit)) (now (mem .exit)) ≡ goesBehind (world (now (st .entry)) (now (mem .entry))) (slot .0) c p word ⌝ }
+    ensures { λ r. ⌜ world (now (st .exit)) (now (mem .exit))
+        ≡ goesBehind (world (now (st .entry)) (now (mem .entry))) (slot .0) c p word ⌝ }
 {
     push(st, mem, slot, p, word);
     go_by(st, slot, c, p, word);
 }
 
-// Straight to channel-end d, which is claimed until this word closes the circuit.
+// Straight to channel d, which is claimed until this word closes the circuit.
 fn go_straight(st: &mut [u32], slot: Slot, c: usize, d: usize, word: u16)
-    requires { ⌜ (slot .0 < view (now st) .nodes) × (c < ends) × (d < ends) × Keeps (view (now st) .ends (slot .0) d) word ⌝ }
+    requires { ⌜ (slot .0 < view (now st) .nodes) × (c < ends) × Given (view (now st)) (slot .0) d word ⌝ }
     ensures { λ r. ⌜ view (now (st .exit)) ≡ goesStraight (view (now (st .entry))) (slot .0) c d word ⌝ }
 {
-    let mut far = keep(end::at(st, slot, d), word);
-    far.claim = still(word, of_peer(Peer::End(c as u32)));
-    end::put(st, slot, d, far);
-    set_sending(st, slot, c, still(word, of_peer(Peer::End(d as u32))));
-}
-
-// To the sink of the node.
-fn forget(st: &mut [u32], slot: Slot, c: usize, word: u16)
-    requires { ⌜ (slot .0 < view (now st) .nodes) × (c < ends) ⌝ }
-    ensures { λ r. ⌜ view (now (st .exit)) ≡ forgets (view (now (st .entry))) (slot .0) c word ⌝ }
-{
-    set_sending(st, slot, c, still(word, of_peer(Peer::End(SINK))));
+    give(st, slot, d, word);
+    claim(st, slot, d, still(word, Peer::End(c as u32)));
+    set_sending(st, slot, c, still(word, Peer::End(d as u32)));
 }
 
 // A plan carried out.
@@ -168,7 +163,9 @@ fn carry(
     plan: Plan,
 ) -> Answer
     requires { ⌜ (slot .0 < view (now st) .nodes) × (c < ends) × Possible (world (now st) (now mem)) (slot .0) word plan ⌝ }
-    ensures { λ r. ⌜ out r (world (now (st .exit)) (now (mem .exit))) ≡ carried (world (now (st .entry)) (now (mem .entry))) (slot .0) c g word plan ⌝ }
+    ensures { λ r. ⌜ out r (world (now (st .exit)) (now (mem .exit)))
+        ≡ attempt (planRows plan) (world (now (st .entry)) (now (mem .entry)))
+        (out Done (performed (world (now (st .entry)) (now (mem .entry))) (slot .0) c g word plan)) ⌝ }
 {
     match plan {
         Plan::Narrow => return Answer::No(NARROW),
@@ -176,7 +173,6 @@ fn carry(
         Plan::Opens(p) => open_by(st, mem, slot, c, g, p, word),
         Plan::Behind(p) => go_behind(st, mem, slot, c, p, word),
         Plan::Straight(d) => go_straight(st, slot, c, d, word),
-        Plan::Forgotten => forget(st, slot, c, word),
     }
     Answer::Done
 }
@@ -184,7 +180,9 @@ fn carry(
 // A token towards a destination.
 fn send(st: &mut [u32], mem: &mut [u16], slot: Slot, c: usize, g: Target, x: Token) -> Answer
     requires { ⌜ Sends (world (now st) (now mem)) (slot .0) c g ⌝ }
-    ensures { λ r. ⌜ out r (world (now (st .exit)) (now (mem .exit))) ≡ sent (world (now (st .entry)) (now (mem .entry))) (slot .0) c g x ⌝ }
+    ensures { λ r. ⌜ out r (world (now (st .exit)) (now (mem .exit)))
+        ≡ attempt (sendRows (view (now (st .entry))) (slot .0) c g x) (world (now (st .entry)) (now (mem .entry)))
+        (out Done (sent (world (now (st .entry)) (now (mem .entry))) (slot .0) c g x)) ⌝ }
 {
     let no = token_no(x, g);
     if no != 0 {
@@ -198,12 +196,14 @@ fn send(st: &mut [u32], mem: &mut [u16], slot: Slot, c: usize, g: Target, x: Tok
 // Output, whole: refused by its number with nothing changed, or done.
 pub fn output(st: &mut [u32], mem: &mut [u16], slot: Slot, c: usize, x: Token) -> Answer
     requires { ⌜ sound (world (now st) (now mem)) ≡ true ⌝ }
-    ensures { λ r. ⌜ out r (world (now (st .exit)) (now (mem .exit))) ≡ output (world (now (st .entry)) (now (mem .entry))) (slot .0) c x ⌝ }
+    ensures { λ r. ⌜ out r (world (now (st .exit)) (now (mem .exit)))
+        ≡ output (world (now (st .entry)) (now (mem .entry))) (slot .0) c x ⌝ }
 {
     if !end_at(st, slot, c) {
         return Answer::No(NO_SUCH);
     }
-    let Destination::Aimed(g) = destination_of(end::at(st, slot, c)) else {
+    let k = end::at(st, slot, c);
+    let Destination::Aimed(g) = destination_of(k.aim) else {
         return Answer::No(UNAIMED);
     };
     send(st, mem, slot, c, g, x)

@@ -1,4 +1,6 @@
 // What an Output is to do, read off the state with nothing changed.
+use acts::channel_full;
+use acts::circuit::channel_claimed;
 use acts::number_at;
 use acts::width_at;
 use cells::end;
@@ -7,24 +9,18 @@ use circuits::Peer;
 use circuits::peer_of;
 use clauses::pairs::taken;
 use names::Slot;
-use names::size::END_BUFFER;
-use names::size::LINKS;
+use names::size::FIRST_TILE_PORT;
 use names::size::REPLY_PORT;
-use names::size::SINK;
 use ports::Counters;
 use routing::way::Way;
 use routing::way::way_to;
 use tokens::header::Target;
 use tokens::header::is_narrow;
 use tokens::header::make_header;
-use tokens::word::is_pause;
 ghost use mathlib.Core.Path.{_≡_};
-ghost use Prim.Native.Nat.{_<_};
+ghost use Rattle.acts.specs.Needs.{NumberFits};
 ghost use Rattle.cells.specs.View.{view};
-ghost use Rattle.ends.specs.Plan.{lowestFree, straightPlan, channelPlan, portPlan, targetPlan, openPlan, behindPlan, onPlan, planOf};
-
-// What a channel-end holds at most, beside words of 32 bits.
-const BUFFER: u32 = END_BUFFER as u32;
+ghost use Rattle.ends.specs.Plan.{lowestFree, straightPlan, channelPlan, portPlan, targetPlan, openPlan, behindPlan, planOf};
 
 pub enum Plan {
     // one byte can't carry the destination
@@ -35,17 +31,15 @@ pub enum Plan {
     Opens(usize),
     // behind its circuit's tokens, in this port
     Behind(usize),
-    // to this channel-end of the same node
+    // to this channel of the same node
     Straight(usize),
-    // to the sink of the same node
-    Forgotten,
 }
 
 // The lowest free port from the tile, the reply port where none is free.
 fn lowest_free(st: &[u32], slot: Slot) -> usize
     ensures { λ r. ⌜ r ≡ lowestFree (view (now (st .entry))) (slot .0) ⌝ }
 {
-    for p in LINKS..REPLY_PORT {
+    for p in FIRST_TILE_PORT..REPLY_PORT {
         if !taken(st, slot, p) {
             return p;
         }
@@ -63,13 +57,11 @@ fn port_plan(st: &[u32], slot: Slot) -> Plan
     Plan::Opens(p)
 }
 
-// To a channel-end that no other circuit claims.
+// To a channel that no other circuit claims.
 fn straight_plan(st: &[u32], slot: Slot, d: usize, word: u16) -> Plan
     ensures { λ r. ⌜ r ≡ straightPlan (view (now (st .entry))) (slot .0) d word ⌝ }
 {
-    let k = end::at(st, slot, d);
-    let full = (BUFFER <= k.held) & !is_pause(word);
-    if full {
+    if channel_full(st, slot, d, word) {
         return Plan::Full;
     }
     Plan::Straight(d)
@@ -80,11 +72,7 @@ fn channel_plan(st: &[u32], slot: Slot, channel: u8, word: u16) -> Plan
     ensures { λ r. ⌜ r ≡ channelPlan (view (now (st .entry))) (slot .0) channel word ⌝ }
 {
     let d = channel as usize;
-    if channel as u32 == SINK {
-        return Plan::Forgotten;
-    }
-    let k = end::at(st, slot, d);
-    if k.claim.kind != 0 {
+    if channel_claimed(st, slot, d) {
         return Plan::Full;
     }
     straight_plan(st, slot, d, word)
@@ -92,7 +80,7 @@ fn channel_plan(st: &[u32], slot: Slot, channel: u8, word: u16) -> Plan
 
 // A circuit opens to a destination that its width can carry.
 fn target_plan(st: &[u32], slot: Slot, g: Target, word: u16) -> Plan
-    requires { ⌜ view (now st) .own (slot .0) 0 .number < 65536 ⌝ }
+    requires { ⌜ NumberFits (view (now st)) (slot .0) ⌝ }
     ensures { λ r. ⌜ r ≡ targetPlan (view (now (st .entry))) (slot .0) g word ⌝ }
 {
     match g {
@@ -106,7 +94,7 @@ fn target_plan(st: &[u32], slot: Slot, g: Target, word: u16) -> Plan
 
 // "The first opens a circuit. It has the node's width at that moment."
 fn open_plan(st: &[u32], slot: Slot, g: Target, word: u16) -> Plan
-    requires { ⌜ view (now st) .own (slot .0) 0 .number < 65536 ⌝ }
+    requires { ⌜ NumberFits (view (now st)) (slot .0) ⌝ }
     ensures { λ r. ⌜ r ≡ openPlan (view (now (st .entry))) (slot .0) g word ⌝ }
 {
     if is_narrow(make_header(g, width_at(st, slot))) {
@@ -126,25 +114,15 @@ fn behind_plan(st: &[u32], slot: Slot, p: usize) -> Plan
     Plan::Behind(p)
 }
 
-// On in a circuit within the node.
-fn on_plan(st: &[u32], slot: Slot, d: u32, word: u16) -> Plan
-    ensures { λ r. ⌜ r ≡ onPlan (view (now (st .entry))) (slot .0) d word ⌝ }
-{
-    if d == SINK {
-        return Plan::Forgotten;
-    }
-    straight_plan(st, slot, d as usize, word)
-}
-
 // What putting this word out does, for a channel-end that is aimed at g.
 pub fn plan_of(st: &[u32], slot: Slot, c: usize, g: Target, word: u16) -> Plan
-    requires { ⌜ view (now st) .own (slot .0) 0 .number < 65536 ⌝ }
+    requires { ⌜ NumberFits (view (now st)) (slot .0) ⌝ }
     ensures { λ r. ⌜ r ≡ planOf (view (now (st .entry))) (slot .0) c g word ⌝ }
 {
     let k = end::at(st, slot, c);
     match peer_of(k.sending) {
         Peer::Nobody => open_plan(st, slot, g, word),
         Peer::Port(p) => behind_plan(st, slot, p as usize),
-        Peer::End(d) => on_plan(st, slot, d, word),
+        Peer::End(d) => straight_plan(st, slot, d as usize, word),
     }
 }

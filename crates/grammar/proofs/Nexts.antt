@@ -8,14 +8,13 @@ use native.Mathlib.Omega.{arith}
 use lib.Dec.{ltb, eqb}
 use borrow.Author.Tests.{lt-ltb, le-ltb, ne-eqb}
 use Rattle.laws.proofs.Order.{by-test, order}
-use Rattle.names.specs.Size.{ends, sink}
 use Rattle.tokens.specs.Control.{ssctrl}
 use Rattle.tokens.specs.Word.{closes, controlWord}
-use Rattle.tokens.specs.Shape.{legalChannel, threeShape, shapeOf}
-use Rattle.tokens.specs.declared.word.Shape.{Shape}
-use Rattle.tokens.specs.declared.word.Shape.the-variants as S
+use Rattle.tokens.specs.Shape.{Shape, legalChannel, threeShape, shapeOf}
+use Rattle.tokens.specs.Shape as S
+use Rattle.tokens.proofs.Channels.{legal-channel, illegal-channel}
 use Rattle.tokens.proofs.Words.{open-word, closing-word}
-use Rattle.grammar.specs.Stage.{fromBody, fromLastDue}
+use Rattle.grammar.specs.Stage.{isLast, step}
 use Rattle.grammar.specs.declared.stage.Stage.the-variants.{Bad, Fresh, Body}
 
 -- below the marks of a header
@@ -48,7 +47,8 @@ module _ (w : ℕ) (h : 0x200 ≤ w) where
   pub wide : 0x600 ≤ w → shapeOf w ≡ threeShape (w - 0x600)
   unfolding shapeOf
   wide k =
-      rw (open-word w (inr (omega arith)), past 0x1C2 (omega arith), past 0x200 (omega arith), le-ltb w 0x300 (omega arith), le-ltb w 0x600 k)
+      rw (open-word w (inr (omega arith)), past 0x1C2 (omega arith), past 0x200 (omega arith))
+      (rw (le-ltb w 0x300 (omega arith), le-ltb w 0x600 k))
 
 -- all that is no token of a header of three bytes, by its marks
 pub narrow : (P : Shape → Type 0) (w : ℕ) → w < 0x600 → P S.Closing → P S.Body → P S.Wrong → P S.OneByte → P (shapeOf w)
@@ -71,46 +71,49 @@ channel w h e = rw (wide w (omega arith) h, e)
 pub no-channel : (w : ℕ) → 0x620 ≤ w → w < 0x6FF → shapeOf w ≡ S.ThreeByte
 unfolding threeShape
 no-channel w h k =
-    rw (wide w (omega arith) (omega arith), le-ltb (w - 0x600) ends (omega arith), ne-eqb (w - 0x600) sink (λ e. omega arith), lt-ltb (w - 0x600) 0x100 (omega arith))
+    let none : legalChannel (w - 0x600) ≡ false = illegal-channel (w - 0x600) (omega arith) (λ e. omega arith) in
+    rw (wide w (omega arith) (omega arith), none, lt-ltb (w - 0x600) 0x100 (omega arith))
 
 -- past it SSCTRL alone is a token
 pub nothing : (w : ℕ) → 0x700 ≤ w → (w ≡ 0x7C3 → ⊥) → shapeOf w ≡ S.Wrong
 unfolding threeShape
 nothing w h n =
-    rw (wide w (omega arith) (omega arith), le-ltb (w - 0x600) ends (omega arith), ne-eqb (w - 0x600) sink (λ e. omega arith), le-ltb (w - 0x600) 0x100 (omega arith), ne-eqb (w - 0x600) (controlWord ssctrl) (λ e. n (omega arith)))
+    let none : legalChannel (w - 0x600) ≡ false = illegal-channel (w - 0x600) (omega arith) (λ e. omega arith) in
+    let unmarked : ltb (w - 0x600) 0x100 ≡ false = le-ltb (w - 0x600) 0x100 (omega arith) in
+    rw (wide w (omega arith) (omega arith), none, unmarked, ne-eqb (w - 0x600) (controlWord ssctrl) (λ e. n (omega arith)))
 
 pub past-byte : (P : Shape → Type 0) (w : ℕ) → 0x700 ≤ w → P S.Wrong → P S.Unit → P (shapeOf w)
-unfolding shapeOf threeShape closes
+unfolding shapeOf threeShape legalChannel closes
 past-byte P w h a b = elim (ℕ-discrete w 0x7C3) [ yes e ↦ rw e b | no e ↦ rw (nothing w h e) a ]
 
 -- the last of a header: a channel, the sink, SSCTRL
 pub low-channel : (w : ℕ) → w < 0x620 → legalChannel (w - 0x600) ≡ true
-low-channel w h = rw (lt-ltb (w - 0x600) ends (omega arith))
+low-channel w h = legal-channel (w - 0x600) .back (inl (omega arith))
 
-pub sink-last : Body ≡ fromLastDue (shapeOf 0x6FF)
-unfolding shapeOf threeShape closes
+pub sink-last : true ≡ isLast (shapeOf 0x6FF)
+unfolding shapeOf threeShape legalChannel closes
 sink-last = refl
 
-pub unit-last : Body ≡ fromLastDue (shapeOf 0x7C3)
-unfolding shapeOf threeShape closes
+pub unit-last : true ≡ isLast (shapeOf 0x7C3)
+unfolding shapeOf threeShape legalChannel closes
 unit-last = refl
 
 -- past a header: a token that closes nothing, END or PAUSE, a token of a header or none
-pub stays : (w : ℕ) → closes w ≡ false → w < 0x1C2 → Body ≡ fromBody (shapeOf w)
+pub stays : (w : ℕ) → closes w ≡ false → w < 0x1C2 → Body ≡ step Body (shapeOf w)
 unfolding shapeOf
 stays w e h = rw (e, lt-ltb w 0x1C2 h)
 
-pub closed : (w : ℕ) → 0x101 ≤ w → w ≤ 0x102 → Fresh ≡ fromBody (shapeOf w)
+pub closed : (w : ℕ) → 0x101 ≤ w → w ≤ 0x102 → Fresh ≡ step Body (shapeOf w)
 unfolding shapeOf
 closed w h k = rw (closing-word w h k)
 
-three-bad : (m : ℕ) → Bad ≡ fromBody (threeShape m)
+three-bad : (m : ℕ) → Bad ≡ step Body (threeShape m)
 unfolding threeShape
 three-bad m =
     by-test (legalChannel m) (λ e. rw e)
     (λ e. rw e (by-test (ltb m 0x100) (λ f. rw f) (λ f. rw f (by-test (eqb m (controlWord ssctrl)) (λ g. rw g) (λ g. rw g)))))
 
-pub breaks : (w : ℕ) → 0x1C2 ≤ w → Bad ≡ fromBody (shapeOf w)
+pub breaks : (w : ℕ) → 0x1C2 ≤ w → Bad ≡ step Body (shapeOf w)
 unfolding shapeOf
 breaks w h =
     rw (open-word w (inr (omega arith)), le-ltb w 0x1C2 h)

@@ -1,99 +1,52 @@
 -- Where a walk over a port's tokens is, and where the next token takes it (document 01, "Sound").
 use Prim.Native.Nat.{ℕ, zero, suc}
-use mathlib.Core.Bool.{Bool, true, false}
+use mathlib.Core.Bool.{Bool, true, false, _||_}
 use lib.Dec.{eqb}
 use Rattle.laws.specs.Pick.{pick}
-use Rattle.tokens.specs.declared.word.Shape.{Shape}
-use Rattle.tokens.specs.declared.word.Shape.the-variants as S
+use Rattle.tokens.specs.Shape.{Shape}
+use Rattle.tokens.specs.Shape as S
 use Rattle.grammar.specs.declared.stage.Stage.{Stage}
 use Rattle.grammar.specs.declared.stage.Stage.the-variants.{Bad, Fresh, Body, OneDue, ThreeDue, TwoDue, LastDue}
 
--- "empty or starts with a header"
-abbrev pub fromFresh : Shape → Stage
-fromFresh S.Wrong = Bad
-fromFresh S.Body = Bad
-fromFresh S.Closing = Bad
-fromFresh S.OneByte = Body
-fromFresh S.ThreeByte = TwoDue
-fromFresh S.Channel = TwoDue
-fromFresh S.Unit = Bad
+-- each shape by a number of its own; the two are one shape
+abbrev pub shapeNumber : Shape → ℕ
+shapeNumber S.Wrong = 0
+shapeNumber S.Body = 1
+shapeNumber S.Closing = 2
+shapeNumber S.OneByte = 3
+shapeNumber S.ThreeByte = 4
+shapeNumber S.Channel = 5
+shapeNumber S.Unit = 6
 
--- "and so does what follows an END or PAUSE"
-abbrev pub fromBody : Shape → Stage
-fromBody S.Wrong = Bad
-fromBody S.Body = Body
-fromBody S.Closing = Fresh
-fromBody S.OneByte = Bad
-fromBody S.ThreeByte = Bad
-fromBody S.Channel = Bad
-fromBody S.Unit = Bad
-
--- "header tokens stand elsewhere only at the front of a circuit still sending its header outward or being dropped"
-abbrev pub fromOneDue : Shape → Stage
-fromOneDue S.Wrong = Bad
-fromOneDue S.Body = Bad
-fromOneDue S.Closing = Bad
-fromOneDue S.OneByte = Body
-fromOneDue S.ThreeByte = Bad
-fromOneDue S.Channel = Bad
-fromOneDue S.Unit = Bad
-
-abbrev pub fromThreeDue : Shape → Stage
-fromThreeDue S.Wrong = Bad
-fromThreeDue S.Body = Bad
-fromThreeDue S.Closing = Bad
-fromThreeDue S.OneByte = Bad
-fromThreeDue S.ThreeByte = TwoDue
-fromThreeDue S.Channel = TwoDue
-fromThreeDue S.Unit = Bad
-
-abbrev pub fromTwoDue : Shape → Stage
-fromTwoDue S.Wrong = Bad
-fromTwoDue S.Body = Bad
-fromTwoDue S.Closing = Bad
-fromTwoDue S.OneByte = Bad
-fromTwoDue S.ThreeByte = LastDue
-fromTwoDue S.Channel = LastDue
-fromTwoDue S.Unit = Bad
-
--- a header ends with a channel, or with SSCTRL
-abbrev pub fromLastDue : Shape → Stage
-fromLastDue S.Wrong = Bad
-fromLastDue S.Body = Bad
-fromLastDue S.Closing = Bad
-fromLastDue S.OneByte = Bad
-fromLastDue S.ThreeByte = Bad
-fromLastDue S.Channel = Body
-fromLastDue S.Unit = Body
-
-abbrev pub step : Stage → Shape → Stage
-step Bad c = Bad
-step Fresh c = fromFresh c
-step Body c = fromBody c
-step OneDue c = fromOneDue c
-step ThreeDue c = fromThreeDue c
-step TwoDue c = fromTwoDue c
-step LastDue c = fromLastDue c
-
--- a token of a three-byte header
-abbrev pub ofThree : Shape → Bool
-ofThree S.Wrong = false
-ofThree S.Body = false
-ofThree S.Closing = false
-ofThree S.OneByte = false
-ofThree S.ThreeByte = true
-ofThree S.Channel = true
-ofThree S.Unit = true
+abbrev pub sameShape : Shape → Shape → Bool
+sameShape a b = eqb (shapeNumber a) (shapeNumber b)
 
 -- a one-byte header
 abbrev pub ofOne : Shape → Bool
-ofOne S.Wrong = false
-ofOne S.Body = false
-ofOne S.Closing = false
-ofOne S.OneByte = true
-ofOne S.ThreeByte = false
-ofOne S.Channel = false
-ofOne S.Unit = false
+ofOne c = sameShape c S.OneByte
+
+-- a byte of a three-byte header, and what may be its last token: a channel, or SSCTRL
+abbrev pub isByte : Shape → Bool
+isByte c = sameShape c S.ThreeByte || sameShape c S.Channel
+
+abbrev pub isLast : Shape → Bool
+isLast c = sameShape c S.Channel || sameShape c S.Unit
+
+-- a token of a three-byte header
+abbrev pub ofThree : Shape → Bool
+ofThree c = isByte c || isLast c
+
+-- Where the next token leads; one that may not stand there breaks the rule, for good. "a port with no circuit is empty or starts with a
+-- header, and so does what follows an END or PAUSE; .. header tokens stand elsewhere only at the front of a circuit still sending its
+-- header outward or being dropped"
+abbrev pub step : Stage → Shape → Stage
+step Bad c = Bad
+step Fresh c = pick (ofOne c) Body (pick (isByte c) TwoDue Bad)
+step Body c = pick (sameShape c S.Body) Body (pick (sameShape c S.Closing) Fresh Bad)
+step OneDue c = pick (ofOne c) Body Bad
+step ThreeDue c = pick (isByte c) TwoDue Bad
+step TwoDue c = pick (isByte c) LastDue Bad
+step LastDue c = pick (isLast c) Body Bad
 
 -- where a circuit is with so many tokens of a three-byte header at its front; one tells whether it begins with a one-byte header
 abbrev pub due : ℕ → Bool → Stage

@@ -7,6 +7,7 @@ use Rattle.circuits.specs.declared.Hop.{Hop}
 use Rattle.circuits.specs.declared.Hop.the-variants.{Shut, Out, Channel, Unit, Dropped}
 use Rattle.tokens.specs.Shape.{shapeOf}
 use Rattle.grammar.specs.Stage.{step, ofThree, ofOne, due}
+use Rattle.grammar.specs.declared.port.Stages.{Stages}
 use Rattle.grammar.specs.declared.stage.Stage.{Stage}
 use Rattle.grammar.specs.declared.stage.Stage.the-variants.{Fresh, Body}
 
@@ -38,3 +39,7 @@ frontOf (Dropped c) q = lead q
 -- and past the last
 abbrev pub backOf : Hop → List ℕ → Stage
 backOf h q = walk (frontOf h q) q
+
+-- both
+abbrev pub stagesOf : Hop → List ℕ → Stages
+stagesOf h q = record { front = frontOf h q; back = backOf h q }

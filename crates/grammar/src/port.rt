@@ -7,11 +7,10 @@ use crate::stage::of_one;
 use crate::stage::of_three;
 use circuits::Hop;
 use ports::Counters;
-use tokens::word::shape_of;
 ghost use mathlib.Core.Path.{_≡_};
 ghost use lib.ListN.{length};
 ghost use Rattle.ports.specs.Queue.{capacity, Fair, contents};
-ghost use Rattle.grammar.specs.Walk.{walk, threes, beginsOne, lead, frontOf, backOf};
+ghost use Rattle.grammar.specs.Walk.{walk, threes, beginsOne, lead, frontOf, stagesOf};
 
 fn walk(stretch: &[u16], c: Counters, s: Stage) -> Stage
     requires { ⌜ Fair c × (length (now stretch) ≡ capacity) ⌝ }
@@ -34,7 +33,7 @@ fn threes(stretch: &[u16], c: Counters) -> u32
     let mut i = 0;
     while i < c.held {
         let k = ((c.head + i) % Counters::CAPACITY) as usize;
-        if !of_three(shape_of(stretch[k])) {
+        if !of_three(stretch[k]) {
             return i;
         }
         i += 1;
@@ -51,7 +50,7 @@ fn begins_one(stretch: &[u16], c: Counters) -> bool
         return false;
     }
     let k = c.head as usize;
-    of_one(shape_of(stretch[k]))
+    of_one(stretch[k])
 }
 
 // Where a circuit is that is sent on, or dropped, with what is left of its header.
@@ -62,8 +61,7 @@ fn lead(stretch: &[u16], c: Counters) -> Stage
     due(threes(stretch, c), begins_one(stretch, c))
 }
 
-// Where a port's circuit stands before the first token.
-pub fn front(h: Hop, stretch: &[u16], c: Counters) -> Stage
+fn front(h: Hop, stretch: &[u16], c: Counters) -> Stage
     requires { ⌜ Fair c × (length (now stretch) ≡ capacity) ⌝ }
     ensures { λ r. ⌜ r ≡ frontOf h (contents c (now (stretch .entry))) ⌝ }
 {
@@ -76,10 +74,19 @@ pub fn front(h: Hop, stretch: &[u16], c: Counters) -> Stage
     }
 }
 
-// And past the last.
-pub fn back(h: Hop, stretch: &[u16], c: Counters) -> Stage
+// Where a port's circuit stands before the first token, and past the last.
+pub struct Stages {
+    pub front: Stage,
+    pub back: Stage,
+}
+
+pub fn stages_of(h: Hop, stretch: &[u16], c: Counters) -> Stages
     requires { ⌜ Fair c × (length (now stretch) ≡ capacity) ⌝ }
-    ensures { λ r. ⌜ r ≡ backOf h (contents c (now (stretch .entry))) ⌝ }
+    ensures { λ r. ⌜ r ≡ stagesOf h (contents c (now (stretch .entry))) ⌝ }
 {
-    walk(stretch, c, front(h, stretch, c))
+    let at = front(h, stretch, c);
+    Stages {
+        front: at,
+        back: walk(stretch, c, at),
+    }
 }

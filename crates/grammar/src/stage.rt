@@ -1,9 +1,10 @@
 // Where a walk over a port's tokens is, and where the next token takes it.
-use tokens::word::Shape;
-use tokens::word::shape_of;
 ghost use mathlib.Core.Path.{_≡_};
+ghost use Rattle.laws.specs.Pick.{pick};
 ghost use Rattle.tokens.specs.Shape.{shapeOf};
-ghost use Rattle.grammar.specs.Stage.{step, fromFresh, fromBody, fromOneDue, fromThreeDue, fromTwoDue, fromLastDue, due, ofThree, ofOne, isBad, crossed, stageNumber, sameStage};
+ghost use Rattle.tokens.specs.Shape as S;
+ghost use Rattle.grammar.specs.Stage.{ofOne, isByte, isLast, ofThree, step, due, isBad, stageNumber, sameStage, crossed};
+ghost use Rattle.grammar.specs.declared.stage.Stage.the-variants.{Bad, Fresh, Body};
 
 pub enum Stage {
     // a rule was broken
@@ -22,107 +23,69 @@ pub enum Stage {
     LastDue,
 }
 
-fn from_fresh(c: Shape) -> Stage
-    ensures { λ r. ⌜ r ≡ fromFresh c ⌝ }
+// A one-byte header.
+pub fn of_one(word: u16) -> bool
+    ensures { λ r. ⌜ r ≡ ofOne (shapeOf word) ⌝ }
 {
-    match c {
-        Shape::Wrong => Stage::Bad,
-        Shape::Body => Stage::Bad,
-        Shape::Closing => Stage::Bad,
-        Shape::OneByte => Stage::Body,
-        Shape::ThreeByte => Stage::TwoDue,
-        Shape::Channel => Stage::TwoDue,
-        Shape::Unit => Stage::Bad,
+    match word {
+        0x0000..=0x01FF => false,
+        0x0200..=0x02FF => true,
+        0x0300..=0x05FF => false,
+        0x0600..=0x06FF => false,
+        0x0700..=0xFFFF => false,
     }
 }
 
-fn from_body(c: Shape) -> Stage
-    ensures { λ r. ⌜ r ≡ fromBody c ⌝ }
+// A byte of a three-byte header.
+fn is_byte(word: u16) -> bool
+    ensures { λ r. ⌜ r ≡ isByte (shapeOf word) ⌝ }
 {
-    match c {
-        Shape::Wrong => Stage::Bad,
-        Shape::Body => Stage::Body,
-        Shape::Closing => Stage::Fresh,
-        Shape::OneByte => Stage::Bad,
-        Shape::ThreeByte => Stage::Bad,
-        Shape::Channel => Stage::Bad,
-        Shape::Unit => Stage::Bad,
+    match word {
+        0x0000..=0x05FF => false,
+        0x0600..=0x06FF => true,
+        0x0700..=0xFFFF => false,
     }
 }
 
-fn from_one_due(c: Shape) -> Stage
-    ensures { λ r. ⌜ r ≡ fromOneDue c ⌝ }
+// What may be the last token of one: a channel, or SSCTRL.
+fn is_last(word: u16) -> bool
+    ensures { λ r. ⌜ r ≡ isLast (shapeOf word) ⌝ }
 {
-    match c {
-        Shape::Wrong => Stage::Bad,
-        Shape::Body => Stage::Bad,
-        Shape::Closing => Stage::Bad,
-        Shape::OneByte => Stage::Body,
-        Shape::ThreeByte => Stage::Bad,
-        Shape::Channel => Stage::Bad,
-        Shape::Unit => Stage::Bad,
+    match word {
+        0x0000..=0x05FF => false,
+        0x0600..=0x061F => true,
+        0x0620..=0x06FE => false,
+        0x06FF => true,
+        0x0700..=0x07C2 => false,
+        0x07C3 => true,
+        0x07C4..=0xFFFF => false,
     }
 }
 
-fn from_three_due(c: Shape) -> Stage
-    ensures { λ r. ⌜ r ≡ fromThreeDue c ⌝ }
+// A token of a three-byte header.
+pub fn of_three(word: u16) -> bool
+    ensures { λ r. ⌜ r ≡ ofThree (shapeOf word) ⌝ }
 {
-    match c {
-        Shape::Wrong => Stage::Bad,
-        Shape::Body => Stage::Bad,
-        Shape::Closing => Stage::Bad,
-        Shape::OneByte => Stage::Bad,
-        Shape::ThreeByte => Stage::TwoDue,
-        Shape::Channel => Stage::TwoDue,
-        Shape::Unit => Stage::Bad,
-    }
+    is_byte(word) | is_last(word)
 }
 
-fn from_two_due(c: Shape) -> Stage
-    ensures { λ r. ⌜ r ≡ fromTwoDue c ⌝ }
-{
-    match c {
-        Shape::Wrong => Stage::Bad,
-        Shape::Body => Stage::Bad,
-        Shape::Closing => Stage::Bad,
-        Shape::OneByte => Stage::Bad,
-        Shape::ThreeByte => Stage::LastDue,
-        Shape::Channel => Stage::LastDue,
-        Shape::Unit => Stage::Bad,
-    }
-}
-
-fn from_last_due(c: Shape) -> Stage
-    ensures { λ r. ⌜ r ≡ fromLastDue c ⌝ }
-{
-    match c {
-        Shape::Wrong => Stage::Bad,
-        Shape::Body => Stage::Bad,
-        Shape::Closing => Stage::Bad,
-        Shape::OneByte => Stage::Bad,
-        Shape::ThreeByte => Stage::Bad,
-        Shape::Channel => Stage::Body,
-        Shape::Unit => Stage::Body,
-    }
-}
-
-fn step(s: Stage, c: Shape) -> Stage
-    ensures { λ r. ⌜ r ≡ step s c ⌝ }
+// Plain data stands past a header and nowhere else.
+fn plain_next(s: Stage) -> Stage
+    ensures { λ r. ⌜ r ≡ step s S.Body ⌝ }
 {
     match s {
         Stage::Bad => Stage::Bad,
-        Stage::Fresh => from_fresh(c),
-        Stage::Body => from_body(c),
-        Stage::OneDue => from_one_due(c),
-        Stage::ThreeDue => from_three_due(c),
-        Stage::TwoDue => from_two_due(c),
-        Stage::LastDue => from_last_due(c),
+        Stage::Fresh => Stage::Bad,
+        Stage::Body => Stage::Body,
+        Stage::OneDue => Stage::Bad,
+        Stage::ThreeDue => Stage::Bad,
+        Stage::TwoDue => Stage::Bad,
+        Stage::LastDue => Stage::Bad,
     }
 }
 
-// The same for the four stages that most words meet, by the word itself: it need not be given a shape first.
 fn body_next(word: u16) -> Stage
-    ensures { λ r. ⌜ r ≡ fromBody (shapeOf word) ⌝ }
+    ensures { λ r. ⌜ r ≡ step Body (shapeOf word) ⌝ }
 {
     match word {
         0x0000..=0x0100 => Stage::Body,
@@ -133,54 +96,39 @@ fn body_next(word: u16) -> Stage
 }
 
 fn fresh_next(word: u16) -> Stage
-    ensures { λ r. ⌜ r ≡ fromFresh (shapeOf word) ⌝ }
+    ensures { λ r. ⌜ r ≡ step Fresh (shapeOf word) ⌝ }
 {
-    match word {
-        0x0000..=0x01FF => Stage::Bad,
-        0x0200..=0x02FF => Stage::Body,
-        0x0300..=0x05FF => Stage::Bad,
-        0x0600..=0x06FF => Stage::TwoDue,
-        0x0700..=0xFFFF => Stage::Bad,
+    if of_one(word) {
+        return Stage::Body;
     }
+    only(is_byte(word), Stage::TwoDue)
 }
 
-fn two_due_next(word: u16) -> Stage
-    ensures { λ r. ⌜ r ≡ fromTwoDue (shapeOf word) ⌝ }
+// One kind of token may come.
+fn only(comes: bool, to: Stage) -> Stage
+    ensures { λ r. ⌜ r ≡ pick comes to Bad ⌝ }
 {
-    match word {
-        0x0000..=0x05FF => Stage::Bad,
-        0x0600..=0x06FF => Stage::LastDue,
-        0x0700..=0xFFFF => Stage::Bad,
+    if comes {
+        return to;
     }
+    Stage::Bad
 }
 
-fn last_due_next(word: u16) -> Stage
-    ensures { λ r. ⌜ r ≡ fromLastDue (shapeOf word) ⌝ }
-{
-    match word {
-        0x0000..=0x05FF => Stage::Bad,
-        0x0600..=0x061F => Stage::Body,
-        0x0620..=0x06FE => Stage::Bad,
-        0x06FF => Stage::Body,
-        0x0700..=0x07C2 => Stage::Bad,
-        0x07C3 => Stage::Body,
-        0x07C4..=0xFFFF => Stage::Bad,
-    }
-}
-
-// Where the next word takes a walk. Most words are plain data.
+// Where the next word takes a walk: it need not be given a shape first. Most words are plain data.
 pub fn next(s: Stage, word: u16) -> Stage
     ensures { λ r. ⌜ r ≡ step s (shapeOf word) ⌝ }
 {
     if word <= 0x0100 {
-        return step(s, Shape::Body);
+        return plain_next(s);
     }
     match s {
-        Stage::Body => body_next(word),
+        Stage::Bad => Stage::Bad,
         Stage::Fresh => fresh_next(word),
-        Stage::TwoDue => two_due_next(word),
-        Stage::LastDue => last_due_next(word),
-        _ => step(s, shape_of(word)),
+        Stage::Body => body_next(word),
+        Stage::OneDue => only(of_one(word), Stage::Body),
+        Stage::ThreeDue => only(is_byte(word), Stage::TwoDue),
+        Stage::TwoDue => only(is_byte(word), Stage::LastDue),
+        Stage::LastDue => only(is_last(word), Stage::Body),
     }
 }
 
@@ -203,21 +151,6 @@ pub fn due(threes: u32, one: bool) -> Stage
     }
 }
 
-// A token of a three-byte header.
-pub fn of_three(c: Shape) -> bool
-    ensures { λ r. ⌜ r ≡ ofThree c ⌝ }
-{
-    match c {
-        Shape::Wrong => false,
-        Shape::Body => false,
-        Shape::Closing => false,
-        Shape::OneByte => false,
-        Shape::ThreeByte => true,
-        Shape::Channel => true,
-        Shape::Unit => true,
-    }
-}
-
 pub fn is_bad(s: Stage) -> bool
     ensures { λ r. ⌜ r ≡ isBad s ⌝ }
 {
@@ -229,21 +162,6 @@ pub fn is_bad(s: Stage) -> bool
         Stage::ThreeDue => false,
         Stage::TwoDue => false,
         Stage::LastDue => false,
-    }
-}
-
-// A one-byte header.
-pub fn of_one(c: Shape) -> bool
-    ensures { λ r. ⌜ r ≡ ofOne c ⌝ }
-{
-    match c {
-        Shape::Wrong => false,
-        Shape::Body => false,
-        Shape::Closing => false,
-        Shape::OneByte => true,
-        Shape::ThreeByte => false,
-        Shape::Channel => false,
-        Shape::Unit => false,
     }
 }
 

@@ -1,8 +1,9 @@
 // Credits on a link of the state (document 01, "Credits"): a grant is considered, HELLO is said, a link
 // is disabled. What a grant is, is crate credits' rule.
 use cells::link;
+use cells::link::Cable;
 use cells::link::Far;
-use cells::link::Link;
+use cells::link::Flow;
 use cells::link::far_of;
 use cells::port;
 use clauses::cables::far_enabled;
@@ -15,7 +16,7 @@ ghost use Rattle.cells.specs.View.{view};
 ghost use Rattle.grants.specs.Grants.{farHeld, grantTo, granted, considered, silenced, greeting, helloed, helloGrant, Leads, Cabled, farSilenced, disabled};
 
 // The tokens held at the far end; none where the cable leads nowhere.
-fn far_held(st: &[u32], k: Link) -> u32
+fn far_held(st: &[u32], k: Cable) -> u32
     ensures { λ r. ⌜ r ≡ farHeld (view (now (st .entry))) k ⌝ }
 {
     match far_of(k) {
@@ -28,11 +29,11 @@ fn far_held(st: &[u32], k: Link) -> u32
 }
 
 // What a link is granted when a grant is considered.
-fn grant_to(st: &[u32], k: Link) -> u32
-    ensures { λ r. ⌜ r ≡ grantTo (view (now (st .entry))) k ⌝ }
+fn grant_to(st: &[u32], k: Cable, f: Flow) -> u32
+    ensures { λ r. ⌜ r ≡ grantTo (view (now (st .entry))) k f ⌝ }
 {
-    if k.greeted == 1 {
-        return grant(k.credit, far_held(st, k));
+    if f.greeted == 1 {
+        return grant(f.credit, far_held(st, k));
     }
     0
 }
@@ -42,24 +43,25 @@ pub fn consider(st: &mut [u32], slot: Slot, l: usize) -> u32
     requires { ⌜ (slot .0 < view (now st) .nodes) × (l < links) ⌝ }
     ensures { λ r. ⌜ (r ≡ granted (view (now (st .entry))) (slot .0) l) × (view (now (st .exit)) ≡ considered (view (now (st .entry))) (slot .0) l) ⌝ }
 {
-    let mut k = link::at(st, slot, l);
-    let g = grant_to(st, k);
-    k.credit = k.credit + g;
-    link::put(st, slot, l, k);
+    let k = link::at(st, slot, l);
+    let mut f = k.flow;
+    let g = grant_to(st, k.cable, f);
+    f.credit = f.credit + g;
+    link::put_flow(st, slot, l, f);
     g
 }
 
-// The link as HELLO leaves it before any grant.
-fn greet(st: &[u32], k: Link) -> Link
+// A link as HELLO leaves it before any grant.
+fn greeting(st: &[u32], k: Cable) -> Flow
     ensures { λ r. ⌜ r ≡ greeting (view (now (st .entry))) k ⌝ }
 {
-    let mut j = k;
-    j.credit = 0;
-    j.greeted = 0;
     if far_enabled(st, k) {
-        j.greeted = 1;
+        return Flow {
+            greeted: 1,
+            credit: 0,
+        };
     }
-    j
+    SILENCED
 }
 
 // HELLO on an enabled link: the answer is the grant.
@@ -67,20 +69,17 @@ pub fn hello(st: &mut [u32], slot: Slot, l: usize) -> u32
     requires { ⌜ (slot .0 < view (now st) .nodes) × (l < links) ⌝ }
     ensures { λ r. ⌜ (r ≡ helloGrant (view (now (st .entry))) (slot .0) l) × (view (now (st .exit)) ≡ helloed (view (now (st .entry))) (slot .0) l) ⌝ }
 {
-    let k = greet(st, link::at(st, slot, l));
-    link::put(st, slot, l, k);
+    let k = link::at(st, slot, l);
+    let f = greeting(st, k.cable);
+    link::put_flow(st, slot, l, f);
     consider(st, slot, l)
 }
 
 // "zeroes and un-greets"
-fn silence(k: Link) -> Link
-    ensures { λ r. ⌜ r ≡ silenced k ⌝ }
-{
-    let mut j = k;
-    j.credit = 0;
-    j.greeted = 0;
-    j
-}
+const SILENCED: Flow = Flow {
+    greeted: 0,
+    credit: 0,
+};
 
 // The far end of a cable is zeroed and un-greeted, and stays enabled.
 fn silence_far(st: &mut [u32], f: Far)
@@ -89,11 +88,7 @@ fn silence_far(st: &mut [u32], f: Far)
 {
     match f {
         Far::Nowhere => {}
-        Far::At(m, j) => {
-            let before = link::at(st, m, j);
-            let after = silence(before);
-            link::put(st, m, j, after);
-        }
+        Far::At(m, j) => link::put_flow(st, m, j, SILENCED),
     }
 }
 
@@ -102,8 +97,10 @@ pub fn disable(st: &mut [u32], slot: Slot, l: usize)
     requires { ⌜ (slot .0 < view (now st) .nodes) × (l < links) × Cabled (view (now st)) (slot .0) l ⌝ }
     ensures { λ r. ⌜ view (now (st .exit)) ≡ disabled (view (now (st .entry))) (slot .0) l ⌝ }
 {
-    let mut k = silence(link::at(st, slot, l));
-    k.enabled = 0;
-    link::put(st, slot, l, k);
-    silence_far(st, far_of(k));
+    let k = link::at(st, slot, l);
+    let mut x = k.setup;
+    x.enabled = 0;
+    link::put_flow(st, slot, l, SILENCED);
+    link::put_setup(st, slot, l, x);
+    silence_far(st, far_of(k.cable));
 }

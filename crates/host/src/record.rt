@@ -15,7 +15,7 @@ use cells::unit;
 use names::Slot;
 ghost use mathlib.Core.Path.{_≡_};
 ghost use Rattle.cells.specs.Records.{fromNode, fromLink, fromPort, fromTile, fromEnd, fromUnit};
-ghost use Rattle.cells.specs.View.{view};
+ghost use Rattle.cells.specs.View.{view, wholeLink, wholePort, wholeEnd, wholeUnit};
 ghost use Rattle.host.specs.Crossed.{shown, showing};
 
 #[no_mangle]
@@ -31,7 +31,7 @@ pub extern "C" fn tarvelgyo_node(st: &[u32], slot: usize, out: &mut [u32]) -> bo
 
 #[no_mangle]
 pub extern "C" fn tarvelgyo_link(st: &[u32], slot: usize, l: usize, out: &mut [u32]) -> bool
-    ensures { λ r. ⌜ shown r (now (out .exit)) ≡ showing (fromLink (view (now (st .entry)) .links slot l)) (now (out .entry)) ⌝ }
+    ensures { λ r. ⌜ shown r (now (out .exit)) ≡ showing (fromLink (wholeLink (view (now (st .entry))) slot l)) (now (out .entry)) ⌝ }
 {
     if out.len() != LINK.size {
         return false;
@@ -42,7 +42,7 @@ pub extern "C" fn tarvelgyo_link(st: &[u32], slot: usize, l: usize, out: &mut [u
 
 #[no_mangle]
 pub extern "C" fn tarvelgyo_port(st: &[u32], slot: usize, p: usize, out: &mut [u32]) -> bool
-    ensures { λ r. ⌜ shown r (now (out .exit)) ≡ showing (fromPort (view (now (st .entry)) .ports slot p)) (now (out .entry)) ⌝ }
+    ensures { λ r. ⌜ shown r (now (out .exit)) ≡ showing (fromPort (wholePort (view (now (st .entry))) slot p)) (now (out .entry)) ⌝ }
 {
     if out.len() != PORT.size {
         return false;
@@ -64,7 +64,7 @@ pub extern "C" fn tarvelgyo_tile_link(st: &[u32], slot: usize, t: usize, out: &m
 
 #[no_mangle]
 pub extern "C" fn tarvelgyo_channel_end(st: &[u32], slot: usize, c: usize, out: &mut [u32]) -> bool
-    ensures { λ r. ⌜ shown r (now (out .exit)) ≡ showing (fromEnd (view (now (st .entry)) .ends slot c)) (now (out .entry)) ⌝ }
+    ensures { λ r. ⌜ shown r (now (out .exit)) ≡ showing (fromEnd (wholeEnd (view (now (st .entry))) slot c)) (now (out .entry)) ⌝ }
 {
     if out.len() != END.size {
         return false;
@@ -75,7 +75,7 @@ pub extern "C" fn tarvelgyo_channel_end(st: &[u32], slot: usize, c: usize, out: 
 
 #[no_mangle]
 pub extern "C" fn tarvelgyo_control_unit(st: &[u32], slot: usize, out: &mut [u32]) -> bool
-    ensures { λ r. ⌜ shown r (now (out .exit)) ≡ showing (fromUnit (view (now (st .entry)) .units slot 0)) (now (out .entry)) ⌝ }
+    ensures { λ r. ⌜ shown r (now (out .exit)) ≡ showing (fromUnit (wholeUnit (view (now (st .entry))) slot)) (now (out .entry)) ⌝ }
 {
     if out.len() != UNIT.size {
         return false;

@@ -10,8 +10,8 @@ use lib.Dec.{eqb, ltb, leb}
 use borrow.Author.Tests.{eqb-true, eq-eqb, ltb-true, lt-ltb, leb-true, le-leb, not-true, not-false}
 use mathlib.Core.List.{List, [], _∷_}
 use lib.ListN.{length, getD}
-use Rattle.laws.specs.All.{all, failing, every, Means, Each}
-use Rattle.laws.proofs.Order.{by-test, clash}
+use Rattle.laws.specs.All.{all, first, NoneBelow, failing, every, Means, Each}
+use Rattle.laws.proofs.Order.{by-test, order, clash}
 
 and-left : (a b : Bool) → (a && b) ≡ true → a ≡ true
 and-left true b e = refl
@@ -118,6 +118,49 @@ loop-goes f i {b} a e h = all-more f i a (sym e ∙ not-false b h)
 
 pub loop-ends : (f : ℕ → Bool) (n i : ℕ) {m : ℕ} → m ≡ n → i ≤ m → m ≤ i → all i f ≡ true → true ≡ all n f
 loop-ends f n i q l h a = sym (all-done f n i (omega arith) (omega arith) a)
+
+-- The first place that passes: none before it does, and it does where there is one
+pub first-least : (f : ℕ → Bool) (n : ℕ) → NoneBelow f (first n f)
+unfolding first
+first-least f zero j l = absurd (omega arith)
+first-least f (suc n) j l =
+    by-test (f 0) (λ e. absurd (nothing j (rw e at l))) (λ e. later j e (first-least (λ i. f (suc i)) n) (rw e at l))
+  where
+    nothing : (j : ℕ) → j < 0 → ⊥
+    nothing j l = omega arith
+
+    later : (j : ℕ) → f 0 ≡ false → NoneBelow (λ i. f (suc i)) (first n (λ i. f (suc i))) → j < suc (first n (λ i. f (suc i))) → f j ≡ false
+    later zero e h l = e
+    later (suc j) e h l = h j (omega arith)
+
+pub first-passes : (f : ℕ → Bool) (n : ℕ) → first n f < n → f (first n f) ≡ true
+unfolding first
+first-passes f zero l = absurd (omega arith)
+first-passes f (suc n) l =
+    by-test (f 0) (λ e. rw e e) (λ e. rw e (first-passes (λ i. f (suc i)) n (below-suc (rw e at l))))
+  where
+    below-suc : {i : ℕ} → suc i < suc n → i < n
+    below-suc l = omega arith
+
+-- where none passes it is the bound
+pub first-none : (f : ℕ → Bool) (n : ℕ) → NoneBelow f n → first n f ≡ n
+unfolding first
+first-none f zero h = refl
+first-none f (suc n) h = rw (h 0 (omega arith)) (ap suc (first-none (λ j. f (suc j)) n (λ j k. h (suc j) (omega arith))))
+
+pub first-found : (f : ℕ → Bool) (n : ℕ) → (first n f ≡ n → ⊥) → first n f < n
+first-found f n ne = ⊎-elim (λ l. l) (λ l. absurd (ne (first-none f n (λ j k. first-least f n j (omega arith))))) (order (first n f) n)
+
+-- .. as a loop seeks it, with none of the places below i passing
+pub none-more : (f : ℕ → Bool) (i : ℕ) → NoneBelow f i → f i ≡ false → NoneBelow f (i + 1)
+none-more f i h e j l = elim (ℕ-discrete j i) [ yes d ↦ rw d e | no d ↦ h j (omega arith) ]
+
+pub first-here : (f : ℕ → Bool) (n i : ℕ) → i < n → NoneBelow f i → f i ≡ true → first n f ≡ i
+unfolding first
+first-here f zero i l h e = absurd (omega arith)
+first-here f (suc n) zero l h e = rw e
+first-here f (suc n) (suc i) l h e =
+    rw (h 0 (omega arith)) (ap suc (first-here (λ j. f (suc j)) n i (omega arith) (λ j k. h (suc j) (omega arith)) e))
 
 -- The first test that fails, as a loop seeks it, with k tests passed: where one fails it is that one, and where none does, all hold
 pub failing-start : (f : ℕ → Bool) (n : ℕ) → failing (n - 0) 0 f ≡ failing n 0 f

@@ -1,6 +1,6 @@
 -- Laws of a table by node and place: the entry that was changed, any other, and what holds of all. Assumes nothing.
 use Prim.Native.Nat.{ℕ}
-use mathlib.Core.Path.{_≡_, refl}
+use mathlib.Core.Path.{_≡_, refl, fun-ext}
 use mathlib.Core.Bool.{Bool, true, false, _&&_}
 use native.Mathlib.Decide.{ℕ-discrete}
 use lib.Dec.{eqb}
@@ -38,3 +38,8 @@ pub upd-all : {A : Type 0} (P : ℕ → ℕ → A → Type 0) (f : ℕ → ℕ �
     → P m j (upd f n i a m j)
 upd-all P f n i a m j h k =
     place n i m j (λ d e. rw (upd-hit f n i a m j d e) (h d e)) (λ o. rw (upd-miss f n i a m j o) (k o))
+
+-- an entry written as it was changes nothing
+pub upd-own : {A : Type 0} (f : ℕ → ℕ → A) (n i : ℕ) → upd f n i (f n i) ≡ f
+upd-own f n i =
+    fun-ext (λ m. fun-ext (λ j. upd-all (λ a b x. x ≡ f a b) f n i (f n i) m j (λ d e. rw (d, e)) (λ o. refl)))

@@ -1,8 +1,8 @@
 -- A test at every index below a bound, and what a test means.
 use Prim.{Unit}
-use Prim.Native.Nat.{ℕ, zero, suc}
+use Prim.Native.Nat.{ℕ, zero, suc, _<_}
 use mathlib.Core.Path.{_≡_}
-use mathlib.Core.Bool.{Bool, true, _&&_}
+use mathlib.Core.Bool.{Bool, true, false, _&&_}
 use mathlib.Core.List.{List, [], _∷_}
 use Rattle.laws.specs.Pick.{pick}
 
@@ -10,6 +10,15 @@ use Rattle.laws.specs.Pick.{pick}
 unfoldable pub all : ℕ → (ℕ → Bool) → Bool
 all zero f = true
 all (suc n) f = all n f && f n
+
+-- the first of 0, 1, .. n - 1 that passes; n where none does
+unfoldable pub first : ℕ → (ℕ → Bool) → ℕ
+first zero f = 0
+first (suc n) f = pick (f 0) 0 (suc (first n (λ i. f (suc i))))
+
+-- no place below i passes
+abbrev pub NoneBelow : (ℕ → Bool) → ℕ → Type 0
+NoneBelow f i = (j : ℕ) → j < i → f j ≡ false
 
 -- the first index from k on at which f fails, among m; k + m where none does
 unfoldable pub failing : ℕ → ℕ → (ℕ → Bool) → ℕ

@@ -26,11 +26,11 @@ inRing s h i = getD s ((h % capacity + i) % capacity) 0
 unfoldable pub portToken : World → ℕ → ℕ → ℕ → Seen
 portToken w n p i =
     pick
-    (ltb n (length (w .memory) / (ports * capacity)) && (ltb p ports && (ltb i (w .net .ports n p .counters .held) && ltb i capacity)))
-    (Token (inRing (stretch (w .memory) (place n p)) (w .net .ports n p .counters .head) i))
+    (ltb n (length (w .memory) / (ports * capacity)) && (ltb p ports && (ltb i (w .net .ports .counters n p .held) && ltb i capacity)))
+    (Token (inRing (stretch (w .memory) (place n p)) (w .net .ports .counters n p .head) i))
     Nothing
 
 -- the i-th token held in a channel-end, oldest first, if it holds so many
 unfoldable pub endToken : Net → ℕ → ℕ → ℕ → Seen
 endToken s n c i =
-    pick (ltb i endBuffer && ltb i (s .ends n c .held)) (Token (getD (s .ends n c .tokens) i 0)) Nothing
+    pick (ltb i endBuffer && ltb i (s .ends .buffers n c .held)) (Token (getD (s .ends .buffers n c .tokens) i 0)) Nothing

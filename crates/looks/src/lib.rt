@@ -72,9 +72,9 @@ pub fn end_token(st: &[u32], slot: Slot, c: usize, i: usize) -> Seen
     if i >= END_BUFFER {
         return Seen::Nothing;
     }
-    if i >= k.held as usize {
+    if i >= k.buffer.held as usize {
         return Seen::Nothing;
     }
-    let t = k.tokens;
+    let t = k.buffer.tokens;
     Seen::Token(t[i])
 }

@@ -31,4 +31,4 @@ module _ (P : Answer → Type 0) (moved : P Answers.Moved) (malformed : P Answer
 
   pub end-answers : (w : World) (n x : ℕ) → P (ended w n x .answer)
   unfolding ended
-  end-answers w n x = of-message w n (messageOf (w .net .units n 0) x)
+  end-answers w n x = of-message w n (messageOf (w .net .units .hearings n 0) x)

@@ -19,8 +19,8 @@ use Rattle.routing.specs.declared.direction.Directions.{Directions}
 use Rattle.routing.proofs.Entries.{entry-same, entry-other}
 use Rattle.cells.specs.View.{Net}
 use Rattle.cells.specs.declared.node.Node.{Node}
-use Rattle.cells.specs.declared.link.Link.{Link}
-use Rattle.grants.specs.Grants.{helloed, considered, greets}
+use Rattle.cells.specs.declared.link.Setup.{Setup}
+use Rattle.grants.specs.Grants.{helloed, considered}
 use Rattle.settings.specs.Set.{setMade, set}
 use Rattle.settings.specs.declared.Setting.{Setting}
 use Rattle.settings.specs.declared.Setting.the-variants.{Number, Width, Direction, LinkDirection, Network, Enable, Hello}
@@ -62,7 +62,8 @@ module _ (s : Net) (n : ℕ) where
   own-after : (x : Setting) (k : Node) → passesSet s n x ≡ true → setMade s n x .own n 0 ≡ k → set s n x .next .own n 0 ≡ k
   own-after x k e h = rw (made-next s n x e) h
 
-  link-after : (l : ℕ) (x : Setting) (k : Link) → passesSet s n x ≡ true → setMade s n x .links n l ≡ k → set s n x .next .links n l ≡ k
+  link-after : (l : ℕ) (x : Setting) (k : Setup) → passesSet s n x ≡ true → setMade s n x .links .setups n l ≡ k
+      → set s n x .next .links .setups n l ≡ k
   link-after l x k e h = rw (made-next s n x e) h
 
 -- short headers
@@ -113,36 +114,35 @@ route-back : (d v : ℕ) → d < 16 → v < 4 → (((d % 16 * 256 + v % 4 * 16) 
 route-back d v h k = (omega arith, omega arith)
 
 module _ (s : Net) (n l d v : ℕ) (e : accepted s n (LinkDirection l d ∷ Network l v ∷ []) ≡ true) where
-  route-link : (madeAll s n (LinkDirection l d ∷ Network l v ∷ []) .links n l .direction ≡ d) × (madeAll s n (LinkDirection l d ∷ Network l v ∷ []) .links n l .network ≡ v)
+  route-link : let k = madeAll s n (LinkDirection l d ∷ Network l v ∷ []) .links .setups n l in (k .direction ≡ d) × (k .network ≡ v)
   route-link =
       let y = set s n (LinkDirection l d) .next in
       let a = first-of (passesSet s n (LinkDirection l d)) _ e in
       let b = first-of (passesSet y n (Network l v)) true (rw a at e) in
-      let p : y .links n l .direction ≡ d = ap (λ (k : Link). k .direction) (link-after s n l (LinkDirection l d) _ a (upd-same (s .links) n l _)) in
-      let q = link-after y n l (Network l v) _ b (upd-same (y .links) n l _) in
-      (ap (λ (k : Link). k .direction) q ∙ p, ap (λ (k : Link). k .network) q)
+      let p = link-after s n l (LinkDirection l d) _ a (upd-same (s .links .setups) n l _) in
+      let q = link-after y n l (Network l v) _ b (upd-same (y .links .setups) n l _) in
+      (ap (λ (k : Setup). k .direction) q ∙ ap (λ (k : Setup). k .direction) p, ap (λ (k : Setup). k .network) q)
 
 -- a link enabled or not
-hello-keeps : (s : Net) (n l : ℕ) → helloed s n l .links n l .enabled ≡ s .links n l .enabled
+hello-keeps : (s : Net) (n l : ℕ) → helloed s n l .links .setups n l .enabled ≡ s .links .setups n l .enabled
 unfolding helloed considered
-hello-keeps s n l =
-    ap (λ (k : Link). k .enabled) (upd-same (greets s n l .links) n l _) ∙ ap (λ (k : Link). k .enabled) (upd-same (s .links) n l _)
+hello-keeps s n l = refl
 
-enable-link : (s : Net) (n l b : ℕ) → b < 2 → setMade s n (Enable l b) .links n l .enabled ≡ b
+enable-link : (s : Net) (n l b : ℕ) → b < 2 → setMade s n (Enable l b) .links .setups n l .enabled ≡ b
 enable-link s n l b h =
     by-test (eqb b 0)
     (λ e. rw (eqb-true b 0 e) (off s n l))
-    (λ e. rw e (ap (λ (k : Link). k .enabled) (upd-same (s .links) n l _) ∙ one b h (eqb-false b 0 e)))
+    (λ e. rw e (ap (λ (k : Setup). k .enabled) (upd-same (s .links .setups) n l _) ∙ one b h (eqb-false b 0 e)))
   where
     one : (b : ℕ) → b < 2 → (b ≡ 0 → ⊥) → 1 ≡ b
     one b h k = omega arith
 
 module _ (s : Net) (n l b : ℕ) (hb : b < 2) where
-  enabled-link : accepted s n (Enable l b ∷ []) ≡ true → madeAll s n (Enable l b ∷ []) .links n l .enabled ≡ b
+  enabled-link : accepted s n (Enable l b ∷ []) ≡ true → madeAll s n (Enable l b ∷ []) .links .setups n l .enabled ≡ b
   enabled-link e =
       rw (made-next s n (Enable l b) (first-of (passesSet s n (Enable l b)) true e)) (enable-link s n l b hb)
 
-  greeted-link : accepted s n (Enable l b ∷ Hello l ∷ []) ≡ true → madeAll s n (Enable l b ∷ Hello l ∷ []) .links n l .enabled ≡ b
+  greeted-link : accepted s n (Enable l b ∷ Hello l ∷ []) ≡ true → madeAll s n (Enable l b ∷ Hello l ∷ []) .links .setups n l .enabled ≡ b
   greeted-link e =
       let y = set s n (Enable l b) .next in
       let a = first-of (passesSet s n (Enable l b)) _ e in
@@ -156,7 +156,7 @@ bit-in : (v a : ℕ) → v / 2 ^ a % 2 < 2
 bit-in v a = omega arith
 
 module _ (s : Net) (n : ℕ) (hn : n < s .nodes) where
-  state-reads : (l v : ℕ) (xs : List Setting) → lasting xs ≡ Enable l (bits 31 1 v) ∷ [] → madeAll s n xs .links n l .enabled ≡ bits 31 1 v
+  state-reads : (l v : ℕ) (xs : List Setting) → lasting xs ≡ Enable l (bits 31 1 v) ∷ [] → madeAll s n xs .links .setups n l .enabled ≡ bits 31 1 v
       → fieldsOf (R.State l) (readOf (madeAll s n xs) n (R.State l)) ≡ lasting xs
   state-reads l v xs e h =
       let z = state-back (bits 31 1 v) (bit-in v 31) in

@@ -11,10 +11,12 @@ use Rattle.tokens.specs.declared.header.Header.{Header}
 use Rattle.tokens.specs.declared.header.Header.the-variants as H
 use Rattle.cells.specs.View.{Net}
 use Rattle.cells.specs.World.{World}
-use Rattle.acts.specs.Acts.{Room, pushedAll, withNet}
+use Rattle.acts.specs.Acts.{pushedAll, withNet}
+use Rattle.acts.specs.Needs.{Room}
 use Rattle.acts.proofs.Pushes.{less, room-all}
 use Rattle.settings.proofs.Leaves.{Leaves}
-use Rattle.messages.specs.Ended.{said, longest}
+use Rattle.messages.specs.Ended.{said}
+use Rattle.messages.specs.Needs.{longest}
 use Rattle.messages.specs.declared.reply.Reply.{Reply}
 use Rattle.messages.specs.declared.reply.Reply.the-variants.{Nack, Ack, Value}
 

@@ -10,17 +10,16 @@ use borrow.Author.Tests.{eq-eqb, ne-eqb, lt-ltb}
 use Rattle.laws.specs.Row.{tab}
 use Rattle.laws.specs.All.{Means}
 use Rattle.laws.proofs.Order.{by-test, clash}
-use Rattle.laws.proofs.Table.{upd-same, upd-all}
+use Rattle.laws.proofs.Table.{upd-same}
 use Rattle.names.specs.Size.{links}
 use Rattle.names.specs.No.{passes}
 use Rattle.routing.specs.Direction.{field}
 use Rattle.answers.specs.Answer.{numberOf}
 use Rattle.answers.specs.Rows.{refusal, Passes}
 use Rattle.answers.proofs.Refusals.{passed}
-use Rattle.cells.specs.View.{Net, withLink}
+use Rattle.cells.specs.View.{Net, withFlow, withSetup}
 use Rattle.cells.specs.World.{farOf}
 use Rattle.cells.specs.Changes.{enabledAs}
-use Rattle.cells.specs.declared.link.Link.{Link}
 use Rattle.cells.specs.declared.link.Far.{Far}
 use Rattle.cells.specs.declared.link.Far.the-variants.{Nowhere, At}
 use Rattle.clauses.specs.Cables.{enabled}
@@ -144,12 +143,12 @@ module _ (s : Net) (n l d v : ℕ) (hd : d < 16) where
   network-passes : passesSet s n (Network l v) ≡ true → passesSet (set s n (LinkDirection l d) .next) n (Network l v) ≡ true
   network-passes e =
       let z = set-passes s n (Network l v) .sure e in
-      rw (made-next s n (LinkDirection l d) (direction-passes e)) (set-passes (setMade s n (LinkDirection l d)) n (Network l v) .back (z .0, (z .1 .0, (rw (upd-same (s .links) n l _) (z .1 .1 .0), tt))))
+      rw (made-next s n (LinkDirection l d) (direction-passes e)) (set-passes (setMade s n (LinkDirection l d)) n (Network l v) .back (z .0, (z .1 .0, (rw (upd-same (s .links .setups) n l _) (z .1 .1 .0), tt))))
 
   passed-before : passesSet s n (LinkDirection l d) ≡ true → passesSet (set s n (LinkDirection l d) .next) n (Network l v) ≡ true → passesSet s n (Network l v) ≡ true
   passed-before q r =
       let z = set-passes (setMade s n (LinkDirection l d)) n (Network l v) .sure (rw (made-next s n (LinkDirection l d) q) at r) in
-      set-passes s n (Network l v) .back (z .0, (z .1 .0, (rw (upd-same (s .links) n l _) at (z .1 .1 .0), tt)))
+      set-passes s n (Network l v) .back (z .0, (z .1 .0, (rw (upd-same (s .links .setups) n l _) at (z .1 .1 .0), tt)))
 
   pub route-refused : passesSet s n (Network l v) ≡ false → Written s n (LinkDirection l d ∷ Network l v ∷ []) false s
   route-refused e =
@@ -165,14 +164,15 @@ module _ (s : Net) (n l d v : ℕ) (hd : d < 16) where
 
 -- a link enabled, and HELLO
 module _ (s : Net) (n l : ℕ) where
-  silenced-far : (z : Net) (f : Far) → z .links n l .enabled ≡ 0 → farSilenced z f .links n l .enabled ≡ 0
-  silenced-far z Nowhere e = e
-  silenced-far z (At m j) e =
-      upd-all (λ a b (k : Link). z .links a b .enabled ≡ 0 → k .enabled ≡ 0) (z .links) (m .0) j (silenced (z .links (m .0) j)) n l (λ d q h. rw (← d, ← q) h) (λ o h. h) e
+  silenced-far : (z : Net) (f : Far) → farSilenced z f .links .setups ≡ z .links .setups
+  silenced-far z Nowhere = refl
+  silenced-far z (At m j) = refl
 
-  pub off : disabled s n l .links n l .enabled ≡ 0
+  pub off : disabled s n l .links .setups n l .enabled ≡ 0
   unfolding disabled
-  off = silenced-far (withLink s n l (enabledAs (silenced (s .links n l)) 0)) (farOf (s .links n l)) (ap (λ (k : Link). k .enabled) (upd-same (s .links) n l _))
+  off =
+      let z = withSetup (withFlow s n l silenced) n l (enabledAs (s .links .setups n l) 0) in
+      rw (silenced-far z (farOf (s .links .cables n l)), upd-same (s .links .setups) n l (enabledAs (s .links .setups n l) 0))
 
   -- HELLO on a link that was just disabled
   pub hello-refused : Written s n (Enable l 0 ∷ Hello l ∷ []) false s
@@ -194,7 +194,7 @@ module _ (s : Net) (n l : ℕ) where
       yes : passesSet s n (Enable l 1) ≡ true → passesSet (set s n (Enable l 1) .next) n (Hello l) ≡ passesSet s n (Enable l 1)
       yes q =
           let z = set-passes s n (Enable l 1) .sure q in
-          rw (made-next s n (Enable l 1) q, q) (set-passes (setMade s n (Enable l 1)) n (Hello l) .back (z .0, (refl, (rw (upd-same (s .links) n l _), tt))))
+          rw (made-next s n (Enable l 1) q, q) (set-passes (setMade s n (Enable l 1)) n (Hello l) .back (z .0, (refl, (rw (upd-same (s .links .setups) n l _), tt))))
 
       no : passesSet s n (Enable l 1) ≡ false → passesSet (set s n (Enable l 1) .next) n (Hello l) ≡ passesSet s n (Enable l 1)
       no q =

@@ -11,8 +11,7 @@ use Rattle.tokens.specs.declared.header.Target.{Target}
 use Rattle.answers.specs.Out.{Out, out}
 use Rattle.answers.specs.declared.Answer.the-variants as Answers
 use Rattle.cells.specs.World.{World}
-use Rattle.acts.specs.Acts.{withNet, widthAt, pushed, pushedAll, Room}
-use Rattle.settings.specs.Set.{AllCabled}
+use Rattle.acts.specs.Acts.{withNet, widthAt, pushed, pushedAll}
 use Rattle.messages.specs.Register.{fieldsOf, readOf}
 use Rattle.messages.specs.Heard.{messageOf}
 use Rattle.messages.specs.Write.{accepted, written}
@@ -34,10 +33,6 @@ said Nack = controlWord nack ∷ []
 said Ack = controlWord ack ∷ []
 said (Value v) = controlWord ack ∷ bytes v
 
--- the longest reply: a header of three bytes, ACK, four bytes, END
-abbrev pub longest : ℕ
-longest = 9
-
 -- a reply in port 12
 abbrev pub replied : World → ℕ → Header → Reply → World
 replied w n h x =
@@ -51,7 +46,8 @@ headed w n h x = pick (isNarrow h) (out Answers.Unheard w) (out Answers.Moved (r
 abbrev pub sent : World → ℕ → Target → Reply → Out World
 sent w n g x = headed w n (headerOf g (widthAt (w .net) n)) x
 
--- "A known reply address .. with anything else wrong, an unknown address, or a write that Set would refuse: NACK 0x04, END, nothing changed."
+-- "A known reply address .. with anything else wrong, an unknown address, or a write that Set would refuse: NACK 0x04, END, nothing
+-- changed."
 abbrev pub obeyed : World → ℕ → Message → Out World
 obeyed w n Malformed = out Answers.Malformed w
 obeyed w n (Wrong g) = sent w n g Nack
@@ -61,9 +57,4 @@ obeyed w n (Write g r v) =
 
 -- node n's control unit, at END or PAUSE
 unfoldable pub ended : World → ℕ → ℕ → Out World
-ended w n x = obeyed w n (messageOf (w .net .units n 0) x)
-
--- What the code has on its way: the node is there, a reply finds room, and cables lead to links that are there
-pub record Ready (w : World) (n : ℕ) : Type 0 where
-  pub room : Room w n replyPort longest
-  pub cabled : AllCabled (w .net)
+ended w n x = obeyed w n (messageOf (w .net .units .hearings n 0) x)

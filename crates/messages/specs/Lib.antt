@@ -3,3 +3,4 @@ pub mod Register
 pub mod Heard
 pub mod Write
 pub mod Ended
+pub mod Needs

@@ -68,5 +68,5 @@ readOf s n Width = pick (eqb (s .own n 0 .width) 1) 1 0
 readOf s n Number = s .own n 0 .number
 readOf s n LowDirections = s .own n 0 .directions .first
 readOf s n HighDirections = s .own n 0 .directions .second
-readOf s n (Route l) = placed 8 4 (s .links n l .direction) + placed 4 2 (s .links n l .network)
-readOf s n (State l) = placed 31 1 (s .links n l .enabled)
+readOf s n (Route l) = placed 8 4 (s .links .setups n l .direction) + placed 4 2 (s .links .setups n l .network)
+readOf s n (State l) = placed 31 1 (s .links .setups n l .enabled)

@@ -3,13 +3,14 @@ use crate::register::Register;
 use crate::register::is_known;
 use crate::register::register_of;
 use cells::unit;
-use cells::unit::Unit;
+use cells::unit::Hearing;
 use names::NodeNumber;
 use names::Slot;
-use names::size::ENDS;
-use names::size::SINK;
 use names::size::UNIT_BUFFER;
 use tokens::header::Target;
+use tokens::header::is_channel;
+use tokens::word::READC;
+use tokens::word::WRITEC;
 use tokens::word::is_pause;
 ghost use mathlib.Core.Path.{_≡_};
 ghost use Prim.Native.Nat.{_+_, _<_};
@@ -18,13 +19,10 @@ ghost use Rattle.tokens.specs.Word.{valueOf};
 ghost use Rattle.cells.specs.View.{view};
 ghost use Rattle.messages.specs.Heard.{hearsWord, listens, token, twoData, two, four, isCommand, hasReply, replyTo, isWrite, isRead, orderOf, messageOf};
 
-// The first token of a message that writes, and of one that reads.
-const WRITE: u32 = 0x01C0;
+// The first token of a message that writes, and of one that reads, beside words of 32 bits.
+const WRITE: u32 = WRITEC as u32;
 
-const READ: u32 = 0x01C1;
-
-// Channels but for the sink, beside words of 32 bits.
-const CHANNELS: u32 = ENDS as u32;
+const READ: u32 = READC as u32;
 
 pub enum Message {
     // no known reply address, or PAUSE at its end
@@ -35,19 +33,20 @@ pub enum Message {
     Write(Target, Register, u32),
 }
 
-// A control unit that hears a token: what no whole message has is not kept.
-fn hears_word(k: Unit, word: u16) -> Unit
+// What a control unit has heard after a token: what no whole message has is not kept.
+fn hears_word(k: Hearing, word: u16) -> Hearing
     ensures { λ r. ⌜ r ≡ hearsWord k word ⌝ }
 {
-    let mut j = k;
     if k.heard < UNIT_BUFFER {
         let mut t = k.tokens;
         let i = k.heard as usize;
         t[i] = word as u32;
-        j.tokens = t;
-        j.heard = k.heard + 1;
+        return Hearing {
+            heard: k.heard + 1,
+            tokens: t,
+        };
     }
-    j
+    k
 }
 
 // One token of a message that goes on.
@@ -55,11 +54,11 @@ pub fn listen(st: &mut [u32], slot: Slot, word: u16)
     requires { ⌜ slot .0 < view (now st) .nodes ⌝ }
     ensures { λ r. ⌜ view (now (st .exit)) ≡ listens (view (now (st .entry))) (slot .0) word ⌝ }
 {
-    let k = hears_word(unit::at(st, slot), word);
-    unit::put(st, slot, k);
+    let k = unit::at(st, slot);
+    unit::put_hearing(st, slot, hears_word(k.hearing, word));
 }
 
-fn token(k: Unit, i: usize) -> u32
+fn token(k: Hearing, i: usize) -> u32
     requires { ⌜ i < unitBuffer ⌝ }
     ensures { λ r. ⌜ r ≡ token k i ⌝ }
 {
@@ -67,7 +66,7 @@ fn token(k: Unit, i: usize) -> u32
     t[i]
 }
 
-fn byte(k: Unit, i: usize) -> u8
+fn byte(k: Hearing, i: usize) -> u8
     requires { ⌜ i < unitBuffer ⌝ }
     ensures { λ r. ⌜ r ≡ valueOf (token k i) ⌝ }
 {
@@ -75,7 +74,7 @@ fn byte(k: Unit, i: usize) -> u8
 }
 
 // Two tokens are data.
-fn two_data(k: Unit, i: usize) -> bool
+fn two_data(k: Hearing, i: usize) -> bool
     requires { ⌜ i + 1 < unitBuffer ⌝ }
     ensures { λ r. ⌜ r ≡ twoData k i ⌝ }
 {
@@ -83,14 +82,14 @@ fn two_data(k: Unit, i: usize) -> bool
 }
 
 // Two bytes, the high one first.
-fn two(k: Unit, i: usize) -> u16
+fn two(k: Hearing, i: usize) -> u16
     requires { ⌜ i + 1 < unitBuffer ⌝ }
     ensures { λ r. ⌜ r ≡ two k i ⌝ }
 {
     byte(k, i) as u16 * 0x0100 + byte(k, i + 1) as u16
 }
 
-fn four(k: Unit, i: usize) -> u32
+fn four(k: Hearing, i: usize) -> u32
     requires { ⌜ i + 3 < unitBuffer ⌝ }
     ensures { λ r. ⌜ r ≡ four k i ⌝ }
 {
@@ -104,21 +103,20 @@ fn is_command(x: u32) -> bool
 }
 
 // Command and three data bytes, the last of them a channel.
-fn has_reply(k: Unit) -> bool
+fn has_reply(k: Hearing) -> bool
     ensures { λ r. ⌜ r ≡ hasReply k ⌝ }
 {
-    let c = token(k, 3);
-    (4 <= k.heard) & (is_command(token(k, 0)) & (two_data(k, 1) & ((c < CHANNELS) | (c == SINK))))
+    (4 <= k.heard) & (is_command(token(k, 0)) & (two_data(k, 1) & is_channel(token(k, 3))))
 }
 
-fn reply_to(k: Unit) -> Target
+fn reply_to(k: Hearing) -> Target
     ensures { λ r. ⌜ r ≡ replyTo k ⌝ }
 {
     Target::Channel(NodeNumber(two(k, 1)), byte(k, 3))
 }
 
 // Two address bytes and four data bytes follow.
-fn is_write(k: Unit) -> bool
+fn is_write(k: Hearing) -> bool
     ensures { λ r. ⌜ r ≡ isWrite k ⌝ }
 {
     (token(k, 0) == WRITE)
@@ -126,13 +124,13 @@ fn is_write(k: Unit) -> bool
 }
 
 // Two address bytes follow.
-fn is_read(k: Unit) -> bool
+fn is_read(k: Hearing) -> bool
     ensures { λ r. ⌜ r ≡ isRead k ⌝ }
 {
     (token(k, 0) == READ) & ((k.heard == 6) & two_data(k, 4))
 }
 
-fn order_of(k: Unit, g: Target, r: Register) -> Message
+fn order_of(k: Hearing, g: Target, r: Register) -> Message
     ensures { λ m. ⌜ m ≡ orderOf k g r ⌝ }
 {
     let known = is_known(r);
@@ -146,7 +144,7 @@ fn order_of(k: Unit, g: Target, r: Register) -> Message
 }
 
 // What a message says that this word has ended.
-pub fn message_of(k: Unit, word: u16) -> Message
+pub fn message_of(k: Hearing, word: u16) -> Message
     ensures { λ m. ⌜ m ≡ messageOf k word ⌝ }
 {
     if is_pause(word) {

@@ -20,7 +20,8 @@ ghost use Rattle.laws.specs.Pick.{pick};
 ghost use Rattle.answers.specs.Out.{out};
 ghost use Rattle.cells.specs.World.{world};
 ghost use Rattle.messages.specs.declared.reply.Reply.the-variants.{Nack, Ack};
-ghost use Rattle.messages.specs.Ended.{obeyed, ended, Ready};
+ghost use Rattle.messages.specs.Ended.{obeyed, ended};
+ghost use Rattle.messages.specs.Needs.{Ready};
 
 // A write that was accepted is acknowledged.
 fn verdict(accepted: bool) -> Reply
@@ -54,8 +55,10 @@ fn obey(st: &mut [u32], mem: &mut [u16], slot: Slot, m: Message) -> Answer
 // END or PAUSE has come to a node's control unit.
 pub fn end_message(st: &mut [u32], mem: &mut [u16], slot: Slot, word: u16) -> Answer
     requires { ⌜ Ready (world (now st) (now mem)) (slot .0) ⌝ }
-    ensures { λ r. ⌜ out r (world (now (st .exit)) (now (mem .exit))) ≡ ended (world (now (st .entry)) (now (mem .entry))) (slot .0) word ⌝ }
+    ensures { λ r. ⌜ out r (world (now (st .exit)) (now (mem .exit)))
+        ≡ ended (world (now (st .entry)) (now (mem .entry))) (slot .0) word ⌝ }
 {
-    let m = message_of(unit::at(st, slot), word);
+    let k = unit::at(st, slot);
+    let m = message_of(k.hearing, word);
     obey(st, mem, slot, m)
 }

@@ -100,11 +100,11 @@ pub fn read(st: &[u32], slot: Slot, r: Register) -> u32
         }
         Register::Route(l) => {
             let k = link::at(st, slot, l);
-            k.direction % 16 * 0x0100 + k.network % 4 * 0x0010
+            k.setup.direction % 16 * 0x0100 + k.setup.network % 4 * 0x0010
         }
         Register::State(l) => {
             let k = link::at(st, slot, l);
-            k.enabled % 2 * 0x8000_0000
+            k.setup.enabled % 2 * 0x8000_0000
         }
     }
 }

@@ -19,8 +19,10 @@ ghost use Prim.Native.Nat.{_≤_};
 ghost use Rattle.names.specs.Size.{replyPort};
 ghost use Rattle.answers.specs.Out.{out};
 ghost use Rattle.cells.specs.World.{world};
-ghost use Rattle.acts.specs.Acts.{Room, pushedAll};
-ghost use Rattle.messages.specs.Ended.{byte, bytes, said, longest, replied, sent};
+ghost use Rattle.acts.specs.Acts.{pushedAll};
+ghost use Rattle.acts.specs.Needs.{Room};
+ghost use Rattle.messages.specs.Ended.{byte, bytes, said, replied, sent};
+ghost use Rattle.messages.specs.Needs.{longest};
 
 // What follows a reply's header.
 pub enum Reply {
@@ -41,7 +43,8 @@ fn byte(v: u32, at: u32) -> u16
 // Four data bytes, the high one first.
 fn push_bytes(st: &mut [u32], mem: &mut [u16], slot: Slot, v: u32)
     requires { ⌜ Room (world (now st) (now mem)) (slot .0) replyPort 4 ⌝ }
-    ensures { λ r. ⌜ world (now (st .exit)) (now (mem .exit)) ≡ pushedAll (world (now (st .entry)) (now (mem .entry))) (slot .0) replyPort (bytes v) ⌝ }
+    ensures { λ r. ⌜ world (now (st .exit)) (now (mem .exit))
+        ≡ pushedAll (world (now (st .entry)) (now (mem .entry))) (slot .0) replyPort (bytes v) ⌝ }
 {
     push(st, mem, slot, REPLY_PORT, byte(v, 0x0100_0000));
     push(st, mem, slot, REPLY_PORT, byte(v, 0x0001_0000));
@@ -52,7 +55,8 @@ fn push_bytes(st: &mut [u32], mem: &mut [u16], slot: Slot, v: u32)
 // What stands between a reply's header and its END.
 fn say(st: &mut [u32], mem: &mut [u16], slot: Slot, x: Reply)
     requires { ⌜ Room (world (now st) (now mem)) (slot .0) replyPort 5 ⌝ }
-    ensures { λ r. ⌜ world (now (st .exit)) (now (mem .exit)) ≡ pushedAll (world (now (st .entry)) (now (mem .entry))) (slot .0) replyPort (said x) ⌝ }
+    ensures { λ r. ⌜ world (now (st .exit)) (now (mem .exit))
+        ≡ pushedAll (world (now (st .entry)) (now (mem .entry))) (slot .0) replyPort (said x) ⌝ }
 {
     match x {
         Reply::Nack => push(st, mem, slot, REPLY_PORT, of_control(NACK)),

@@ -1,5 +1,5 @@
 -- The bench's sizes, each once (document 01, "What the bench holds" and "Sizes").
-use Prim.Native.Nat.{ℕ}
+use Prim.Native.Nat.{ℕ, _+_}
 
 -- "A network of 1 to 16 XS1-L nodes"
 abbrev pub nodes : ℕ
@@ -14,15 +14,25 @@ abbrev pub tileLinks : ℕ
 tileLinks = 4
 
 -- "external links A..H (ports 0..7), four links from the tile to the switch (ports 8..11), .. replies leave by port 12"
-abbrev pub ports : ℕ
-ports = 13
+abbrev pub firstTilePort : ℕ
+firstTilePort = links
+
+abbrev pub tilePorts : ℕ
+tilePorts = 4
 
 abbrev pub replyPort : ℕ
-replyPort = 12
+replyPort = firstTilePort + tilePorts
 
--- "channel-ends 0..31"
+abbrev pub ports : ℕ
+ports = replyPort + 1
+
+-- how many there are: "channel-ends 0..31"
 abbrev pub ends : ℕ
 ends = 32
+
+-- what a header or a destination can name, beside the sink: "a channel 0..31"
+abbrev pub channels : ℕ
+channels = 32
 
 -- "channel-end input buffer: 8 tokens"
 abbrev pub endBuffer : ℕ
@@ -43,6 +53,10 @@ networks = 4
 -- "direction 0..15"
 abbrev pub directions : ℕ
 directions = 16
+
+-- "its number is the 16-bit identifier written into its switch"
+abbrev pub numbers : ℕ
+numbers = 65536
 
 -- "the highest differing bit, 15..0": each has an entry in the direction table
 abbrev pub bits : ℕ

@@ -3,6 +3,7 @@
 pub mod no;
 pub mod size;
 
+use crate::size::NUMBERS;
 ghost use mathlib.Core.Path.{_≡_};
 ghost use Rattle.names.specs.Number.{ranged, isNumber, ofBytes, highByte, lowByte};
 
@@ -24,7 +25,7 @@ impl NodeNumber {
     pub fn of(value: u32) -> Ranged
         ensures { λ r. ⌜ r ≡ ranged value ⌝ }
     {
-        if value < 65536 {
+        if value < NUMBERS {
             return Ranged::Number(Self(value as u16));
         }
         Ranged::OutOfRange

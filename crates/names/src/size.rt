@@ -10,14 +10,22 @@ pub const LINKS: usize = 8;
 // Links from the switch to the tile.
 pub const TILE_LINKS: usize = 4;
 
-// Ports of a node: the links, four from the tile, and one for the control unit's replies.
-pub const PORTS: usize = 13;
+// Links from the tile to the switch, which are ports behind those of the links.
+pub const FIRST_TILE_PORT: usize = LINKS;
 
-// The port by which the control unit's replies leave.
-pub const REPLY_PORT: usize = 12;
+pub const TILE_PORTS: usize = 4;
+
+// The port by which the control unit's replies leave, behind those.
+pub const REPLY_PORT: usize = FIRST_TILE_PORT + TILE_PORTS;
+
+// Ports of a node.
+pub const PORTS: usize = REPLY_PORT + 1;
 
 // Channel-ends of a node.
 pub const ENDS: usize = 32;
+
+// Channels that a header or a destination can name, beside the sink.
+pub const CHANNELS: u32 = 32;
 
 // Tokens that a channel-end holds, at most.
 pub const END_BUFFER: usize = 8;
@@ -33,6 +41,9 @@ pub const NETWORKS: u32 = 4;
 
 // Directions of links and of a switch's table.
 pub const DIRECTIONS: u32 = 16;
+
+// Numbers that a node can have: those of 16 bits.
+pub const NUMBERS: u32 = 65536;
 
 // Bits of a node's number, each with an entry in the direction table.
 pub const BITS: u32 = 16;

@@ -10,10 +10,11 @@ use crate::read::number_in;
 use crate::read::same_width;
 use crate::read::size_of;
 use crate::read::target_at;
+use acts::channel_full;
+use acts::circuit::channel_claimed;
 use acts::number_at;
 use acts::width_at;
 use acts::word_at;
-use cells::end;
 use cells::link;
 use cells::node;
 use cells::port;
@@ -22,24 +23,19 @@ use circuits::Cause;
 use circuits::Hop;
 use circuits::hop_of;
 use names::Slot;
-use names::size::END_BUFFER;
 use names::size::LINKS;
 use names::size::REPLY_PORT;
-use names::size::SINK;
 use names::size::TILE_LINKS;
 use routing::way::Way;
 use routing::way::way_to;
 use tokens::header::Target;
-use tokens::word::is_pause;
 ghost use mathlib.Core.Path.{_≡_};
-ghost use Prim.Native.Nat.{_<_};
-ghost use Rattle.acts.specs.Acts.{Holds};
+ghost use Rattle.acts.specs.Needs.{NumberFits};
 ghost use Rattle.cells.specs.View.{view};
 ghost use Rattle.cells.specs.World.{world};
-ghost use Rattle.plans.specs.Plan.{routePlan, channelPlan, unitPlan, herePlan, byWay, wayPlan, headerPlan, outPlan, handPlan, byHop, planOf};
-
-// What a channel-end holds at most, beside words of 32 bits.
-const BUFFER: u32 = END_BUFFER as u32;
+ghost use Rattle.plans.specs.Needs.{Reads};
+ghost use Rattle.plans.specs.Plan.{routePlan, channelPlan, unitPlan, herePlan, byWay, wayPlan};
+ghost use Rattle.plans.specs.Plan.{headerPlan, outPlan, handPlan, byHop, planOf};
 
 pub enum Plan {
     // nothing is held
@@ -86,9 +82,7 @@ fn channel_plan(st: &[u32], slot: Slot, c: usize) -> Plan
     if t == TILE_LINKS {
         return Plan::Wait;
     }
-    let k = end::at(st, slot, c);
-    let claimed = !(c == SINK as usize) & !(k.claim.kind == 0);
-    if claimed {
+    if channel_claimed(st, slot, c) {
         return Plan::Wait;
     }
     Plan::OpenChannel(c, t)
@@ -130,7 +124,7 @@ fn by_way(st: &[u32], slot: Slot, p: usize, g: Target, way: Way) -> Plan
 }
 
 fn way_plan(st: &[u32], slot: Slot, p: usize, g: Target) -> Plan
-    requires { ⌜ view (now st) .own (slot .0) 0 .number < 65536 ⌝ }
+    requires { ⌜ NumberFits (view (now st)) (slot .0) ⌝ }
     ensures { λ r. ⌜ r ≡ wayPlan (view (now (st .entry))) (slot .0) p g ⌝ }
 {
     let way = way_to(number_in(g), number_at(st, slot), width_at(st, slot));
@@ -139,7 +133,7 @@ fn way_plan(st: &[u32], slot: Slot, p: usize, g: Target) -> Plan
 
 // A header at the front of a port without a circuit.
 fn header_plan(st: &[u32], mem: &[u16], slot: Slot, p: usize) -> Plan
-    requires { ⌜ (view (now st) .own (slot .0) 0 .number < 65536) × Holds (world (now st) (now mem)) (slot .0) p 1 ⌝ }
+    requires { ⌜ Reads (world (now st) (now mem)) (slot .0) p 1 ⌝ }
     ensures { λ r. ⌜ r ≡ headerPlan (world (now (st .entry)) (now (mem .entry))) (slot .0) p ⌝ }
 {
     let width = marked_width(word_at(st, mem, slot, p, 0));
@@ -158,7 +152,7 @@ fn out_plan(st: &[u32], slot: Slot, l: usize) -> Plan
     ensures { λ r. ⌜ r ≡ outPlan (view (now (st .entry))) (slot .0) l ⌝ }
 {
     let k = link::at(st, slot, l);
-    if k.credit == 0 {
+    if k.flow.credit == 0 {
         return Plan::Wait;
     }
     Plan::MoveOut(l)
@@ -168,16 +162,14 @@ fn out_plan(st: &[u32], slot: Slot, l: usize) -> Plan
 fn hand_plan(st: &[u32], slot: Slot, c: usize, t: usize, word: u16) -> Plan
     ensures { λ r. ⌜ r ≡ handPlan (view (now (st .entry))) (slot .0) c t word ⌝ }
 {
-    let k = end::at(st, slot, c);
-    let full = !(c == SINK as usize) & ((BUFFER <= k.held) & !is_pause(word));
-    if full {
+    if channel_full(st, slot, c, word) {
         return Plan::Wait;
     }
     Plan::Hand(c, t)
 }
 
 fn by_hop(st: &[u32], mem: &[u16], slot: Slot, p: usize, h: Hop) -> Plan
-    requires { ⌜ (view (now st) .own (slot .0) 0 .number < 65536) × Holds (world (now st) (now mem)) (slot .0) p 1 ⌝ }
+    requires { ⌜ Reads (world (now st) (now mem)) (slot .0) p 1 ⌝ }
     ensures { λ r. ⌜ r ≡ byHop (world (now (st .entry)) (now (mem .entry))) (slot .0) p h ⌝ }
 {
     match h {
@@ -194,12 +186,12 @@ fn by_hop(st: &[u32], mem: &[u16], slot: Slot, p: usize, h: Hop) -> Plan
 
 // What a Step of a port does.
 pub fn plan_of(st: &[u32], mem: &[u16], slot: Slot, p: usize) -> Plan
-    requires { ⌜ (view (now st) .own (slot .0) 0 .number < 65536) × Holds (world (now st) (now mem)) (slot .0) p 0 ⌝ }
+    requires { ⌜ Reads (world (now st) (now mem)) (slot .0) p 0 ⌝ }
     ensures { λ r. ⌜ r ≡ planOf (world (now (st .entry)) (now (mem .entry))) (slot .0) p ⌝ }
 {
     let k = port::at(st, slot, p);
     if k.counters.held == 0 {
         return Plan::Idle;
     }
-    by_hop(st, mem, slot, p, hop_of(k.circuit, k.tile))
+    by_hop(st, mem, slot, p, hop_of(k.leg.circuit, k.leg.tile))
 }

@@ -14,10 +14,15 @@ use tokens::header::read_one;
 use tokens::header::read_three;
 use tokens::word::is_three;
 ghost use mathlib.Core.Path.{_≡_};
-ghost use Rattle.acts.specs.Acts.{Holds, wordAt};
+ghost use Rattle.laws.specs.Pick.{pick};
+ghost use Rattle.laws.specs.All.{first};
+ghost use Rattle.names.specs.Size.{links};
+ghost use Rattle.acts.specs.Acts.{wordAt};
+ghost use Rattle.acts.specs.Needs.{Holds};
 ghost use Rattle.cells.specs.View.{view};
 ghost use Rattle.cells.specs.World.{world};
-ghost use Rattle.plans.specs.Plan.{markedWidth, sizeOf, sameWidth, targetAt, networkAt, numberIn, suits, lowestLink, tileUsed, lowestTile};
+ghost use Rattle.plans.specs.Plan.{markedWidth, sizeOf, sameWidth, targetAt, networkAt};
+ghost use Rattle.plans.specs.Plan.{numberIn, candidate, freeCandidate, tileFree, lowestTile};
 
 // A header's width, by the mark of its first token.
 pub fn marked_width(word: u16) -> Width
@@ -83,7 +88,7 @@ pub fn network_at(st: &[u32], slot: Slot, p: usize) -> u32
 {
     if p < LINKS {
         let k = link::at(st, slot, p);
-        return k.network;
+        return k.setup.network;
     }
     if p == REPLY_PORT {
         return 0;
@@ -94,16 +99,21 @@ pub fn network_at(st: &[u32], slot: Slot, p: usize) -> u32
 
 // A candidate, that no circuit uses outward if it is to be free.
 fn suits(st: &[u32], slot: Slot, d: u32, v: u32, free: bool, l: usize) -> bool
-    ensures { λ r. ⌜ r ≡ suits (view (now (st .entry))) (slot .0) d v free l ⌝ }
+    ensures { λ r. ⌜ r ≡ pick free
+        (freeCandidate (view (now (st .entry))) (slot .0) d v l) (candidate (view (now (st .entry))) (slot .0) d v l) ⌝ }
 {
     let k = link::at(st, slot, l);
-    let candidate = (k.enabled == 1) & ((k.direction == d) & (k.network == v));
-    candidate & (!free | (k.user.kind == 0))
+    let candidate = (k.setup.enabled == 1) & ((k.setup.direction == d) & (k.setup.network == v));
+    if free {
+        return candidate & (k.user.kind == 0);
+    }
+    candidate
 }
 
-// The lowest link that suits, 8 where none does.
+// The lowest candidate, or the lowest free one; 8 where there is none.
 pub fn lowest_link(st: &[u32], slot: Slot, d: u32, v: u32, free: bool) -> usize
-    ensures { λ r. ⌜ r ≡ lowestLink (view (now (st .entry))) (slot .0) d v free ⌝ }
+    ensures { λ r. ⌜ r ≡ first links
+        (pick free (freeCandidate (view (now (st .entry))) (slot .0) d v) (candidate (view (now (st .entry))) (slot .0) d v)) ⌝ }
 {
     for l in 0..LINKS {
         if suits(st, slot, d, v, free, l) {
@@ -113,11 +123,11 @@ pub fn lowest_link(st: &[u32], slot: Slot, d: u32, v: u32, free: bool) -> usize
     LINKS
 }
 
-fn tile_used(st: &[u32], slot: Slot, t: usize) -> bool
-    ensures { λ r. ⌜ r ≡ tileUsed (view (now (st .entry))) (slot .0) t ⌝ }
+fn tile_free(st: &[u32], slot: Slot, t: usize) -> bool
+    ensures { λ r. ⌜ r ≡ tileFree (view (now (st .entry))) (slot .0) t ⌝ }
 {
     let k = tile::at(st, slot, t);
-    !(k.user.kind == 0)
+    k.user.kind == 0
 }
 
 // The lowest free tile link, 4 where none is.
@@ -125,7 +135,7 @@ pub fn lowest_tile(st: &[u32], slot: Slot) -> usize
     ensures { λ r. ⌜ r ≡ lowestTile (view (now (st .entry))) (slot .0) ⌝ }
 {
     for t in 0..TILE_LINKS {
-        if !tile_used(st, slot, t) {
+        if tile_free(st, slot, t) {
             return t;
         }
     }

@@ -1,3 +1,4 @@
--- Laws of a port's buffer.
+-- Laws of queues of any capacity, and of a port's buffer.
 pub mod Rings
 pub mod Stretches
+pub mod Ports

@@ -1,3 +1,4 @@
 -- The definitions that contracts cite for a port's buffer.
+pub mod Ring
 pub mod Queue
 pub mod Memory

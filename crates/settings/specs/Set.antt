@@ -13,7 +13,7 @@ use Rattle.answers.specs.Rows.{Row, row}
 use Rattle.answers.specs.Out.{Out, out, attempt}
 use Rattle.answers.specs.declared.Answer.{Answer}
 use Rattle.answers.specs.declared.Answer.the-variants.{Done, Granted}
-use Rattle.cells.specs.View.{Net, withNode, withLink}
+use Rattle.cells.specs.View.{Net, wholePort, withNode, withSetup}
 use Rattle.cells.specs.World.{farOf}
 use Rattle.cells.specs.Changes.{numberedAs, widthAs, directionsAs, directedTo, networkAs, enabledAs}
 use Rattle.cells.specs.declared.link.Far.{Far}
@@ -45,17 +45,17 @@ inRange (Hello l) = true
 
 -- "either end's buffer holds a token or either direction is in a circuit": one end, with a hop of its port
 abbrev pub endInUse : Net → ℕ → ℕ → Bool
-endInUse s n l = not (isFree (s .ports n l)) || not (eqb (s .links n l .user .kind) 0)
+endInUse s n l = not (isFree (wholePort s n l)) || not (eqb (s .links .users n l .kind) 0)
 
 abbrev pub farInUse : Net → Far → Bool
 farInUse s f = onFar f false (endInUse s)
 
 abbrev pub inUse : Net → ℕ → ℕ → Bool
-inUse s n l = endInUse s n l || farInUse s (farOf (s .links n l))
+inUse s n l = endInUse s n l || farInUse s (farOf (s .links .cables n l))
 
 -- "network changed to another while enabled"
 abbrev pub changesNetwork : Net → ℕ → ℕ → ℕ → Bool
-changesNetwork s n l v = enabled s n l && not (eqb (s .links n l .network) v)
+changesNetwork s n l v = enabled s n l && not (eqb (s .links .setups n l .network) v)
 
 -- "disabling an enabled link while .."
 abbrev pub disablesBusy : Net → ℕ → ℕ → ℕ → Bool
@@ -83,9 +83,9 @@ abbrev pub setMade : Net → ℕ → Setting → Net
 setMade s n (Number v) = withNode s n (numberedAs (s .own n 0) v)
 setMade s n (Width v) = withNode s n (widthAs (s .own n 0) v)
 setMade s n (Direction b v) = withNode s n (directionsAs (s .own n 0) (withEntry (s .own n 0 .directions) b v))
-setMade s n (LinkDirection l v) = withLink s n l (directedTo (s .links n l) v)
-setMade s n (Network l v) = withLink s n l (networkAs (s .links n l) v)
-setMade s n (Enable l v) = pick (eqb v 0) (disabled s n l) (withLink s n l (enabledAs (s .links n l) 1))
+setMade s n (LinkDirection l v) = withSetup s n l (directedTo (s .links .setups n l) v)
+setMade s n (Network l v) = withSetup s n l (networkAs (s .links .setups n l) v)
+setMade s n (Enable l v) = pick (eqb v 0) (disabled s n l) (withSetup s n l (enabledAs (s .links .setups n l) 1))
 setMade s n (Hello l) = helloed s n l
 
 -- "The answer to HELLO gives the grant."

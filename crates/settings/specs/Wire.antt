@@ -8,8 +8,8 @@ use Rattle.names.specs.No.{NoSuch, Value, Busy}
 use Rattle.answers.specs.Rows.{Row, row}
 use Rattle.answers.specs.Out.{Out, out, attempt}
 use Rattle.answers.specs.declared.Answer.the-variants.{Done}
-use Rattle.cells.specs.View.{Net, withLink}
-use Rattle.cells.specs.Changes.{wiredTo}
+use Rattle.cells.specs.View.{Net, withCable}
+use Rattle.cells.specs.declared.link.Cable.{Cable}
 
 -- link l of node n is present
 abbrev pub linkAt : Net → ℕ → ℕ → Bool
@@ -17,7 +17,7 @@ linkAt s n l = ltb n (s .nodes) && ltb l links
 
 -- "a wired or enabled end"
 abbrev pub endTaken : Net → ℕ → ℕ → Bool
-endTaken s n l = eqb (s .links n l .wired) 1 || eqb (s .links n l .enabled) 1
+endTaken s n l = eqb (s .links .cables n l .wired) 1 || eqb (s .links .setups n l .enabled) 1
 
 -- "NoSuch: slot, link not present; Value: a link joined to itself; Busy: Wire on a wired or enabled end"
 abbrev pub wireRows : Net → ℕ → ℕ → ℕ → ℕ → List Row
@@ -27,9 +27,12 @@ wireRows s n l m k =
     ∷ row (endTaken s n l || endTaken s m k) Busy
     ∷ []
 
+abbrev pub cableTo : ℕ → ℕ → Cable
+cableTo m k = record { wired = 1; «far_slot» = m; «far_link» = k }
+
 -- each end leads to the other
 abbrev pub wired : Net → ℕ → ℕ → ℕ → ℕ → Net
-wired s n l m k = withLink (withLink s n l (wiredTo (s .links n l) m k)) m k (wiredTo (s .links m k) n l)
+wired s n l m k = withCable (withCable s n l (cableTo m k)) m k (cableTo n l)
 
 unfoldable pub wire : Net → ℕ → ℕ → ℕ → ℕ → Out Net
 wire s n l m k = attempt (wireRows s n l m k) s (out Done (wired s n l m k))

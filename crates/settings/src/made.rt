@@ -47,18 +47,20 @@ fn set_link_direction(st: &mut [u32], slot: Slot, l: usize, v: u32)
     requires { ⌜ (slot .0 < view (now st) .nodes) × (l < links) ⌝ }
     ensures { λ r. ⌜ view (now (st .exit)) ≡ setMade (view (now (st .entry))) (slot .0) (LinkDirection l v) ⌝ }
 {
-    let mut k = link::at(st, slot, l);
-    k.direction = v;
-    link::put(st, slot, l, k);
+    let k = link::at(st, slot, l);
+    let mut x = k.setup;
+    x.direction = v;
+    link::put_setup(st, slot, l, x);
 }
 
 fn set_network(st: &mut [u32], slot: Slot, l: usize, v: u32)
     requires { ⌜ (slot .0 < view (now st) .nodes) × (l < links) ⌝ }
     ensures { λ r. ⌜ view (now (st .exit)) ≡ setMade (view (now (st .entry))) (slot .0) (Network l v) ⌝ }
 {
-    let mut k = link::at(st, slot, l);
-    k.network = v;
-    link::put(st, slot, l, k);
+    let k = link::at(st, slot, l);
+    let mut x = k.setup;
+    x.network = v;
+    link::put_setup(st, slot, l, x);
 }
 
 // Enabling greets nobody and gives no credit.
@@ -70,9 +72,10 @@ fn set_enable(st: &mut [u32], slot: Slot, l: usize, v: u32)
         disable(st, slot, l);
         return;
     }
-    let mut k = link::at(st, slot, l);
-    k.enabled = 1;
-    link::put(st, slot, l, k);
+    let k = link::at(st, slot, l);
+    let mut x = k.setup;
+    x.enabled = 1;
+    link::put_setup(st, slot, l, x);
 }
 
 // The Set itself, for a node and a link that are there.

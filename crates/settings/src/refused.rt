@@ -2,7 +2,7 @@
 use crate::Setting;
 use cells::link;
 use cells::link::Far;
-use cells::link::far_of;
+use cells::link::far_at;
 use cells::node;
 use cells::port;
 use names::Slot;
@@ -55,7 +55,7 @@ fn end_in_use(st: &[u32], slot: Slot, l: usize) -> bool
 {
     let p = port::at(st, slot, l);
     let k = link::at(st, slot, l);
-    !((p.circuit.kind == 0) & (p.counters.held == 0)) | !(k.user.kind == 0)
+    !((p.leg.circuit.kind == 0) & (p.counters.held == 0)) | !(k.user.kind == 0)
 }
 
 fn far_in_use(st: &[u32], f: Far) -> bool
@@ -70,7 +70,7 @@ fn far_in_use(st: &[u32], f: Far) -> bool
 fn in_use(st: &[u32], slot: Slot, l: usize) -> bool
     ensures { λ r. ⌜ r ≡ inUse (view (now (st .entry))) (slot .0) l ⌝ }
 {
-    let far = far_in_use(st, far_of(link::at(st, slot, l)));
+    let far = far_in_use(st, far_at(st, slot, l));
     end_in_use(st, slot, l) | far
 }
 
@@ -79,7 +79,7 @@ fn changes_network(st: &[u32], slot: Slot, l: usize, v: u32) -> bool
     ensures { λ r. ⌜ r ≡ changesNetwork (view (now (st .entry))) (slot .0) l v ⌝ }
 {
     let k = link::at(st, slot, l);
-    (k.enabled == 1) & !(k.network == v)
+    (k.setup.enabled == 1) & !(k.setup.network == v)
 }
 
 // "disabling an enabled link while .."
@@ -87,7 +87,7 @@ fn disables_busy(st: &[u32], slot: Slot, l: usize, v: u32) -> bool
     ensures { λ r. ⌜ r ≡ disablesBusy (view (now (st .entry))) (slot .0) l v ⌝ }
 {
     let k = link::at(st, slot, l);
-    (v == 0) & ((k.enabled == 1) & in_use(st, slot, l))
+    (v == 0) & ((k.setup.enabled == 1) & in_use(st, slot, l))
 }
 
 // "HELLO on a disabled link"
@@ -95,7 +95,7 @@ fn hello_busy(st: &[u32], slot: Slot, l: usize) -> bool
     ensures { λ r. ⌜ r ≡ helloBusy (view (now (st .entry))) (slot .0) l ⌝ }
 {
     let k = link::at(st, slot, l);
-    !(k.enabled == 1)
+    !(k.setup.enabled == 1)
 }
 
 fn set_busy(st: &[u32], slot: Slot, x: Setting) -> bool

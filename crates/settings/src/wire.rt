@@ -1,7 +1,7 @@
 // Wire (document 01, "Calls"): join two different link ends, both unwired and disabled.
 use answers::Answer;
 use cells::link;
-use cells::link::Link;
+use cells::link::Cable;
 use cells::node;
 use names::Slot;
 use names::no::BUSY;
@@ -14,8 +14,7 @@ ghost use Rattle.names.specs.Size.{links, nodes};
 ghost use Rattle.answers.specs.Rows.{refusal};
 ghost use Rattle.answers.specs.Out.{out};
 ghost use Rattle.cells.specs.View.{view};
-ghost use Rattle.cells.specs.Changes.{wiredTo};
-ghost use Rattle.settings.specs.Wire.{linkAt, endTaken, wireRows, wired, wire};
+ghost use Rattle.settings.specs.Wire.{linkAt, endTaken, wireRows, cableTo, wired, wire};
 
 fn link_at(st: &[u32], slot: Slot, l: usize) -> bool
     ensures { λ r. ⌜ r ≡ linkAt (view (now (st .entry))) (slot .0) l ⌝ }
@@ -27,7 +26,7 @@ fn end_taken(st: &[u32], slot: Slot, l: usize) -> bool
     ensures { λ r. ⌜ r ≡ endTaken (view (now (st .entry))) (slot .0) l ⌝ }
 {
     let k = link::at(st, slot, l);
-    (k.wired == 1) | (k.enabled == 1)
+    (k.cable.wired == 1) | (k.setup.enabled == 1)
 }
 
 // The number by which Wire is refused, 0 for none.
@@ -49,26 +48,24 @@ fn wire_no(st: &[u32], a: Slot, l: usize, b: Slot, k: usize) -> u8
     0
 }
 
-// A link end whose cable leads to link j of slot m.
-fn wired_to(k: Link, m: Slot, j: usize) -> Link
+// A cable that leads to link j of slot m.
+fn cable_to(m: Slot, j: usize) -> Cable
     requires { ⌜ (m .0 < 2 ^ 32) × (j < 2 ^ 32) ⌝ }
-    ensures { λ r. ⌜ r ≡ wiredTo k (m .0) j ⌝ }
+    ensures { λ r. ⌜ r ≡ cableTo (m .0) j ⌝ }
 {
-    let mut e = k;
-    e.wired = 1;
-    e.far_slot = m.0 as u32;
-    e.far_link = j as u32;
-    e
+    Cable {
+        wired: 1,
+        far_slot: m.0 as u32,
+        far_link: j as u32,
+    }
 }
 
 fn join(st: &mut [u32], a: Slot, l: usize, b: Slot, k: usize)
     requires { ⌜ (a .0 < view (now st) .nodes) × (l < links) × (b .0 < view (now st) .nodes) × (k < links) × (view (now st) .nodes ≤ nodes) ⌝ }
     ensures { λ r. ⌜ view (now (st .exit)) ≡ wired (view (now (st .entry))) (a .0) l (b .0) k ⌝ }
 {
-    let one = wired_to(link::at(st, a, l), b, k);
-    let other = wired_to(link::at(st, b, k), a, l);
-    link::put(st, a, l, one);
-    link::put(st, b, k, other);
+    link::put_cable(st, a, l, cable_to(b, k));
+    link::put_cable(st, b, k, cable_to(a, l));
 }
 
 // Wire, whole: refused by its number with nothing changed, or made.

@@ -1,4 +1,5 @@
 -- Sound, tight and quiet.
-pub mod Passes
 pub mod Tests
+pub mod Clauses
+pub mod Questions
 pub mod Sound

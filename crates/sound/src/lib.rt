@@ -1,130 +1,106 @@
 // Sound, tight and quiet: tests over the whole state and token memory, for any words at all.
 pub mod passes;
+pub mod questions;
 pub mod tests;
 
+use crate::questions::Question;
+use crate::questions::everywhere;
 use crate::tests::Test;
-use crate::tests::everywhere;
 use cells::layout::shaped;
 use clauses::pairs::Role;
 ghost use mathlib.Core.Path.{_≡_};
-ghost use Prim.Native.Nat.{_<_};
 ghost use Rattle.cells.specs.World.{world};
-ghost use Rattle.sound.specs.Sound.{soundTest, clauseOf, unsoundClause, sound, tight, quiet};
+ghost use Rattle.sound.specs.Clauses.{clause, counts, cables, tokens, outputs, claims, openings, soundClauses, ask, askAll};
+ghost use Rattle.sound.specs.Sound.{unsoundClause, sound, tight, quiet};
 
-// How many tests the Sound list is.
-pub const MANY: u32 = 26;
-
-// The clause of each test, in the order of the list.
-const CLAUSES: [u32; 26] = [
-    2,
-    2,
-    2,
-    2,
-    2,
-    2,
-    3,
-    4,
-    5,
-    6,
-    7,
-    8,
-    9,
-    9,
-    9,
-    9,
-    9,
-    9,
-    10,
-    10,
-    10,
-    10,
-    11,
-    11,
-    11,
-    12,
-];
-
-// Counts within their limits.
-fn counts_test(k: u32) -> Test
-    requires { ⌜ k < 6 ⌝ }
-    ensures { λ r. ⌜ r ≡ soundTest k ⌝ }
+// A row of the list: what was found before it, else its number, where that is past `after` and its test
+// fails.
+fn ask(st: &[u32], mem: &[u16], after: u32, found: u32, number: u8, t: Test) -> u32
+    ensures { λ r. ⌜ r ≡ ask after found (clause number t) (world (now (st .entry)) (now (mem .entry))) ⌝ }
 {
-    match k {
-        0 => Test::Nodes,
-        1 => Test::Links,
-        2 => Test::Ports,
-        3 => Test::Tiles,
-        4 => Test::Ends,
-        _ => Test::Units,
+    if !(found == 0) {
+        return found;
     }
+    let passes = (number as u32 <= after) | everywhere(st, mem, Question::Row(number, t));
+    if passes {
+        return 0;
+    }
+    number as u32
 }
 
-// Cables, credits, and what is held.
-fn links_test(k: u32) -> Test
-    requires { ⌜ (5 < k) × (k < 12) ⌝ }
-    ensures { λ r. ⌜ r ≡ soundTest k ⌝ }
+// Counts within their limits.
+fn counts(st: &[u32], mem: &[u16], after: u32, found: u32) -> u32
+    ensures { λ r. ⌜ r ≡ askAll after found counts (world (now (st .entry)) (now (mem .entry))) ⌝ }
 {
-    match k {
-        6 => Test::Credited,
-        7 => Test::Greeted,
-        8 => Test::Room,
-        9 => Test::Cable,
-        10 => Test::Contents,
-        _ => Test::Held,
-    }
+    let c = ask(st, mem, after, found, 2, Test::Nodes);
+    let c = ask(st, mem, after, c, 2, Test::Links);
+    let c = ask(st, mem, after, c, 2, Test::Ports);
+    let c = ask(st, mem, after, c, 2, Test::Tiles);
+    let c = ask(st, mem, after, c, 2, Test::Ends);
+    ask(st, mem, after, c, 2, Test::Units)
+}
+
+// Credits and cables.
+fn cables(st: &[u32], mem: &[u16], after: u32, found: u32) -> u32
+    ensures { λ r. ⌜ r ≡ askAll after found cables (world (now (st .entry)) (now (mem .entry))) ⌝ }
+{
+    let c = ask(st, mem, after, found, 3, Test::Credited);
+    let c = ask(st, mem, after, c, 4, Test::Greeted);
+    let c = ask(st, mem, after, c, 5, Test::Room);
+    ask(st, mem, after, c, 6, Test::Cable)
+}
+
+// What is held.
+fn tokens(st: &[u32], mem: &[u16], after: u32, found: u32) -> u32
+    ensures { λ r. ⌜ r ≡ askAll after found tokens (world (now (st .entry)) (now (mem .entry))) ⌝ }
+{
+    let c = ask(st, mem, after, found, 7, Test::Contents);
+    let c = ask(st, mem, after, c, 8, Test::Held);
+    ask(st, mem, after, c, 8, Test::Heard)
 }
 
 // A port's output names that port back and no other.
-fn outputs_test(k: u32) -> Test
-    requires { ⌜ (11 < k) × (k < 18) ⌝ }
-    ensures { λ r. ⌜ r ≡ soundTest k ⌝ }
+fn outputs(st: &[u32], mem: &[u16], after: u32, found: u32) -> u32
+    ensures { λ r. ⌜ r ≡ askAll after found outputs (world (now (st .entry)) (now (mem .entry))) ⌝ }
 {
-    match k {
-        12 => Test::Agrees(Role::PortLink),
-        13 => Test::Agrees(Role::LinkPort),
-        14 => Test::Agrees(Role::PortTile),
-        15 => Test::Agrees(Role::TilePort),
-        16 => Test::Agrees(Role::PortUnit),
-        _ => Test::Agrees(Role::UnitPort),
-    }
+    let c = ask(st, mem, after, found, 9, Test::Agrees(Role::PortLink));
+    let c = ask(st, mem, after, c, 9, Test::Agrees(Role::LinkPort));
+    let c = ask(st, mem, after, c, 9, Test::Agrees(Role::PortTile));
+    let c = ask(st, mem, after, c, 9, Test::Agrees(Role::TilePort));
+    let c = ask(st, mem, after, c, 9, Test::Agrees(Role::PortUnit));
+    ask(st, mem, after, c, 9, Test::Agrees(Role::UnitPort))
 }
 
-// Claims and open channel-ends name one circuit that exists.
-fn claims_test(k: u32) -> Test
-    requires { ⌜ (17 < k) × (k < 24) ⌝ }
-    ensures { λ r. ⌜ r ≡ soundTest k ⌝ }
+// Each claim names one circuit that exists.
+fn claims(st: &[u32], mem: &[u16], after: u32, found: u32) -> u32
+    ensures { λ r. ⌜ r ≡ askAll after found claims (world (now (st .entry)) (now (mem .entry))) ⌝ }
 {
-    match k {
-        18 => Test::Agrees(Role::PortClaim),
-        19 => Test::Agrees(Role::ClaimPort),
-        20 => Test::Agrees(Role::EndClaim),
-        21 => Test::Agrees(Role::ClaimEnd),
-        22 => Test::Agrees(Role::EndPort),
-        _ => Test::Agrees(Role::PortEnd),
-    }
+    let c = ask(st, mem, after, found, 10, Test::Agrees(Role::PortClaim));
+    let c = ask(st, mem, after, c, 10, Test::Agrees(Role::ClaimPort));
+    let c = ask(st, mem, after, c, 10, Test::Agrees(Role::EndClaim));
+    ask(st, mem, after, c, 10, Test::Agrees(Role::ClaimEnd))
 }
 
-// The tests of the list, in its order.
-pub fn sound_test(k: u32) -> Test
-    ensures { λ r. ⌜ r ≡ soundTest k ⌝ }
+// Each open channel-end does, and port 12 is empty while the control unit serves a circuit.
+fn openings(st: &[u32], mem: &[u16], after: u32, found: u32) -> u32
+    ensures { λ r. ⌜ r ≡ askAll after found openings (world (now (st .entry)) (now (mem .entry))) ⌝ }
 {
-    match k {
-        0..=5 => counts_test(k),
-        6..=11 => links_test(k),
-        12..=17 => outputs_test(k),
-        18..=23 => claims_test(k),
-        24 => Test::OpenEnd,
-        25..=0xFFFF_FFFF => Test::Silent,
-    }
+    let c = ask(st, mem, after, found, 11, Test::Agrees(Role::EndPort));
+    let c = ask(st, mem, after, c, 11, Test::Agrees(Role::PortEnd));
+    let c = ask(st, mem, after, c, 11, Test::OpenEnd);
+    ask(st, mem, after, c, 12, Test::Silent)
 }
 
-pub fn clause_of(k: u32) -> u32
-    ensures { λ r. ⌜ r ≡ clauseOf k ⌝ }
+// The number of the first clause past `after` that fails, 0 where none does.
+pub fn clause_after(st: &[u32], mem: &[u16], after: u32) -> u32
+    ensures { λ r. ⌜ r ≡ askAll after 0 soundClauses (world (now (st .entry)) (now (mem .entry))) ⌝ }
 {
-    if k < MANY {
-        return CLAUSES[k as usize];
-    }
-    0
+    let c = counts(st, mem, after, 0);
+    let c = cables(st, mem, after, c);
+    let c = tokens(st, mem, after, c);
+    let c = outputs(st, mem, after, c);
+    let c = claims(st, mem, after, c);
+    openings(st, mem, after, c)
 }
 
 // The number of the first clause that fails, 0 where the state is sound. 1 is a memory of the wrong
@@ -132,17 +108,10 @@ pub fn clause_of(k: u32) -> u32
 pub fn unsound_clause(st: &[u32], mem: &[u16]) -> u32
     ensures { λ r. ⌜ r ≡ unsoundClause (world (now (st .entry)) (now (mem .entry))) ⌝ }
 {
-    if !shaped(st, mem) {
-        return 1;
+    if shaped(st, mem) {
+        return clause_after(st, mem, 0);
     }
-    let mut k = 0;
-    while k < MANY {
-        if !everywhere(st, mem, sound_test(k)) {
-            return clause_of(k);
-        }
-        k += 1;
-    }
-    0
+    1
 }
 
 // The Sound list of document 01 holds, and both lengths are right: one pass over each table.
@@ -152,22 +121,23 @@ pub fn is_sound(st: &[u32], mem: &[u16]) -> bool
     if !shaped(st, mem) {
         return false;
     }
-    let outside = everywhere(st, mem, Test::OfNode) & everywhere(st, mem, Test::OfLink);
-    let inside = everywhere(st, mem, Test::OfTile) & everywhere(st, mem, Test::OfEnd);
-    outside & (everywhere(st, mem, Test::OfPort) & inside)
+    let ports = everywhere(st, mem, Question::OfPort);
+    let inside = ports
+        & (everywhere(st, mem, Question::OfTile) & everywhere(st, mem, Question::OfEnd));
+    everywhere(st, mem, Question::OfNode) & (everywhere(st, mem, Question::OfLink) & inside)
 }
 
 // The five ties hold.
 pub fn is_tight(st: &[u32], mem: &[u16]) -> bool
     ensures { λ r. ⌜ r ≡ tight (world (now (st .entry)) (now (mem .entry))) ⌝ }
 {
-    let sent = everywhere(st, mem, Test::Sends) & everywhere(st, mem, Test::Replied);
-    everywhere(st, mem, Test::Tied) & sent
+    let sent = everywhere(st, mem, Question::Sends) & everywhere(st, mem, Question::Replied);
+    everywhere(st, mem, Question::Tied) & sent
 }
 
 // No token, no claim and no open circuit anywhere.
 pub fn is_quiet(st: &[u32], mem: &[u16]) -> bool
     ensures { λ r. ⌜ r ≡ quiet (world (now (st .entry)) (now (mem .entry))) ⌝ }
 {
-    everywhere(st, mem, Test::QuietPort) & everywhere(st, mem, Test::QuietEnd)
+    everywhere(st, mem, Question::QuietPort) & everywhere(st, mem, Question::QuietEnd)
 }

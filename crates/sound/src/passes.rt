@@ -1,5 +1,6 @@
-// All that the Sound list asks at one place of one table. Each record is read once for all of it, since
-// the tests stand side by side; one that has no circuit names nobody, and is not asked for whom.
+// All that the Sound list asks at one place of one table, in the order of its rows. Each record is read
+// once for all of it, since the tests stand side by side; one that has no circuit names nobody, and is not
+// asked for whom.
 use cells::end;
 use cells::link;
 use cells::node;
@@ -11,6 +12,7 @@ use clauses::cables::credited;
 use clauses::cables::greeted;
 use clauses::cables::room;
 use clauses::contents::contents;
+use clauses::contents::heard_tokens;
 use clauses::contents::held_tokens;
 use clauses::counts::end_counts;
 use clauses::counts::link_counts;
@@ -22,32 +24,30 @@ use clauses::pairs::Role;
 use clauses::pairs::agrees;
 use clauses::pairs::open_end;
 use clauses::pairs::silent;
-use clauses::ties::fed;
-use clauses::ties::idle;
-use clauses::ties::unfed;
 use names::Slot;
 ghost use mathlib.Core.Path.{_≡_};
-ghost use Rattle.cells.specs.View.{view};
+ghost use Rattle.names.specs.Size.{links, ports, tileLinks, ends};
 ghost use Rattle.cells.specs.World.{world};
-ghost use Rattle.sound.specs.Passes.{ofNode, ofLink, portPairs, ofPort, ofTile, endPairs, ofEnd, tied};
+ghost use Rattle.sound.specs.Clauses.{circuits, soundClauses, asked};
 
-pub fn of_node(st: &[u32], slot: Slot, i: usize) -> bool
-    ensures { λ r. ⌜ r ≡ ofNode (view (now (st .entry))) (slot .0) i ⌝ }
+pub fn of_node(st: &[u32], mem: &[u16], slot: Slot, i: usize) -> bool
+    ensures { λ r. ⌜ r ≡ asked soundClauses 1 (world (now (st .entry)) (now (mem .entry))) (slot .0) i ⌝ }
 {
-    let counts = unit_counts(unit::at(st, slot))
-        & (agrees(st, slot, Role::UnitPort, i) & silent(st, slot));
-    node_counts(node::at(st, slot)) & counts
+    let served = agrees(st, slot, Role::UnitPort, i) & silent(st, slot);
+    let unit = unit_counts(unit::at(st, slot)) & (heard_tokens(st, slot) & served);
+    node_counts(node::at(st, slot)) & unit
 }
 
-pub fn of_link(st: &[u32], slot: Slot, l: usize) -> bool
-    ensures { λ r. ⌜ r ≡ ofLink (view (now (st .entry))) (slot .0) l ⌝ }
+pub fn of_link(st: &[u32], mem: &[u16], slot: Slot, l: usize) -> bool
+    ensures { λ r. ⌜ r ≡ asked soundClauses links (world (now (st .entry)) (now (mem .entry))) (slot .0) l ⌝ }
 {
     let cabled = room(st, slot, l) & (cable(st, slot, l) & agrees(st, slot, Role::LinkPort, l));
     link_counts(link::at(st, slot, l)) & (credited(st, slot, l) & (greeted(st, slot, l) & cabled))
 }
 
-fn port_pairs(st: &[u32], slot: Slot, p: usize) -> bool
-    ensures { λ r. ⌜ r ≡ portPairs (view (now (st .entry))) (slot .0) p ⌝ }
+// What a port names names it back.
+fn port_circuits(st: &[u32], mem: &[u16], slot: Slot, p: usize) -> bool
+    ensures { λ r. ⌜ r ≡ asked circuits ports (world (now (st .entry)) (now (mem .entry))) (slot .0) p ⌝ }
 {
     let inward = agrees(st, slot, Role::PortUnit, p)
         & (agrees(st, slot, Role::PortClaim, p) & agrees(st, slot, Role::PortEnd, p));
@@ -55,33 +55,36 @@ fn port_pairs(st: &[u32], slot: Slot, p: usize) -> bool
 }
 
 pub fn of_port(st: &[u32], mem: &[u16], slot: Slot, p: usize) -> bool
-    ensures { λ r. ⌜ r ≡ ofPort (world (now (st .entry)) (now (mem .entry))) (slot .0) p ⌝ }
+    ensures { λ r. ⌜ r ≡ asked soundClauses ports (world (now (st .entry)) (now (mem .entry))) (slot .0) p ⌝ }
 {
     let k = port::at(st, slot, p);
     let counts = port_counts(k, p);
     let held = contents(st, mem, slot, p);
-    let alone = (k.circuit.kind == 0) & (k.sender.kind == 0);
+    let alone = (k.leg.circuit.kind == 0) & (k.sender.kind == 0);
     if alone {
         return counts & held;
     }
-    counts & (held & port_pairs(st, slot, p))
+    counts & (held & port_circuits(st, mem, slot, p))
 }
 
-pub fn of_tile(st: &[u32], slot: Slot, t: usize) -> bool
-    ensures { λ r. ⌜ r ≡ ofTile (view (now (st .entry))) (slot .0) t ⌝ }
+pub fn of_tile(st: &[u32], mem: &[u16], slot: Slot, t: usize) -> bool
+    ensures { λ r. ⌜ r ≡ asked soundClauses tileLinks (world (now (st .entry)) (now (mem .entry))) (slot .0) t ⌝ }
 {
     tile_counts(tile::at(st, slot, t)) & agrees(st, slot, Role::TilePort, t)
 }
 
-fn end_pairs(st: &[u32], slot: Slot, c: usize) -> bool
-    ensures { λ r. ⌜ r ≡ endPairs (view (now (st .entry))) (slot .0) c ⌝ }
+// What a channel-end names names it back, and an open one is aimed.
+fn end_circuits(st: &[u32], mem: &[u16], slot: Slot, c: usize) -> bool
+    ensures { λ r. ⌜ r ≡ asked circuits ends (world (now (st .entry)) (now (mem .entry))) (slot .0) c ⌝ }
 {
-    let sent = agrees(st, slot, Role::ClaimEnd, c) & agrees(st, slot, Role::EndPort, c);
-    agrees(st, slot, Role::ClaimPort, c) & (agrees(st, slot, Role::EndClaim, c) & sent)
+    let sent = agrees(st, slot, Role::EndPort, c) & open_end(st, slot, c);
+    let claimed = agrees(st, slot, Role::EndClaim, c)
+        & (agrees(st, slot, Role::ClaimEnd, c) & sent);
+    agrees(st, slot, Role::ClaimPort, c) & claimed
 }
 
-pub fn of_end(st: &[u32], slot: Slot, c: usize) -> bool
-    ensures { λ r. ⌜ r ≡ ofEnd (view (now (st .entry))) (slot .0) c ⌝ }
+pub fn of_end(st: &[u32], mem: &[u16], slot: Slot, c: usize) -> bool
+    ensures { λ r. ⌜ r ≡ asked soundClauses ends (world (now (st .entry)) (now (mem .entry))) (slot .0) c ⌝ }
 {
     let k = end::at(st, slot, c);
     let counts = end_counts(k);
@@ -90,12 +93,5 @@ pub fn of_end(st: &[u32], slot: Slot, c: usize) -> bool
     if alone {
         return counts & held;
     }
-    counts & (held & (end_pairs(st, slot, c) & open_end(st, slot, c)))
-}
-
-// All that the ties ask of a link.
-pub fn tied(st: &[u32], mem: &[u16], slot: Slot, l: usize) -> bool
-    ensures { λ r. ⌜ r ≡ tied (world (now (st .entry)) (now (mem .entry))) (slot .0) l ⌝ }
-{
-    fed(st, mem, slot, l) & (unfed(st, mem, slot, l) & idle(st, slot, l))
+    counts & (held & end_circuits(st, mem, slot, c))
 }

@@ -5,39 +5,38 @@ use Prim.Native.Nat.{ℕ, _+_, _<_, _≤_}
 use mathlib.Core.Path.{_≡_, refl, sym, ap, _∙_}
 use mathlib.Core.Bool.{true, false}
 use mathlib.Core.List.{List}
-use mathlib.Core.Logic.{inl, inr, ⊎-elim}
 use native.Mathlib.Omega.{arith}
 use lib.Dec.{eqb, ltb}
 use lib.ListN.{length-set}
-use Rattle.laws.specs.Table.{upd}
 use Rattle.laws.proofs.Order.{by-test}
-use Rattle.laws.proofs.Table.{upd-same, upd-all}
-use Rattle.names.specs.Size.{links, ports, replyPort, sink, ends}
-use Rattle.circuits.specs.Circuit.{ofPeer, ofHop, tileOf}
+use Rattle.laws.proofs.Table.{upd-all}
+use Rattle.names.specs.Size.{links, ports, replyPort, sink}
 use Rattle.circuits.specs.declared.Hop.{Hop}
 use Rattle.circuits.specs.declared.Hop.the-variants as Hops
-use Rattle.circuits.specs.declared.Peer.the-variants.{Nobody}
 use Rattle.tokens.specs.Word.{closes}
 use Rattle.ports.specs.Queue.{capacity, Fair, takeCounters}
 use Rattle.ports.specs.Memory.{place}
 use Rattle.cells.specs.View.{Net}
 use Rattle.cells.specs.World.{World, farOf}
-use Rattle.cells.specs.Changes.{countersAs, circuitAs, userAs}
-use Rattle.cells.specs.declared.port.Port.{Port}
+use Rattle.ports.specs.declared.Counters.{Counters}
 use Rattle.cells.specs.declared.link.Far.{Far}
 use Rattle.cells.specs.declared.link.Far.the-variants.{Nowhere, At}
-use Rattle.acts.specs.Acts.{Room, Holds, pushed, popped, withNet, firstAt, hopped, shutPort, shut}
+use Rattle.acts.specs.Acts.{pushed, popped, withNet, firstAt, hopped}
+use Rattle.acts.specs.Needs.{Room, Holds, Given}
 use Rattle.grants.specs.Grants.{considered}
 use Rattle.answers.specs.Out.{Out, out}
 use Rattle.answers.specs.declared.Answer.the-variants.{Moved}
 use Rattle.messages.specs.Heard.{listens}
-use Rattle.messages.specs.Ended.{longest, Ready, ended}
-use Rattle.switch.specs.Step.{consideredAt, grantsUp, took, closesOut, closesUnit, paid, arrives, crosses, movesOut, gives, Given, hears, Door, FarRoom, Takes, opensChannel, opensUnit}
-use Rattle.switch.proofs.Takes.{up-nodes, up-ports, up-far}
+use Rattle.messages.specs.Ended.{ended}
+use Rattle.messages.specs.Needs.{longest, Ready}
+use Rattle.switch.specs.Step.{consideredAt, grantsUp, took, closesOut, closesUnit, paid, arrives, crosses, movesOut}
+use Rattle.switch.specs.Step.{hears, opensChannel, opensUnit}
+use Rattle.switch.specs.Needs.{FarRoom, Takes}
+use Rattle.switch.proofs.Takes.{up-nodes, up-ports, up-cables}
 
 -- counters of a port that can take k more tokens
-Able : ℕ → Port → Type 0
-Able k q = Fair (q .counters) × (q .counters .held + k ≤ capacity)
+Able : ℕ → Counters → Type 0
+Able k q = Fair q × (q .held + k ≤ capacity)
 
 module _ (w : World) (n p : ℕ) where
   took-nodes : took w n p .net .nodes ≡ w .net .nodes
@@ -50,21 +49,22 @@ module _ (w : World) (n p : ℕ) where
   ends-at s (At m j) = refl
 
   up-ends : (s : Net) → grantsUp s n p .ends ≡ s .ends
-  up-ends s = by-test (ltb p links) (λ e. rw e (ends-at s (farOf (s .links n p)))) (λ e. rw e)
+  up-ends s = by-test (ltb p links) (λ e. rw e (ends-at s (farOf (s .links .cables n p)))) (λ e. rw e)
 
   took-ends : took w n p .net .ends ≡ w .net .ends
   unfolding took popped
   took-ends = up-ends (popped w n p .net)
 
-  took-far : (m l : ℕ) → farOf (took w n p .net .links m l) ≡ farOf (w .net .links m l)
+  took-cables : took w n p .net .links .cables ≡ w .net .links .cables
   unfolding took popped
-  took-far m l = up-far (popped w n p .net) n p m l
+  took-cables = up-cables (popped w n p .net) n p
 
   -- taking a token leaves room where there was
-  popped-able : (m j k : ℕ) → Holds w n p 1 → Able k (w .net .ports m j) → Able k (popped w n p .net .ports m j)
+  popped-able : (m j k : ℕ) → Holds w n p 1 → Able k (w .net .ports .counters m j) → Able k (popped w n p .net .ports .counters m j)
   unfolding popped Able
   popped-able m j k h a =
-      upd-all (λ b d q. Able k (w .net .ports b d) → Able k q) (w .net .ports) n p (countersAs (w .net .ports n p) (takeCounters (w .net .ports n p .counters))) m j
+      let c = w .net .ports .counters in
+      upd-all (λ b d q. Able k (c b d) → Able k q) c n p (takeCounters (c n p)) m j
       (λ d e. rw (d, e) (λ x. (record { head-in = omega arith; held-in = omega (arith, x .0 .held-in) }, omega (arith, x .1))))
       (λ o x. x) a
 
@@ -78,35 +78,28 @@ module _ (w : World) (n p : ℕ) where
         port = r .port;
         fair = rw (up-ports z n p) (a .0);
         room = rw (up-ports z n p) (a .1);
-        reaches = rw (length-set (w .memory) (place n p + w .net .ports n p .counters .head) 0) (r .reaches);
+        reaches = rw (length-set (w .memory) (place n p + w .net .ports .counters n p .head) 0) (r .reaches);
       }
-
-shut-counters : (s : Net) (n p m j : ℕ) → shut s n p .ports m j .counters ≡ s .ports m j .counters
-shut-counters s n p m j =
-    upd-all (λ a b q. q .counters ≡ s .ports a b .counters) (s .ports) n p (shutPort (s .ports n p)) m j (λ d e. rw (d, e)) (λ o. refl)
 
 -- A hop that closes leaves the number of nodes, where cables lead and what ports hold
 module _ (s : Net) (n p l x : ℕ) where
   closed-nodes : closesOut s n p l x .nodes ≡ s .nodes
   closed-nodes = by-test (closes x) (λ e. rw e) (λ e. rw e)
 
-  freed-far : (m j : ℕ) → farOf (upd (s .links) n l (userAs (s .links n l) (ofPeer Nobody)) m j) ≡ farOf (s .links m j)
-  freed-far m j =
-      upd-all (λ a b k. farOf k ≡ farOf (s .links a b)) (s .links) n l (userAs (s .links n l) (ofPeer Nobody)) m j (λ d e. rw (d, e)) (λ o. refl)
+  closed-cables : closesOut s n p l x .links .cables ≡ s .links .cables
+  closed-cables = by-test (closes x) (λ e. rw e) (λ e. rw e)
 
-  closed-far : (m j : ℕ) → farOf (closesOut s n p l x .links m j) ≡ farOf (s .links m j)
-  closed-far m j = by-test (closes x) (λ e. rw e (freed-far m j)) (λ e. rw e)
+  pub closed-counters : closesOut s n p l x .ports .counters ≡ s .ports .counters
+  closed-counters = by-test (closes x) (λ e. rw e) (λ e. rw e)
 
-  pub closed-counters : (m j : ℕ) → closesOut s n p l x .ports m j .counters ≡ s .ports m j .counters
-  closed-counters m j = by-test (closes x) (λ e. rw e (shut-counters s n p m j)) (λ e. rw e)
-
-  closed-room : (v : List ℕ) (m j k : ℕ) → Room (record { net = s; memory = v }) m j k → Room (record { net = closesOut s n p l x; memory = v }) m j k
+  closed-room : (v : List ℕ) (m j k : ℕ) → Room (record { net = s; memory = v }) m j k
+      → Room (record { net = closesOut s n p l x; memory = v }) m j k
   closed-room v m j k r =
       record {
         node = rw (closed-nodes) (r .node);
         port = r .port;
-        fair = rw (closed-counters m j) (r .fair);
-        room = rw (closed-counters m j) (r .room);
+        fair = rw closed-counters (r .fair);
+        room = rw closed-counters (r .room);
         reaches = r .reaches;
       }
 
@@ -131,8 +124,8 @@ module _ (w : World) (s : Net) (m : List ℕ) (n p : ℕ) (e : record { net = s;
   room-after l x (At a j) h r =
       closed-room s n p l x m (a .0) j 1 (rw e (took-room w n p (a .0) j 1 h r))
 
-  pub far-after : (l x : ℕ) → farOf (closesOut s n p l x .links n l) ≡ farOf (w .net .links n l)
-  far-after l x = closed-far s n p l x n l ∙ rw (net-is) (took-far w n p n l)
+  pub far-after : (l x : ℕ) → farOf (closesOut s n p l x .links .cables n l) ≡ farOf (w .net .links .cables n l)
+  far-after l x = rw (closed-cables s n p l x, net-is, took-cables w n p)
 
   pub closed-after : (l x : ℕ) → n < w .net .nodes → n < closesOut s n p l x .nodes
   closed-after l x h = rw (closed-nodes s n p l x) (node-after h)
@@ -147,20 +140,27 @@ module _ (w : World) (s : Net) (m : List ℕ) (n p : ℕ) (e : record { net = s;
             record {
               node = x .node;
               port = x .port;
-              fair = rw (shut-counters s n p n replyPort) (x .fair);
-              room = rw (shut-counters s n p n replyPort) (x .room);
+              fair = x .fair;
+              room = x .room;
               reaches = x .reaches;
             };
-        cabled = λ a l ha hl. rw (net-is, took-nodes w n p, took-far w n p a l) (r .cabled a l (rw (net-is, took-nodes w n p) at ha) hl);
+        cabled = λ a l ha hl. rw (net-is, took-nodes w n p, took-cables w n p) (r .cabled a l (rw (net-is, took-nodes w n p) at ha) hl);
       }
       )
 
   -- a token that a control unit hears: the last of a message, and any other
-  pub hears-end : (z : Net) (o : Out World) (x : ℕ) → x ≡ firstAt w n p → closes x ≡ true → z ≡ closesUnit s n p → o ≡ ended (record { net = z; memory = m }) n x → o ≡ hears w n p
+  pub hears-end : (z : Net) (o : Out World) (x : ℕ) → x ≡ firstAt w n p → closes x ≡ true
+      → z ≡ closesUnit s n p
+      → o ≡ ended (record { net = z; memory = m }) n x
+      → o ≡ hears w n p
   hears-end z o x q f h g =
-      rw (ap closes (sym q) ∙ f) (g ∙ ap (λ (v : World). ended v n x) (after-took z x (λ y t. closesUnit y n p) q h) ∙ ap (ended (withNet (took w n p) (closesUnit (took w n p .net) n p)) n) q)
+      let shut : World = withNet (took w n p) (closesUnit (took w n p .net) n p) in
+      rw (ap closes (sym q) ∙ f)
+      (g ∙ ap (λ (v : World). ended v n x) (after-took z x (λ y t. closesUnit y n p) q h) ∙ ap (ended shut n) q)
 
-  pub hears-more : (z : Net) (x : ℕ) → x ≡ firstAt w n p → closes x ≡ false → z ≡ listens s n x → out Moved (record { net = z; memory = m }) ≡ hears w n p
+  pub hears-more : (z : Net) (x : ℕ) → x ≡ firstAt w n p → closes x ≡ false
+      → z ≡ listens s n x
+      → out Moved (record { net = z; memory = m }) ≡ hears w n p
   hears-more z x q f h = rw (ap closes (sym q) ∙ f) (ap (out Moved) (after-took z x (λ y t. listens y n t) q h))
 
 -- A token that crosses
@@ -169,17 +169,19 @@ unfolding pushed
 arrival-nodes w Nowhere x = refl
 arrival-nodes w (At a j) x = refl
 
-pub arrived-nodes : (w : World) (s : Net) (m : List ℕ) (f : Far) (x n : ℕ) → record { net = s; memory = m } ≡ arrives w f x → n < w .net .nodes → n < s .nodes
+pub arrived-nodes : (w : World) (s : Net) (m : List ℕ) (f : Far) (x n : ℕ) → record { net = s; memory = m } ≡ arrives w f x
+    → n < w .net .nodes
+    → n < s .nodes
 arrived-nodes w s m f x n e h = rw (ap (λ (z : World). z .net .nodes) e ∙ arrival-nodes w f x) h
 
-pub cross-gives : (w : World) (s y z : Net) (m : List ℕ) (n l x : ℕ) (f : Far) → f ≡ farOf (w .net .links n l)
+pub cross-gives : (w : World) (s y z : Net) (m : List ℕ) (n l x : ℕ) (f : Far) → f ≡ farOf (w .net .links .cables n l)
     → record { net = s; memory = m } ≡ arrives w f x
     → y ≡ paid s n l
     → z ≡ considered y n l
     → record { net = z; memory = m } ≡ crosses w n l x
 unfolding crosses
 cross-gives w s y z m n l x f q e d h =
-    let a : record { net = s; memory = m } ≡ arrives w (farOf (w .net .links n l)) x = e ∙ ap (λ (g : Far). arrives w g x) q in
+    let a : record { net = s; memory = m } ≡ arrives w (farOf (w .net .links .cables n l)) x = e ∙ ap (λ (g : Far). arrives w g x) q in
     λ j. record {
       net = (h ∙ ap (λ (v : Net). considered v n l) (d ∙ ap (λ (v : World). paid (v .net) n l) a)) j;
       memory = ap (λ (v : World). v .memory) a j;
@@ -192,17 +194,7 @@ pub moves-gives : (w z y : World) (n p l x : ℕ) → x ≡ firstAt w n p
 moves-gives w z y n p l x q d h =
     h ∙ ap (crosses y n l) q ∙ ap (λ (v : World). crosses v n l (firstAt w n p)) d
 
--- a channel that is given a token
-pub gives-nodes : (s : Net) (n c x : ℕ) → gives s n c x .nodes ≡ s .nodes
-gives-nodes s n c x = by-test (eqb c sink) (λ e. rw e) (λ e. rw e)
-
-pub door : (s : Net) (n c x : ℕ) → Given s n c x → Door c
-door s n c x g = ⊎-elim (λ e. inl e) (λ h. inr (h .0)) g
-
 -- A circuit that opens leaves what there is to take
-hopped-counters : (s : Net) (n p : ℕ) (h : Hop) → hopped s n p h .ports n p .counters ≡ s .ports n p .counters
-hopped-counters s n p h = ap (λ (k : Port). k .counters) (upd-same (s .ports) n p (circuitAs (s .ports n p) (ofHop h) (tileOf h)))
-
 pub hopped-takes : (w : World) (n p k : ℕ) (h : Hop) → Takes w n p k → Takes (withNet w (hopped (w .net) n p h)) n p k
 hopped-takes w n p k h r =
     record {
@@ -210,8 +202,8 @@ hopped-takes w n p k h r =
           record {
             node = r .holds .node;
             port = r .holds .port;
-            fair = rw (hopped-counters (w .net) n p h) (r .holds .fair);
-            held = rw (hopped-counters (w .net) n p h) (r .holds .held);
+            fair = r .holds .fair;
+            held = r .holds .held;
             reaches = r .holds .reaches;
           };
       up = r .up;
@@ -220,11 +212,13 @@ hopped-takes w n p k h r =
 pub channel-takes : (w : World) (n p k c t : ℕ) → Takes w n p k → Takes (withNet w (opensChannel (w .net) n p c t)) n p k
 channel-takes w n p k c t r =
     let z = hopped-takes w n p k (Hops.Channel c t) r in
+    let h = z .holds in
     by-test (eqb c sink)
-    (λ e. rw e (record { holds = record { node = z .holds .node; port = z .holds .port; fair = z .holds .fair; held = z .holds .held; reaches = z .holds .reaches }; up = z .up }))
-    (λ e. rw e (record { holds = record { node = z .holds .node; port = z .holds .port; fair = z .holds .fair; held = z .holds .held; reaches = z .holds .reaches }; up = z .up }))
+    (λ e. rw e (record { holds = record { node = h .node; port = h .port; fair = h .fair; held = h .held; reaches = h .reaches }; up = z .up }))
+    (λ e. rw e (record { holds = record { node = h .node; port = h .port; fair = h .fair; held = h .held; reaches = h .reaches }; up = z .up }))
 
 pub unit-takes : (w : World) (n p k : ℕ) → Takes w n p k → Takes (withNet w (opensUnit (w .net) n p)) n p k
 unit-takes w n p k r =
     let z = hopped-takes w n p k Hops.Unit r in
-    record { holds = record { node = z .holds .node; port = z .holds .port; fair = z .holds .fair; held = z .holds .held; reaches = z .holds .reaches }; up = z .up }
+    let h = z .holds in
+    record { holds = record { node = h .node; port = h .port; fair = h .fair; held = h .held; reaches = h .reaches }; up = z .up }

@@ -18,4 +18,4 @@ leads nodes (At m k) h = h m k refl
 
 pub cabled : (w : World) → sound w ≡ true → (n l : ℕ) → n < w .net .nodes → l < links → Cabled (w .net) n l
 cabled w s n l hn hl =
-    leads (w .net .nodes) (farOf (w .net .links n l)) (λ m k e. let j = cable-facts w s n hn l hl m k e in (j .node, j .link))
+    leads (w .net .nodes) (farOf (w .net .links .cables n l)) (λ m k e. let j = cable-facts w s n hn l hl m k e in (j .node, j .link))

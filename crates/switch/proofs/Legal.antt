@@ -9,35 +9,36 @@ use native.Mathlib.Omega.{arith}
 use lib.Dec.{eqb, ltb}
 use lib.ListN.{getD}
 use borrow.Author.Tests.{ltb-true, ltb-false, eqb-true, eq-eqb}
-use Rattle.laws.proofs.All.{either, below, equal}
 use Rattle.laws.proofs.Order.{by-test, clash}
 use Rattle.laws.proofs.Row.{row-at}
-use Rattle.names.specs.Size.{ports, ends, sink}
+use Rattle.names.specs.Size.{ports, channels, sink}
 use Rattle.circuits.specs.declared.Hop.the-variants.{Shut}
 use Rattle.tokens.specs.Control.{ssctrl}
 use Rattle.tokens.specs.Word.{closes, controlWord, valueOf, isControl, isThree}
-use Rattle.tokens.specs.Shape.{legalChannel, threeShape, shapeOf}
+use Rattle.tokens.specs.Shape.{Shape, legalChannel, threeShape, shapeOf}
 use Rattle.tokens.specs.Header.{readOne, readThree}
-use Rattle.tokens.specs.declared.word.Shape.{Shape}
-use Rattle.tokens.specs.declared.word.Shape.the-variants as S
+use Rattle.tokens.specs.Shape as S
 use Rattle.tokens.specs.declared.header.Target.{Target}
 use Rattle.tokens.specs.declared.header.Target.the-variants as T
+use Rattle.tokens.proofs.Channels.{legal-channel}
 use Rattle.ports.specs.Queue.{capacity, ring}
 use Rattle.ports.specs.Memory.{place, stretch}
-use Rattle.ports.proofs.Rings.{ring-start, ring-next}
-use Rattle.grammar.specs.Stage.{step, fromFresh, fromTwoDue, fromLastDue, isBad}
+use Rattle.ports.proofs.Ports.{ring-start, ring-next}
+use Rattle.grammar.specs.Stage.{step, isBad}
 use Rattle.grammar.specs.Walk.{walk}
 use Rattle.grammar.specs.declared.stage.Stage.{Stage}
 use Rattle.grammar.specs.declared.stage.Stage.the-variants.{Bad, Fresh, Body, OneDue, ThreeDue, TwoDue, LastDue}
 use Rattle.cells.specs.World.{World, hop, queue}
 use Rattle.acts.specs.Acts.{wordAt}
+use Rattle.acts.specs.Needs.{Door}
 use Rattle.sound.specs.Sound.{sound}
 use Rattle.sound.proofs.Facts.{contents-facts}
 use Rattle.plans.specs.Plan.{targetAt}
-use Rattle.switch.specs.Step.{Door}
 
 -- by what a word is
-by-shape : (P : Shape → Type 0) (w : ℕ) → P S.Closing → P S.Body → P S.Wrong → (w < 0x300 → P S.OneByte) → (0x600 ≤ w → P (threeShape (w - 0x600))) → P (shapeOf w)
+by-shape : (P : Shape → Type 0) (w : ℕ) → P S.Closing → P S.Body → P S.Wrong → (w < 0x300 → P S.OneByte)
+    → (0x600 ≤ w → P (threeShape (w - 0x600)))
+    → P (shapeOf w)
 unfolding shapeOf
 by-shape P w a b c d e =
     by-test (closes w) (λ t. rw t a) (λ t. rw t
@@ -46,7 +47,9 @@ by-shape P w a b c d e =
     (by-test (ltb w 0x300) (λ x. rw x (d (ltb-true w 0x300 x))) (λ x. rw x
     (by-test (ltb w 0x600) (λ y. rw y c) (λ y. rw y (e (ltb-false w 0x600 y)))))))))))
 
-by-three : (P : Shape → Type 0) (m : ℕ) → (legalChannel m ≡ true → P S.Channel) → P S.ThreeByte → (m ≡ 0x1C3 → P S.Unit) → P S.Wrong → P (threeShape m)
+by-three : (P : Shape → Type 0) (m : ℕ) → (legalChannel m ≡ true → P S.Channel) → P S.ThreeByte → (m ≡ 0x1C3 → P S.Unit)
+    → P S.Wrong
+    → P (threeShape m)
 unfolding threeShape
 by-three P m a b c d =
     by-test (legalChannel m) (λ t. rw t (a t)) (λ t. rw t
@@ -68,16 +71,20 @@ good-before TwoDue q e = refl
 good-before LastDue q e = refl
 
 -- the first of three bytes, the second, the last
-two-due : (w : ℕ) → isThree w ≡ true → isBad (fromFresh (shapeOf w)) ≡ false → fromFresh (shapeOf w) ≡ TwoDue
+two-due : (w : ℕ) → isThree w ≡ true → isBad (step Fresh (shapeOf w)) ≡ false → step Fresh (shapeOf w) ≡ TwoDue
 two-due w t =
-    by-shape (λ x. isBad (fromFresh x) ≡ false → fromFresh x ≡ TwoDue) w (λ b. clash b) (λ b. clash b) (λ b. clash b)
+    by-shape (λ x. isBad (step Fresh x) ≡ false → step Fresh x ≡ TwoDue) w (λ b. clash b) (λ b. clash b) (λ b. clash b)
     (λ l b. absurd (small l (eqb-true (w / 1024 % 2) 1 t)))
-    (λ g. by-three (λ x. isBad (fromFresh x) ≡ false → fromFresh x ≡ TwoDue) (w - 0x600) (λ l b. refl) (λ b. refl) (λ l b. clash b) (λ b. clash b))
+    (λ g. by-three (λ x. isBad (step Fresh x) ≡ false → step Fresh x ≡ TwoDue) (w - 0x600)
+    (λ l b. refl)
+    (λ b. refl)
+    (λ l b. clash b)
+    (λ b. clash b))
   where
     small : {w : ℕ} → w < 0x300 → w / 1024 % 2 ≡ 1 → ⊥
     small l e = omega arith
 
-last-due : (x : Shape) → isBad (fromTwoDue x) ≡ false → fromTwoDue x ≡ LastDue
+last-due : (x : Shape) → isBad (step TwoDue x) ≡ false → step TwoDue x ≡ LastDue
 last-due S.Wrong b = clash b
 last-due S.Body b = clash b
 last-due S.Closing b = clash b
@@ -87,16 +94,16 @@ last-due S.Channel b = refl
 last-due S.Unit b = clash b
 
 -- a last byte that is no control is a channel that is there
-last-legal : (w : ℕ) → isControl w ≡ false → isBad (fromLastDue (shapeOf w)) ≡ false → Door (valueOf w)
+last-legal : (w : ℕ) → isControl w ≡ false → isBad (step LastDue (shapeOf w)) ≡ false → Door (valueOf w)
 last-legal w n =
-    by-shape (λ x. isBad (fromLastDue x) ≡ false → Door (valueOf w)) w (λ b. clash b) (λ b. clash b) (λ b. clash b) (λ l b. clash b)
-    (λ g. by-three (λ x. isBad (fromLastDue x) ≡ false → Door (valueOf w)) (w - 0x600)
-    (λ l b. named g (either (below (w - 0x600) ends) (equal (w - 0x600) sink) .sure l))
+    by-shape (λ x. isBad (step LastDue x) ≡ false → Door (valueOf w)) w (λ b. clash b) (λ b. clash b) (λ b. clash b) (λ l b. clash b)
+    (λ g. by-three (λ x. isBad (step LastDue x) ≡ false → Door (valueOf w)) (w - 0x600)
+    (λ l b. named g (legal-channel (w - 0x600) .sure l))
     (λ b. clash b)
     (λ e b. clash (sym (unit g e) ∙ n))
     (λ b. clash b))
   where
-    named : 0x600 ≤ w → ((w - 0x600 < ends) ⊎ (w - 0x600 ≡ sink)) → Door (valueOf w)
+    named : 0x600 ≤ w → ((w - 0x600 < channels) ⊎ (w - 0x600 ≡ sink)) → Door (valueOf w)
     named g h = ⊎-elim (λ i. inr (omega arith)) (λ i. inl (omega arith)) h
 
     unit : 0x600 ≤ w → w - 0x600 ≡ 0x1C3 → isControl w ≡ true
@@ -113,23 +120,27 @@ third a b c q e t n =
 
 module _ (w : World) (s : sound w ≡ true) (n p : ℕ) (hn : n < w .net .nodes) (hp : p < ports) where
   abbrev rest : List ℕ
-  rest = ring (stretch (w .memory) (place n p)) (w .net .ports n p .counters .head + 3) (w .net .ports n p .counters .held - 3)
+  rest = ring (stretch (w .memory) (place n p)) (w .net .ports .counters n p .head + 3) (w .net .ports .counters n p .held - 3)
 
   -- the first three tokens
-  front : 3 ≤ w .net .ports n p .counters .held → queue w n p
+  front : 3 ≤ w .net .ports .counters n p .held → queue w n p
       ≡ (wordAt w n p 0 ∷ wordAt w n p 1 ∷ wordAt w n p 2 ∷ rest)
   front h =
       let m = stretch (w .memory) (place n p) in
-      let b = w .net .ports n p .counters .head in
-      let k = w .net .ports n p .counters .held in
-      let at : (i : ℕ) → getD m ((b + i) % capacity) 0 ≡ wordAt w n p i = λ i. row-at capacity (place n p) ((b + i) % capacity) (w .memory) 0 (omega arith) in
+      let b = w .net .ports .counters n p .head in
+      let k = w .net .ports .counters n p .held in
+      let at : (i : ℕ) → getD m ((b + i) % capacity) 0 ≡ wordAt w n p i =
+      λ i. row-at capacity (place n p) ((b + i) % capacity) (w .memory) 0 (omega arith) in
       sym (ring-start m b k)
       ∙ ring-next m b k 0 (omega arith)
-      ∙ ap (λ (q : List ℕ). getD m ((b + 0) % capacity) 0 ∷ q) (ring-next m b k 1 (omega arith) ∙ ap (λ (q : List ℕ). getD m ((b + 1) % capacity) 0 ∷ q) (ring-next m b k 2 (omega arith)))
+      ∙ ap (λ (q : List ℕ). getD m ((b + 0) % capacity) 0 ∷ q) (ring-next m b k 1 (omega arith)
+      ∙ ap (λ (q : List ℕ). getD m ((b + 1) % capacity) 0 ∷ q) (ring-next m b k 2 (omega arith)))
       ∙ rw (at 0, at 1, at 2)
 
   -- the channel that a whole header names is there
-  named-door : hop (w .net) n p ≡ Shut → isThree (wordAt w n p 0) ≡ true → 3 ≤ w .net .ports n p .counters .held → isControl (wordAt w n p 2) ≡ false → Door (valueOf (wordAt w n p 2))
+  named-door : hop (w .net) n p ≡ Shut → isThree (wordAt w n p 0) ≡ true → 3 ≤ w .net .ports .counters n p .held
+      → isControl (wordAt w n p 2) ≡ false
+      → Door (valueOf (wordAt w n p 2))
   named-door e t h c =
       let f = contents-facts w s n hn p hp in
       third (wordAt w n p 0) (wordAt w n p 1) (wordAt w n p 2) (rest) (rw (e, front h) at f) t c
@@ -140,7 +151,7 @@ LegalDoor (T.Channel m c) = Door c
 LegalDoor (T.Unit m) = Unit
 
 pub legal-target : (w : World) → sound w ≡ true → (n p : ℕ) → n < w .net .nodes → p < ports → hop (w .net) n p ≡ Shut
-    → (isThree (wordAt w n p 0) ≡ true → 3 ≤ w .net .ports n p .counters .held)
+    → (isThree (wordAt w n p 0) ≡ true → 3 ≤ w .net .ports .counters n p .held)
     → LegalDoor (targetAt w n p)
 unfolding readOne readThree
 legal-target w s n p hn hp e whole =

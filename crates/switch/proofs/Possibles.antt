@@ -2,20 +2,20 @@
 use Prim.{tt}
 use Prim.Native.Nat.{ℕ, _+_, _%_, _<_, _≤_}
 use mathlib.Core.Path.{_≡_, refl, sym, ap}
-use mathlib.Core.Bool.{true, false, not, _&&_, _||_}
+use mathlib.Core.Bool.{true, not, _||_}
 use mathlib.Core.Logic.{inl, inr, ⊎-elim}
 use native.Mathlib.Omega.{arith}
-use lib.Dec.{eqb, ltb, leb, lit≤}
+use lib.Dec.{eqb, ltb, lit≤}
 use lib.ListN.{getD}
-use borrow.Author.Tests.{eqb-true, eqb-false, ltb-true, ltb-false, leb-false}
-use Rattle.laws.proofs.All.{Sought, fails, passes, seek}
+use borrow.Author.Tests.{eqb-true, eqb-false, ltb-true, ltb-false}
+use Rattle.laws.specs.All.{first}
+use Rattle.laws.proofs.All.{first-found}
 use Rattle.laws.proofs.Order.{by-test, clash, never}
-use Rattle.names.specs.Size.{links, ports, replyPort, tileLinks, ends, endBuffer, sink}
+use Rattle.names.specs.Size.{links, ports, replyPort, tileLinks, sink}
 use Rattle.circuits.specs.Circuit.{peerOf}
 use Rattle.circuits.specs.declared.Circuit.{Circuit}
 use Rattle.circuits.specs.declared.Hop.{Hop}
 use Rattle.circuits.specs.declared.Hop.the-variants as Hops
-use Rattle.tokens.specs.Word.{isPause}
 use Rattle.tokens.specs.declared.header.Width.{Width}
 use Rattle.tokens.specs.declared.header.Width.the-variants as Widths
 use Rattle.tokens.specs.declared.header.Target.{Target}
@@ -32,12 +32,15 @@ use Rattle.cells.specs.declared.link.Far.the-variants.{Nowhere, At}
 use Rattle.clauses.specs.declared.pairs.Role.the-variants.{PortLink, PortTile, PortUnit, PortClaim}
 use Rattle.clauses.specs.declared.pairs.Named.the-variants.{Nothing, One}
 use Rattle.clauses.specs.Pairs.{portOf}
-use Rattle.acts.specs.Acts.{widthAt, numberAt, wordAt, firstAt, Holds}
-use Rattle.messages.specs.Ended.{Ready}
+use Rattle.acts.specs.Acts.{widthAt, numberAt, wordAt, firstAt, channelClaimed, channelFull}
+use Rattle.acts.specs.Needs.{Holds, Door}
+use Rattle.acts.proofs.Doors.{given-room}
+use Rattle.messages.specs.Needs.{Ready}
 use Rattle.sound.specs.Sound.{sound}
 use Rattle.sound.proofs.Facts.{fair, reaches, cable-facts, room-facts, pair-facts, silent-facts}
-use Rattle.plans.specs.Plan.{markedWidth, sizeOf, sameWidth, targetAt, networkAt, lowestLink, routePlan, lowestTile, tileUsed, channelPlan, unitPlan, herePlan, numberIn, byWay, wayPlan, headerPlan, outPlan, handPlan, byHop, planOf}
-use Rattle.switch.specs.Step.{Takes, Door, Given, FarRoom, Possible}
+use Rattle.plans.specs.Plan.{markedWidth, sizeOf, sameWidth, targetAt, networkAt, candidate, lowestLink, routePlan, lowestTile, tileFree}
+use Rattle.plans.specs.Plan.{channelPlan, unitPlan, herePlan, numberIn, byWay, wayPlan, headerPlan, outPlan, handPlan, byHop, planOf}
+use Rattle.switch.specs.Needs.{Takes, FarRoom, Possible}
 use Rattle.switch.proofs.Legal.{LegalDoor, legal-target}
 use Rattle.switch.proofs.Cabled.{cabled}
 
@@ -48,36 +51,29 @@ same-size Widths.Three Widths.One e = clash (sym e)
 same-size Widths.Three Widths.Three e = refl
 
 module _ (w : World) (s : sound w ≡ true) (n p : ℕ) (hn : n < w .net .nodes) (hp : p < ports) where
-  pub holds : (k : ℕ) → k ≤ w .net .ports n p .counters .held → Holds w n p k
+  pub holds : (k : ℕ) → k ≤ w .net .ports .counters n p .held → Holds w n p k
   holds k h = record { node = hn; port = hp; fair = fair w s n hn p hp; held = h; reaches = reaches w s n hn p hp }
 
-  takes : (k : ℕ) → k ≤ w .net .ports n p .counters .held → Takes w n p k
+  takes : (k : ℕ) → k ≤ w .net .ports .counters n p .held → Takes w n p k
   takes k h = record { holds = holds k h; up = λ l. cabled w s n p hn l }
 
   route-possible : (d v : ℕ) → Possible w n p (routePlan (w .net) n d v)
   route-possible d v =
-      by-test (ltb (lowestLink (w .net) n d v true) links)
+      by-test (ltb (lowestLink (w .net) n d v) links)
       (λ e. rw e (ltb-true _ _ e))
-      (λ e. rw e (by-test (ltb (lowestLink (w .net) n d v false) links) (λ f. rw f tt) (λ f. rw f tt)))
-
-  tile-there : (lowestTile (w .net) n ≡ tileLinks → ⊥) → lowestTile (w .net) n < tileLinks
-  tile-there ne = found (seek (tileUsed (w .net) n) tileLinks 0)
-    where
-      found : Sought (tileUsed (w .net) n) tileLinks 0 → lowestTile (w .net) n < tileLinks
-      found (fails h e) = h
-      found (passes q h) = absurd (ne q)
+      (λ e. rw e (by-test (ltb (first links (candidate (w .net) n d v)) links) (λ f. rw f tt) (λ f. rw f tt)))
 
   channel-possible : (c : ℕ) → Door c → Takes w n p (sizeOf (widthAt (w .net) n)) → Possible w n p (channelPlan (w .net) n c)
   channel-possible c d t =
       by-test (eqb (lowestTile (w .net) n) tileLinks)
       (λ e. rw e tt)
-      (λ e. rw e (by-test (not (eqb c sink) && not (eqb (w .net .ends n c .claim .kind) 0))
+      (λ e. rw e (by-test (channelClaimed (w .net) n c)
       (λ f. rw f tt)
-      (λ f. rw f (tile-there (eqb-false _ _ e), d, t))))
+      (λ f. rw f (first-found (tileFree (w .net) n) tileLinks (eqb-false _ _ e), d, t))))
 
   unit-possible : Takes w n p (sizeOf (widthAt (w .net) n)) → Possible w n p (unitPlan (w .net) n)
   unit-possible t =
-      by-test (not (eqb (w .net .units n 0 .serves .kind) 0) || not (eqb (w .net .ports n replyPort .counters .held) 0))
+      by-test (not (eqb (w .net .units .serving n 0 .kind) 0) || not (eqb (w .net .ports .counters n replyPort .held) 0))
       (λ e. rw e tt)
       (λ e. rw e t)
 
@@ -91,13 +87,13 @@ module _ (w : World) (s : sound w ≡ true) (n p : ℕ) (hn : n < w .net .nodes)
 
   header-possible : hop (w .net) n p ≡ Hops.Shut → Possible w n p (headerPlan w n p)
   header-possible e =
-      by-test (ltb (w .net .ports n p .counters .held) (sizeOf (markedWidth (wordAt w n p 0))))
+      by-test (ltb (w .net .ports .counters n p .held) (sizeOf (markedWidth (wordAt w n p 0))))
       (λ f. rw f tt)
       (λ f. rw f (by-test (sameWidth (markedWidth (wordAt w n p 0)) (widthAt (w .net) n))
       (λ g. rw g (whole (ltb-false _ _ f) (same-size _ _ g)))
       (λ g. rw g tt)))
     where
-      whole : sizeOf (markedWidth (wordAt w n p 0)) ≤ w .net .ports n p .counters .held → markedWidth (wordAt w n p 0) ≡ widthAt (w .net) n
+      whole : sizeOf (markedWidth (wordAt w n p 0)) ≤ w .net .ports .counters n p .held → markedWidth (wordAt w n p 0) ≡ widthAt (w .net) n
           → Possible w n p (wayPlan (w .net) n p (targetAt w n p))
       whole h q =
           way-possible (targetAt w n p) (wayTo (widthAt (w .net) n) (numberIn (targetAt w n p)) (numberAt (w .net) n))
@@ -105,7 +101,7 @@ module _ (w : World) (s : sound w ≡ true) (n p : ℕ) (hn : n < w .net .nodes)
           (takes (sizeOf (widthAt (w .net) n)) (rw (← q) h))
 
   -- outward
-  far-room : (l : ℕ) (f : Far) → farOf (w .net .links n l) ≡ f → l < links → (w .net .links n l .credit ≡ 0 → ⊥) → FarRoom w f
+  far-room : (l : ℕ) (f : Far) → farOf (w .net .links .cables n l) ≡ f → l < links → (w .net .links .flows n l .credit ≡ 0 → ⊥) → FarRoom w f
   far-room l Nowhere e h c = tt
   far-room l (At m k) e h c =
       let j = cable-facts w s n hn l h m k e in
@@ -114,50 +110,43 @@ module _ (w : World) (s : sound w ≡ true) (n p : ℕ) (hn : n < w .net .nodes)
         node = j .node;
         port = omega (arith, j .link);
         fair = fair w s (m .0) (j .node) k (omega (arith, j .link));
-        room = some (w .net .links n l .credit) (w .net .ports (m .0) k .counters .held) c r;
+        room = some (w .net .links .flows n l .credit) (w .net .ports .counters (m .0) k .held) c r;
         reaches = reaches w s (m .0) (j .node) k (omega (arith, j .link));
       }
     where
       some : (a b : ℕ) → (a ≡ 0 → ⊥) → a + b ≤ capacity → b + 1 ≤ capacity
       some a b ne h = omega arith
 
-  out-possible : (l : ℕ) → 1 ≤ w .net .ports n p .counters .held → hop (w .net) n p ≡ Hops.Out l → Possible w n p (outPlan (w .net) n l)
+  out-possible : (l : ℕ) → 1 ≤ w .net .ports .counters n p .held → hop (w .net) n p ≡ Hops.Out l → Possible w n p (outPlan (w .net) n l)
   out-possible l h e =
       let there = pair-facts w s n hn PortLink p hp l (rw e) .0 in
-      by-test (eqb (w .net .links n l .credit) 0)
+      by-test (eqb (w .net .links .flows n l .credit) 0)
       (λ f. rw f tt)
-      (λ f. rw f (there, takes 1 h, far-room l (farOf (w .net .links n l)) refl there (eqb-false _ _ f)))
+      (λ f. rw f (there, takes 1 h, far-room l (farOf (w .net .links .cables n l)) refl there (eqb-false _ _ f)))
 
   -- to a channel
-  first : w .net .ports n p .counters .head < capacity → wordAt w n p 0 ≡ firstAt w n p
-  first h =
-      let e : (w .net .ports n p .counters .head + 0) % capacity ≡ w .net .ports n p .counters .head = omega arith in
+  oldest : w .net .ports .counters n p .head < capacity → wordAt w n p 0 ≡ firstAt w n p
+  oldest h =
+      let e : (w .net .ports .counters n p .head + 0) % capacity ≡ w .net .ports .counters n p .head = omega arith in
       ap (λ (i : ℕ). getD (w .memory) (place n p + i) 0) e
 
-  hand-possible : (c t : ℕ) → 1 ≤ w .net .ports n p .counters .held → hop (w .net) n p ≡ Hops.Channel c t → Possible w n p (handPlan (w .net) n c t (wordAt w n p 0))
+  hand-possible : (c t : ℕ) → 1 ≤ w .net .ports .counters n p .held → hop (w .net) n p ≡ Hops.Channel c t
+      → Possible w n p (handPlan (w .net) n c t (wordAt w n p 0))
   hand-possible c t h e =
       let tile = pair-facts w s n hn PortTile p hp t (rw e) .0 in
-      let x = first (fair w s n hn p hp .head-in) in
-      by-test (not (eqb c sink) && (leb endBuffer (w .net .ends n c .held) && not (isPause (wordAt w n p 0))))
+      let x = oldest (fair w s n hn p hp .head-in) in
+      by-test (channelFull (w .net) n c (wordAt w n p 0))
       (λ f. rw f tt)
-      (λ f. rw f (tile, rw (← x) (given f), takes 1 h))
+      (λ f. rw f (tile, rw (← x) (given-room (w .net) n c (wordAt w n p 0) there f), takes 1 h))
     where
-      keeps : eqb c sink ≡ false → (leb endBuffer (w .net .ends n c .held) && not (isPause (wordAt w n p 0))) ≡ false → Given (w .net) n c (wordAt w n p 0)
-      keeps k f =
-          inr (
-            pair-facts w s n hn PortClaim p hp c (rw (e, k)) .0,
-            by-test (isPause (wordAt w n p 0)) (λ q. inl q)
-                (λ q. inr (by-test (leb endBuffer (w .net .ends n c .held)) (λ r. clash (rw (r, q) at f)) (λ r. omega (arith, leb-false endBuffer (w .net .ends n c .held) r)))),
-          )
-
-      given : (not (eqb c sink) && (leb endBuffer (w .net .ends n c .held) && not (isPause (wordAt w n p 0)))) ≡ false → Given (w .net) n c (wordAt w n p 0)
-      given f = by-test (eqb c sink) (λ k. inl (eqb-true c sink k)) (λ k. keeps k (rw k at f))
+      there : Door c
+      there = by-test (eqb c sink) (λ k. inl (eqb-true c sink k)) (λ k. inr (pair-facts w s n hn PortClaim p hp c (rw (e, k)) .0))
 
   -- to the control unit: port 12 is empty
-  no-reply : hop (w .net) n p ≡ Hops.Unit → w .net .ports n replyPort .counters .held ≡ 0
+  no-reply : hop (w .net) n p ≡ Hops.Unit → w .net .ports .counters n replyPort .held ≡ 0
   no-reply e =
       let named = pair-facts w s n hn PortUnit p hp 0 (rw e) .1 in
-      ⊎-elim (λ k. absurd (served (w .net .units n 0 .serves) k named)) (λ h. h) (silent-facts w s n hn)
+      ⊎-elim (λ k. absurd (served (w .net .units .serving n 0) k named)) (λ h. h) (silent-facts w s n hn)
     where
       served : (k : Circuit) → k .kind ≡ 0 → portOf (peerOf k) ≡ One p → ⊥
       served k q h = let z : Nothing ≡ One p = rw q at h in never (cc)
@@ -176,7 +165,7 @@ module _ (w : World) (s : sound w ≡ true) (n p : ℕ) (hn : n < w .net .nodes)
         cabled = cabled w s;
       }
 
-  hop-possible : (h : Hop) → hop (w .net) n p ≡ h → 1 ≤ w .net .ports n p .counters .held → Possible w n p (byHop w n p h)
+  hop-possible : (h : Hop) → hop (w .net) n p ≡ h → 1 ≤ w .net .ports .counters n p .held → Possible w n p (byHop w n p h)
   hop-possible Hops.Shut e k = header-possible e
   hop-possible (Hops.Out l) e k = out-possible l k e
   hop-possible (Hops.Channel c t) e k = hand-possible c t k e
@@ -186,7 +175,7 @@ module _ (w : World) (s : sound w ≡ true) (n p : ℕ) (hn : n < w .net .nodes)
   pub plan-possible : Possible w n p (planOf w n p)
   unfolding planOf
   plan-possible =
-      by-test (eqb (w .net .ports n p .counters .held) 0)
+      by-test (eqb (w .net .ports .counters n p .held) 0)
       (λ e. rw e tt)
       (λ e. rw e (hop-possible (hop (w .net) n p) refl (some _ (eqb-false _ _ e))))
     where

@@ -6,19 +6,19 @@ use native.Mathlib.Omega.{arith}
 use lib.Dec.{ltb}
 use lib.ListN.{length-set}
 use Rattle.laws.proofs.Order.{by-test}
-use Rattle.laws.proofs.Table.{upd-all}
 use Rattle.names.specs.Size.{links}
 use Rattle.ports.specs.Memory.{place}
 use Rattle.cells.specs.View.{Net}
 use Rattle.cells.specs.World.{World, farOf}
-use Rattle.cells.specs.Changes.{creditAs}
 use Rattle.cells.specs.declared.link.Far.{Far}
 use Rattle.cells.specs.declared.link.Far.the-variants.{Nowhere, At}
-use Rattle.acts.specs.Acts.{Holds, popped}
+use Rattle.acts.specs.Acts.{popped}
+use Rattle.acts.specs.Needs.{Holds}
 use Rattle.acts.proofs.Pushes.{popped-counters}
-use Rattle.grants.specs.Grants.{considered, granted}
+use Rattle.grants.specs.Grants.{considered}
 use Rattle.plans.proofs.Held.{holds-less}
-use Rattle.switch.specs.Step.{consideredAt, grantsUp, Up, took, Takes}
+use Rattle.switch.specs.Step.{consideredAt, grantsUp, took}
+use Rattle.switch.specs.Needs.{Up, Takes}
 
 pub takes-less : {w : World} {n p : ℕ} (k j : ℕ) → j ≤ k → Takes w n p k → Takes w n p j
 takes-less k j h r = record { holds = holds-less k j h (r .holds); up = r .up }
@@ -35,22 +35,19 @@ module _ (s : Net) where
   at-ports Nowhere = refl
   at-ports (At m j) = refl
 
-  at-far : (f : Far) (n l : ℕ) → farOf (consideredAt s f .links n l) ≡ farOf (s .links n l)
+  at-cables : (f : Far) → consideredAt s f .links .cables ≡ s .links .cables
   unfolding considered
-  at-far Nowhere n l = refl
-  at-far (At m j) n l =
-      upd-all (λ a b k. farOf k ≡ farOf (s .links a b)) (s .links) (m .0) j (creditAs (s .links (m .0) j) (s .links (m .0) j .credit + granted s (m .0) j)) n l
-      (λ d e. rw (d, e))
-      (λ o. refl)
+  at-cables Nowhere = refl
+  at-cables (At m j) = refl
 
   pub up-nodes : (n p : ℕ) → grantsUp s n p .nodes ≡ s .nodes
-  up-nodes n p = by-test (ltb p links) (λ e. rw e (at-nodes (farOf (s .links n p)))) (λ e. rw e)
+  up-nodes n p = by-test (ltb p links) (λ e. rw e (at-nodes (farOf (s .links .cables n p)))) (λ e. rw e)
 
   pub up-ports : (n p : ℕ) → grantsUp s n p .ports ≡ s .ports
-  up-ports n p = by-test (ltb p links) (λ e. rw e (at-ports (farOf (s .links n p)))) (λ e. rw e)
+  up-ports n p = by-test (ltb p links) (λ e. rw e (at-ports (farOf (s .links .cables n p)))) (λ e. rw e)
 
-  pub up-far : (n p m l : ℕ) → farOf (grantsUp s n p .links m l) ≡ farOf (s .links m l)
-  up-far n p m l = by-test (ltb p links) (λ e. rw e (at-far (farOf (s .links n p)) m l)) (λ e. rw e)
+  pub up-cables : (n p : ℕ) → grantsUp s n p .links .cables ≡ s .links .cables
+  up-cables n p = by-test (ltb p links) (λ e. rw e (at-cables (farOf (s .links .cables n p)))) (λ e. rw e)
 
 module _ (w : World) (n p : ℕ) where
   popped-holds : (k : ℕ) → Holds w n p (k + 1) → Holds (popped w n p) n p k
@@ -61,7 +58,7 @@ module _ (w : World) (n p : ℕ) where
         port = r .port;
         fair = rw (popped-counters w n p) (record { head-in = omega arith; held-in = omega (arith, r .fair .held-in) });
         held = rw (popped-counters w n p) (omega (arith, r .held));
-        reaches = rw (length-set (w .memory) (place n p + w .net .ports n p .counters .head) 0) (r .reaches);
+        reaches = rw (length-set (w .memory) (place n p + w .net .ports .counters n p .head) 0) (r .reaches);
       }
 
   popped-up : Up (w .net) n p → Up (popped w n p .net) n p
@@ -82,7 +79,7 @@ module _ (w : World) (n p : ℕ) where
               held = rw (up-ports z n p) (h .held);
               reaches = h .reaches;
             };
-        up = λ l. rw (up-nodes z n p, up-far z n p n p) (popped-up (r .up) l);
+        up = λ l. rw (up-nodes z n p, up-cables z n p) (popped-up (r .up) l);
       }
 
 -- .. where the world after is known by an equation

@@ -1,2 +1,3 @@
--- The definitions that contracts cite for Step: what it does, its plan being known.
+-- The definitions that contracts cite for Step: what it does, its plan being known, and what that asks for.
 pub mod Step
+pub mod Needs

@@ -1,34 +1,30 @@
 -- "What a Step does" (document 01), done: a plan carried out by the acts.
-use Prim.{Unit}
-use Prim.Native.Nat.{ℕ, _-_, _<_}
-use mathlib.Core.Path.{_≡_}
+use Prim.Native.Nat.{ℕ, _-_}
 use mathlib.Core.Bool.{Bool, not, _&&_}
 use mathlib.Core.List.{List, [], _∷_}
-use mathlib.Core.Logic.{_⊎_}
-use lib.Dec.{eqb, ltb}
+use lib.Dec.{ltb}
 use Rattle.laws.specs.Pick.{pick}
-use Rattle.names.specs.Size.{links, ports, tileLinks, ends, sink}
+use Rattle.names.specs.Size.{links, ports}
 use Rattle.circuits.specs.Circuit.{ofPeer}
-use Rattle.circuits.specs.declared.Peer.{Peer}
 use Rattle.circuits.specs.declared.Peer.the-variants as Peers
 use Rattle.circuits.specs.declared.Hop.the-variants as Hops
 use Rattle.tokens.specs.Word.{closes}
 use Rattle.tokens.specs.declared.header.Width.{Width}
 use Rattle.tokens.specs.declared.header.Width.the-variants.{One, Three}
-use Rattle.cells.specs.View.{Net, withLink, withEnd, withUnit}
+use Rattle.cells.specs.View.{Net, withFlow, withServing, withHearing}
 use Rattle.cells.specs.World.{World, farOf}
-use Rattle.cells.specs.Changes.{creditAs, servesAs, heardAs}
+use Rattle.cells.specs.Changes.{creditAs}
 use Rattle.cells.specs.declared.link.Far.{Far}
 use Rattle.cells.specs.declared.link.Far.the-variants.{Nowhere, At}
-use Rattle.acts.specs.Acts.{withNet, widthAt, Room, pushed, Holds, firstAt, popped, hopped, shut, linkedTo, tiledTo, claimedBy, kept, Keeps}
-use Rattle.grants.specs.Grants.{considered, Cabled}
+use Rattle.acts.specs.Acts.{withNet, widthAt, pushed, firstAt, popped, hopped, shut, linkedTo, tiledTo, claimedBy, handed}
+use Rattle.grants.specs.Grants.{considered}
 use Rattle.messages.specs.Heard.{listens}
-use Rattle.messages.specs.Ended.{ended, Ready}
+use Rattle.messages.specs.Ended.{ended}
 use Rattle.names.specs.No.{NoSuch}
 use Rattle.answers.specs.Rows.{Row, row}
 use Rattle.answers.specs.Out.{Out, out, attempt}
 use Rattle.answers.specs.declared.Answer.the-variants as Answers
-use Rattle.plans.specs.Plan.{sizeOf, planOf}
+use Rattle.plans.specs.Plan.{planOf}
 use Rattle.plans.specs.declared.Plan.{Plan}
 use Rattle.plans.specs.declared.Plan.the-variants.{Idle, Wait, OpenOut, OpenChannel, OpenUnit, Refuse, MoveOut, Hand, Hear, Drop}
 
@@ -38,11 +34,7 @@ consideredAt s Nowhere = s
 consideredAt s (At m j) = considered s (m .0) j
 
 abbrev pub grantsUp : Net → ℕ → ℕ → Net
-grantsUp s n p = pick (ltb p links) (consideredAt s (farOf (s .links n p))) s
-
--- .. where its cable leads to a link that is there
-abbrev pub Up : Net → ℕ → ℕ → Type 0
-Up s n p = p < links → Cabled s n p
+grantsUp s n p = pick (ltb p links) (consideredAt s (farOf (s .links .cables n p))) s
 
 -- a token is taken, and a grant considered for it
 unfoldable pub took : World → ℕ → ℕ → World
@@ -57,17 +49,15 @@ stripped w n p Three = took (took (took w n p) n p) n p
 abbrev pub opensOut : Net → ℕ → ℕ → ℕ → Net
 opensOut s n p l = linkedTo (hopped s n p (Hops.Out l)) n l (Peers.Port p)
 
--- who a channel is claimed by: "the sink never is"
-abbrev pub claimedFor : Net → ℕ → ℕ → Peer → Net
-claimedFor s n c x = pick (eqb c sink) s (claimedBy s n c x)
-
+-- "this node's channel .. Opened"
 abbrev pub opensChannel : Net → ℕ → ℕ → ℕ → ℕ → Net
 opensChannel s n p c t =
-    claimedFor (tiledTo (hopped s n p (Hops.Channel c t)) n t (Peers.Port p)) n c (Peers.Port p)
+    claimedBy (tiledTo (hopped s n p (Hops.Channel c t)) n t (Peers.Port p)) n c (Peers.Port p)
 
 -- the control unit serves this port, and has heard nothing of its message
 abbrev pub serves : Net → ℕ → ℕ → Net
-serves s n p = withUnit s n (heardAs (servesAs (s .units n 0) (ofPeer (Peers.Port p))) 0 (s .units n 0 .tokens))
+serves s n p =
+    withHearing (withServing s n (ofPeer (Peers.Port p))) n (record { heard = 0; tokens = s .units .hearings n 0 .tokens })
 
 abbrev pub opensUnit : Net → ℕ → ℕ → Net
 opensUnit s n p = serves (hopped s n p Hops.Unit) n p
@@ -77,10 +67,10 @@ abbrev pub closesOut : Net → ℕ → ℕ → ℕ → ℕ → Net
 closesOut s n p l x = pick (closes x) (linkedTo (shut s n p) n l Peers.Nobody) s
 
 abbrev pub closesChannel : Net → ℕ → ℕ → ℕ → ℕ → ℕ → Net
-closesChannel s n p c t x = pick (closes x) (claimedFor (tiledTo (shut s n p) n t Peers.Nobody) n c Peers.Nobody) s
+closesChannel s n p c t x = pick (closes x) (claimedBy (tiledTo (shut s n p) n t Peers.Nobody) n c Peers.Nobody) s
 
 abbrev pub idle : Net → ℕ → Net
-idle s n = withUnit s n (servesAs (s .units n 0) (ofPeer Peers.Nobody))
+idle s n = withServing s n (ofPeer Peers.Nobody)
 
 abbrev pub closesUnit : Net → ℕ → ℕ → Net
 closesUnit s n p = idle (shut s n p) n
@@ -90,7 +80,7 @@ closesDropped s n p x = pick (closes x) (shut s n p) s
 
 -- "Each token moved over a link, header included, costs one credit."
 abbrev pub paid : Net → ℕ → ℕ → Net
-paid s n l = withLink s n l (creditAs (s .links n l) (s .links n l .credit - 1))
+paid s n l = withFlow s n l (creditAs (s .links .flows n l) (s .links .flows n l .credit - 1))
 
 -- a token crosses at once: put at the far end, paid, and a grant considered
 abbrev pub arrives : World → Far → ℕ → World
@@ -101,22 +91,19 @@ abbrev pub pays : World → ℕ → ℕ → World
 pays w n l = withNet w (considered (paid (w .net) n l) n l)
 
 unfoldable pub crosses : World → ℕ → ℕ → ℕ → World
-crosses w n l x = pays (arrives w (farOf (w .net .links n l)) x) n l
+crosses w n l x = pays (arrives w (farOf (w .net .links .cables n l)) x) n l
 
 abbrev pub movesOut : World → ℕ → ℕ → ℕ → World
 movesOut w n p l =
     crosses (withNet (took w n p) (closesOut (took w n p .net) n p l (firstAt w n p))) n l (firstAt w n p)
 
--- "PAUSE is never stored in a channel-end; END is." The sink forgets.
-abbrev pub gives : Net → ℕ → ℕ → ℕ → Net
-gives s n c x = pick (eqb c sink) s (withEnd s n c (kept (s .ends n c) x))
-
+-- "To a channel: .. Moved"
 abbrev pub hands : World → ℕ → ℕ → ℕ → ℕ → World
 hands w n p c t =
-    withNet (took w n p) (closesChannel (gives (took w n p .net) n c (firstAt w n p)) n p c t (firstAt w n p))
+    withNet (took w n p) (closesChannel (handed (took w n p .net) n c (firstAt w n p)) n p c t (firstAt w n p))
 
--- "To the control unit: Moved, but for the two end answers": "The hop closes first, with any grant that the taking of its last token brings",
--- and then the message is at its end
+-- "To the control unit: Moved, but for the two end answers": "The hop closes first, with any grant that the taking of its last token
+-- brings", and then the message is at its end
 abbrev pub hears : World → ℕ → ℕ → Out World
 hears w n p =
     pick (closes (firstAt w n p))
@@ -141,36 +128,6 @@ performed w n p (MoveOut l) = out Answers.Moved (movesOut w n p l)
 performed w n p (Hand c t) = out Answers.Moved (hands w n p c t)
 performed w n p Hear = hears w n p
 performed w n p (Drop x) = out (Answers.Dropped x) (drops w n p)
-
--- What the code has on its way: k tokens to take, and a cable that leads somewhere
-pub record Takes (w : World) (n p k : ℕ) : Type 0 where
-  pub holds : Holds w n p k
-  pub up : Up (w .net) n p
-
--- the sink, or a channel-end that is there
-abbrev pub Door : ℕ → Type 0
-Door c = (c ≡ sink) ⊎ (c < ends)
-
--- .. that has room for what it keeps of a token
-abbrev pub Given : Net → ℕ → ℕ → ℕ → Type 0
-Given s n c x = (c ≡ sink) ⊎ ((c < ends) × Keeps (s .ends n c) x)
-
--- where the cable of a link leads there is room for a token
-abbrev pub FarRoom : World → Far → Type 0
-FarRoom w Nowhere = Unit
-FarRoom w (At m j) = Room w (m .0) j 1
-
-abbrev pub Possible : World → ℕ → ℕ → Plan → Type 0
-Possible w n p Idle = Unit
-Possible w n p Wait = Unit
-Possible w n p (OpenOut l) = l < links
-Possible w n p (OpenChannel c t) = (t < tileLinks) × Door c × Takes w n p (sizeOf (widthAt (w .net) n))
-Possible w n p OpenUnit = Takes w n p (sizeOf (widthAt (w .net) n))
-Possible w n p (Refuse x) = Unit
-Possible w n p (MoveOut l) = (l < links) × Takes w n p 1 × FarRoom w (farOf (w .net .links n l))
-Possible w n p (Hand c t) = (t < tileLinks) × Given (w .net) n c (firstAt w n p) × Takes w n p 1
-Possible w n p Hear = Takes w n p 1 × Ready w n
-Possible w n p (Drop x) = Takes w n p 1
 
 -- "port not present" is NoSuch
 abbrev pub portAt : Net → ℕ → ℕ → Bool

@@ -1,5 +1,5 @@
 // Circuits opened, and what they hold freed where END or PAUSE has passed.
-use acts::circuit::set_claim;
+use acts::circuit::claim;
 use acts::circuit::set_hop;
 use acts::circuit::set_tile_user;
 use acts::circuit::set_user;
@@ -9,13 +9,14 @@ use circuits::Hop;
 use circuits::Peer;
 use circuits::of_peer;
 use names::Slot;
-use names::size::SINK;
 use tokens::word::closes;
 ghost use mathlib.Core.Path.{_≡_};
 ghost use Prim.Native.Nat.{_<_};
 ghost use Rattle.names.specs.Size.{links, ports, tileLinks};
+ghost use Rattle.acts.specs.Needs.{Door};
 ghost use Rattle.cells.specs.View.{view};
-ghost use Rattle.switch.specs.Step.{opensOut, claimedFor, opensChannel, serves, opensUnit, closesOut, closesChannel, idle, closesUnit, closesDropped, Door};
+ghost use Rattle.switch.specs.Step.{opensOut, opensChannel, serves, opensUnit, closesOut};
+ghost use Rattle.switch.specs.Step.{closesChannel, idle, closesUnit, closesDropped};
 
 // Outward by a link.
 pub fn open_out(st: &mut [u32], slot: Slot, p: usize, l: usize)
@@ -24,17 +25,6 @@ pub fn open_out(st: &mut [u32], slot: Slot, p: usize, l: usize)
 {
     set_hop(st, slot, p, Hop::Out(l as u32));
     set_user(st, slot, l, Peer::Port(p as u32));
-}
-
-// Who a channel is claimed by: the sink never is.
-fn claim(st: &mut [u32], slot: Slot, c: usize, x: Peer)
-    requires { ⌜ (slot .0 < view (now st) .nodes) × Door c ⌝ }
-    ensures { λ r. ⌜ view (now (st .exit)) ≡ claimedFor (view (now (st .entry))) (slot .0) c x ⌝ }
-{
-    if c == SINK as usize {
-        return;
-    }
-    set_claim(st, slot, c, x);
 }
 
 // To a channel by a tile link.
@@ -52,10 +42,11 @@ fn serve(st: &mut [u32], slot: Slot, p: usize)
     requires { ⌜ (slot .0 < view (now st) .nodes) × (p < ports) ⌝ }
     ensures { λ r. ⌜ view (now (st .exit)) ≡ serves (view (now (st .entry))) (slot .0) p ⌝ }
 {
-    let mut k = unit::at(st, slot);
-    k.serves = of_peer(Peer::Port(p as u32));
-    k.heard = 0;
-    unit::put(st, slot, k);
+    let k = unit::at(st, slot);
+    let mut x = k.hearing;
+    x.heard = 0;
+    unit::put_serves(st, slot, of_peer(Peer::Port(p as u32)));
+    unit::put_hearing(st, slot, x);
 }
 
 // To the control unit.
@@ -94,9 +85,7 @@ fn idle(st: &mut [u32], slot: Slot)
     requires { ⌜ slot .0 < view (now st) .nodes ⌝ }
     ensures { λ r. ⌜ view (now (st .exit)) ≡ idle (view (now (st .entry))) (slot .0) ⌝ }
 {
-    let mut k = unit::at(st, slot);
-    k.serves = of_peer(Peer::Nobody);
-    unit::put(st, slot, k);
+    unit::put_serves(st, slot, of_peer(Peer::Nobody));
 }
 
 // .. to the control unit: it serves nobody.

@@ -4,28 +4,28 @@ use crate::open::close_dropped;
 use crate::open::close_out;
 use crate::open::close_unit;
 use crate::take::take;
-use acts::keep;
+use acts::give;
 use acts::push;
 use answers::Answer;
-use cells::end;
 use cells::link;
 use cells::link::Far;
-use cells::link::far_of;
+use cells::link::far_at;
 use grants::consider;
 use messages::end_message;
 use messages::heard::listen;
 use names::Slot;
-use names::size::SINK;
 use tokens::word::closes;
 ghost use mathlib.Core.Path.{_≡_};
 ghost use Prim.Native.Nat.{_-_, _<_};
-ghost use Rattle.names.specs.Size.{links, ports, tileLinks};
+ghost use Rattle.names.specs.Size.{links, tileLinks};
 ghost use Rattle.cells.specs.View.{view};
 ghost use Rattle.cells.specs.World.{world, farOf};
 ghost use Rattle.acts.specs.Acts.{firstAt};
+ghost use Rattle.acts.specs.Needs.{Given};
 ghost use Rattle.answers.specs.Out.{out};
-ghost use Rattle.messages.specs.Ended.{Ready};
-ghost use Rattle.switch.specs.Step.{paid, arrives, pays, crosses, movesOut, gives, Given, hands, hears, drops, Takes, Door, FarRoom};
+ghost use Rattle.messages.specs.Needs.{Ready};
+ghost use Rattle.switch.specs.Step.{paid, arrives, crosses, movesOut, hands, hears, drops};
+ghost use Rattle.switch.specs.Needs.{Takes, FarRoom};
 
 // The token is put at the far end of the cable.
 fn arrive(st: &mut [u32], mem: &mut [u16], f: Far, word: u16)
@@ -43,9 +43,10 @@ fn pay(st: &mut [u32], slot: Slot, l: usize)
     requires { ⌜ (slot .0 < view (now st) .nodes) × (l < links) ⌝ }
     ensures { λ r. ⌜ view (now (st .exit)) ≡ paid (view (now (st .entry))) (slot .0) l ⌝ }
 {
-    let mut k = link::at(st, slot, l);
-    k.credit = less_one(k.credit);
-    link::put(st, slot, l, k);
+    let k = link::at(st, slot, l);
+    let mut f = k.flow;
+    f.credit = less_one(f.credit);
+    link::put_flow(st, slot, l, f);
 }
 
 fn less_one(n: u32) -> u32
@@ -59,10 +60,11 @@ fn less_one(n: u32) -> u32
 
 // A token crosses at once: put at the far end, paid, and a grant considered.
 fn cross(st: &mut [u32], mem: &mut [u16], slot: Slot, l: usize, word: u16)
-    requires { ⌜ (slot .0 < view (now st) .nodes) × (l < links) × FarRoom (world (now st) (now mem)) (farOf (view (now st) .links (slot .0) l)) ⌝ }
+    requires { ⌜ (slot .0 < view (now st) .nodes) × (l < links)
+        × FarRoom (world (now st) (now mem)) (farOf (view (now st) .links .cables (slot .0) l)) ⌝ }
     ensures { λ r. ⌜ world (now (st .exit)) (now (mem .exit)) ≡ crosses (world (now (st .entry)) (now (mem .entry))) (slot .0) l word ⌝ }
 {
-    let far = far_of(link::at(st, slot, l));
+    let far = far_at(st, slot, l);
     arrive(st, mem, far, word);
     pay(st, slot, l);
     consider(st, slot, l);
@@ -70,7 +72,8 @@ fn cross(st: &mut [u32], mem: &mut [u16], slot: Slot, l: usize, word: u16)
 
 // "Outward: .. Moved."
 pub fn move_out(st: &mut [u32], mem: &mut [u16], slot: Slot, p: usize, l: usize)
-    requires { ⌜ (l < links) × Takes (world (now st) (now mem)) (slot .0) p 1 × FarRoom (world (now st) (now mem)) (farOf (view (now st) .links (slot .0) l)) ⌝ }
+    requires { ⌜ (l < links) × Takes (world (now st) (now mem)) (slot .0) p 1
+        × FarRoom (world (now st) (now mem)) (farOf (view (now st) .links .cables (slot .0) l)) ⌝ }
     ensures { λ r. ⌜ world (now (st .exit)) (now (mem .exit)) ≡ movesOut (world (now (st .entry)) (now (mem .entry))) (slot .0) p l ⌝ }
 {
     let word = take(st, mem, slot, p);
@@ -78,21 +81,10 @@ pub fn move_out(st: &mut [u32], mem: &mut [u16], slot: Slot, p: usize, l: usize)
     cross(st, mem, slot, l, word);
 }
 
-// A channel is handed a token; the sink forgets it.
-fn give(st: &mut [u32], slot: Slot, c: usize, word: u16)
-    requires { ⌜ (slot .0 < view (now st) .nodes) × Given (view (now st)) (slot .0) c word ⌝ }
-    ensures { λ r. ⌜ view (now (st .exit)) ≡ gives (view (now (st .entry))) (slot .0) c word ⌝ }
-{
-    if c == SINK as usize {
-        return;
-    }
-    let k = keep(end::at(st, slot, c), word);
-    end::put(st, slot, c, k);
-}
-
 // "To a channel: .. Moved."
 pub fn hand(st: &mut [u32], mem: &mut [u16], slot: Slot, p: usize, c: usize, t: usize)
-    requires { ⌜ (t < tileLinks) × Given (view (now st)) (slot .0) c (firstAt (world (now st) (now mem)) (slot .0) p) × Takes (world (now st) (now mem)) (slot .0) p 1 ⌝ }
+    requires { ⌜ (t < tileLinks) × Given (view (now st)) (slot .0) c (firstAt (world (now st) (now mem)) (slot .0) p)
+        × Takes (world (now st) (now mem)) (slot .0) p 1 ⌝ }
     ensures { λ r. ⌜ world (now (st .exit)) (now (mem .exit)) ≡ hands (world (now (st .entry)) (now (mem .entry))) (slot .0) p c t ⌝ }
 {
     let word = take(st, mem, slot, p);

@@ -18,15 +18,19 @@ ghost use Prim.Native.Nat.{_<_};
 ghost use Rattle.names.specs.Size.{ports, tileLinks};
 ghost use Rattle.answers.specs.Out.{out};
 ghost use Rattle.acts.specs.Acts.{withNet, widthAt};
+ghost use Rattle.acts.specs.Needs.{Door};
 ghost use Rattle.cells.specs.View.{view};
 ghost use Rattle.cells.specs.World.{world};
 ghost use Rattle.plans.specs.Plan.{sizeOf};
-ghost use Rattle.switch.specs.Step.{opensChannel, opensUnit, stripped, Takes, Door, Possible, performed};
+ghost use Rattle.switch.specs.Step.{opensChannel, opensUnit, stripped, performed};
+ghost use Rattle.switch.specs.Needs.{Takes, Possible};
 
 // "this node's channel: .. Opened and the header is removed"
 fn land_channel(st: &mut [u32], mem: &mut [u16], slot: Slot, p: usize, c: usize, t: usize)
     requires { ⌜ (t < tileLinks) × Door c × Takes (world (now st) (now mem)) (slot .0) p (sizeOf (widthAt (view (now st)) (slot .0))) ⌝ }
-    ensures { λ r. ⌜ world (now (st .exit)) (now (mem .exit)) ≡ stripped (withNet (world (now (st .entry)) (now (mem .entry))) (opensChannel (view (now (st .entry))) (slot .0) p c t)) (slot .0) p (widthAt (view (now (st .entry))) (slot .0)) ⌝ }
+    ensures { λ r. ⌜ world (now (st .exit)) (now (mem .exit))
+        ≡ stripped (withNet (world (now (st .entry)) (now (mem .entry))) (opensChannel (view (now (st .entry))) (slot .0) p c t))
+        (slot .0) p (widthAt (view (now (st .entry))) (slot .0)) ⌝ }
 {
     let width = width_at(st, slot);
     open_channel(st, slot, p, c, t);
@@ -36,7 +40,9 @@ fn land_channel(st: &mut [u32], mem: &mut [u16], slot: Slot, p: usize, c: usize,
 // "this node's control unit: .. Opened, header removed"
 fn land_unit(st: &mut [u32], mem: &mut [u16], slot: Slot, p: usize)
     requires { ⌜ Takes (world (now st) (now mem)) (slot .0) p (sizeOf (widthAt (view (now st)) (slot .0))) ⌝ }
-    ensures { λ r. ⌜ world (now (st .exit)) (now (mem .exit)) ≡ stripped (withNet (world (now (st .entry)) (now (mem .entry))) (opensUnit (view (now (st .entry))) (slot .0) p)) (slot .0) p (widthAt (view (now (st .entry))) (slot .0)) ⌝ }
+    ensures { λ r. ⌜ world (now (st .exit)) (now (mem .exit))
+        ≡ stripped (withNet (world (now (st .entry)) (now (mem .entry))) (opensUnit (view (now (st .entry))) (slot .0) p))
+        (slot .0) p (widthAt (view (now (st .entry))) (slot .0)) ⌝ }
 {
     let width = width_at(st, slot);
     open_unit(st, slot, p);
@@ -45,7 +51,8 @@ fn land_unit(st: &mut [u32], mem: &mut [u16], slot: Slot, p: usize)
 
 pub fn perform(st: &mut [u32], mem: &mut [u16], slot: Slot, p: usize, plan: Plan) -> Answer
     requires { ⌜ (slot .0 < view (now st) .nodes) × (p < ports) × Possible (world (now st) (now mem)) (slot .0) p plan ⌝ }
-    ensures { λ r. ⌜ out r (world (now (st .exit)) (now (mem .exit))) ≡ performed (world (now (st .entry)) (now (mem .entry))) (slot .0) p plan ⌝ }
+    ensures { λ r. ⌜ out r (world (now (st .exit)) (now (mem .exit)))
+        ≡ performed (world (now (st .entry)) (now (mem .entry))) (slot .0) p plan ⌝ }
 {
     match plan {
         Plan::Idle => Answer::Idle,

@@ -2,20 +2,20 @@
 use acts::pop;
 use cells::link;
 use cells::link::Far;
-use cells::link::far_of;
+use cells::link::far_at;
 use grants::consider;
 use names::Slot;
 use names::size::LINKS;
 use tokens::header::Width;
 ghost use mathlib.Core.Path.{_≡_};
 ghost use Prim.Native.Nat.{_<_};
-ghost use Rattle.names.specs.Size.{links};
 ghost use Rattle.acts.specs.Acts.{firstAt};
-ghost use Rattle.grants.specs.Grants.{Leads, Cabled};
+ghost use Rattle.grants.specs.Grants.{Leads};
 ghost use Rattle.cells.specs.View.{view};
 ghost use Rattle.cells.specs.World.{world};
 ghost use Rattle.plans.specs.Plan.{sizeOf};
-ghost use Rattle.switch.specs.Step.{consideredAt, grantsUp, Up, took, stripped, Takes};
+ghost use Rattle.switch.specs.Step.{consideredAt, grantsUp, took, stripped};
+ghost use Rattle.switch.specs.Needs.{Up, Takes};
 
 // A grant is considered on the link that a cable leads to.
 fn consider_at(st: &mut [u32], f: Far)
@@ -36,7 +36,7 @@ fn grant_up(st: &mut [u32], slot: Slot, p: usize)
     ensures { λ r. ⌜ view (now (st .exit)) ≡ grantsUp (view (now (st .entry))) (slot .0) p ⌝ }
 {
     if p < LINKS {
-        let far = far_of(link::at(st, slot, p));
+        let far = far_at(st, slot, p);
         consider_at(st, far);
     }
 }
@@ -44,7 +44,8 @@ fn grant_up(st: &mut [u32], slot: Slot, p: usize)
 // Takes the oldest token of a port.
 pub fn take(st: &mut [u32], mem: &mut [u16], slot: Slot, p: usize) -> u16
     requires { ⌜ Takes (world (now st) (now mem)) (slot .0) p 1 ⌝ }
-    ensures { λ r. ⌜ (r ≡ firstAt (world (now (st .entry)) (now (mem .entry))) (slot .0) p) × (world (now (st .exit)) (now (mem .exit)) ≡ took (world (now (st .entry)) (now (mem .entry))) (slot .0) p) ⌝ }
+    ensures { λ r. ⌜ (r ≡ firstAt (world (now (st .entry)) (now (mem .entry))) (slot .0) p)
+        × (world (now (st .exit)) (now (mem .exit)) ≡ took (world (now (st .entry)) (now (mem .entry))) (slot .0) p) ⌝ }
 {
     let word = pop(st, mem, slot, p);
     grant_up(st, slot, p);

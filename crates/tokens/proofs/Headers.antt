@@ -9,9 +9,11 @@ use lib.Dec.{ltb}
 use borrow.Author.Tests.{lt-ltb, ltb-true, ne-eqb}
 use Rattle.laws.specs.All.{Each}
 use Rattle.laws.proofs.Order.{by-test}
+use Rattle.names.specs.Size.{channels, sink, numbers}
 use Rattle.names.specs.declared.NodeNumber.{NodeNumber}
 use Rattle.names.specs.Number.{highByte, lowByte, ofBytes}
 use Rattle.names.proofs.Bytes.{of-bytes-back}
+use Rattle.tokens.specs.Shape.{legalChannel}
 use Rattle.tokens.specs.Word.{headerWord, valueOf, isHeader, isThree, wide}
 use Rattle.tokens.specs.Header.{headerOf, words, Reads, readOne, readThree, compared, comparedTarget, Carried, narrow, isNarrow, legalTarget}
 use Rattle.tokens.specs.declared.header.Target.{Target}
@@ -20,10 +22,10 @@ use Rattle.tokens.specs.declared.header.Width.{Width}
 use Rattle.tokens.specs.declared.header.Width.the-variants.{One, Three}
 use Rattle.tokens.proofs.Words.{value-back, control-back, header-back, three-back}
 
-module _ (n : NodeNumber) (fits : n .0 < 65536) where
+module _ (n : NodeNumber) (fits : n .0 < numbers) where
   -- sixteen bits are all of a number
   whole : n ≡ compared Three n
-  whole = let e : n .0 ≡ n .0 % 65536 = omega arith in λ i. record { 0 = e i }
+  whole = let e : n .0 ≡ n .0 % numbers = omega arith in λ i. record { 0 = e i }
 
   -- the two number bytes of a three-byte header, read
   read-bytes : ofBytes (valueOf (headerWord (highByte n) Three)) (valueOf (headerWord (lowByte n) Three)) ≡ compared Three n
@@ -33,10 +35,10 @@ module _ (n : NodeNumber) (fits : n .0 < 65536) where
 pub read-made : (w : Width) (t : Target) → Carried w t → Reads (headerOf t w) (comparedTarget w t)
 unfolding headerOf readOne readThree
 read-made One (Channel n c) (f, l) =
-    let v : ℕ = n .0 % 8 * 32 + c in
-    let p : v / 32 ≡ n .0 % 8 = omega arith in
-    let q : v % 32 ≡ c = omega arith in
-    rw (lt-ltb c 32 l, value-back v false true false (omega arith), p, q)
+    let v : ℕ = n .0 % 8 * channels + c in
+    let p : v / channels ≡ n .0 % 8 = omega arith in
+    let q : v % channels ≡ c = omega arith in
+    rw (lt-ltb c channels l, value-back v false true false (omega arith), p, q)
 read-made One (Unit n) h = absurd h
 read-made Three (Channel n c) (f, l) =
     rw (control-back c false true true l, value-back c false true true l, read-bytes n f)
@@ -51,7 +53,7 @@ marked v w l = (header-back v false true (wide w) l, three-back v false true (wi
 
 pub made-marked : (w : Width) (t : Target) → Carried w t → Each (Marked w) (words (headerOf t w))
 unfolding headerOf
-made-marked One (Channel n c) (f, l) = rw (lt-ltb c 32 l) (marked (compared One n .0 * 32 + c) One (omega arith), tt)
+made-marked One (Channel n c) (f, l) = rw (lt-ltb c channels l) (marked (compared One n .0 * channels + c) One (omega arith), tt)
 made-marked One (Unit n) h = absurd h
 made-marked Three (Channel n c) (f, l) =
     (marked (highByte n) Three (omega arith), (marked (lowByte n) Three (omega arith), (marked c Three l, tt)))
@@ -59,10 +61,10 @@ made-marked Three (Unit n) f =
     (marked (highByte n) Three (omega arith), (marked (lowByte n) Three (omega arith), ((refl, refl), tt)))
 
 pub narrow-made : (w : Width) (t : Target) → legalTarget t ≡ true → isNarrow (headerOf t w) ≡ narrow w t
-unfolding headerOf
+unfolding headerOf legalChannel
 narrow-made One (Channel n c) h =
-    by-test (ltb c 32)
-    (λ e. let l : c < 32 = ltb-true c 32 e in rw (e, ne-eqb c 255 (λ q. omega arith)))
+    by-test (ltb c channels)
+    (λ e. let l : c < channels = ltb-true c channels e in rw (e, ne-eqb c sink (λ q. omega arith)))
     (λ e. rw e (sym (rw e at h)))
 narrow-made One (Unit n) h = refl
 narrow-made Three (Channel n c) h = refl

@@ -7,7 +7,7 @@ use mathlib.Core.Bool.{Bool, true, false}
 use mathlib.Core.List.{List, [], _∷_, map}
 use lib.Dec.{ltb, eqb}
 use Rattle.laws.specs.Pick.{pick}
-use Rattle.names.specs.Size.{ends, sink}
+use Rattle.names.specs.Size.{channels, sink, numbers}
 use Rattle.names.specs.Number.{highByte, lowByte, ofBytes}
 use Rattle.names.specs.declared.NodeNumber.{NodeNumber}
 use Rattle.tokens.specs.Shape.{legalChannel}
@@ -34,7 +34,7 @@ threeOf n last = H.Three (headerWord (highByte n) Three) (headerWord (lowByte n)
 
 -- the header of a destination at a width
 unfoldable pub headerOf : Target → Width → Header
-headerOf (Channel n c) One = pick (ltb c ends) (H.One (headerWord (compared One n .0 * 32 + c) One)) H.Narrow
+headerOf (Channel n c) One = pick (ltb c channels) (H.One (headerWord (compared One n .0 * channels + c) One)) H.Narrow
 headerOf (Unit n) One = H.Narrow
 headerOf (Channel n c) Three = threeOf n (headerWord c Three)
 headerOf (Unit n) Three = threeOf n unitWord
@@ -50,7 +50,7 @@ values h = map valueOf (words h)
 
 -- what a switch reads of the words
 unfoldable pub readOne : ℕ → Target
-readOne a = Channel (record { 0 = valueOf a / 32 }) (valueOf a % 32)
+readOne a = Channel (record { 0 = valueOf a / channels }) (valueOf a % channels)
 
 unfoldable pub readThree : ℕ → ℕ → ℕ → Target
 readThree a b c =
@@ -64,10 +64,10 @@ Reads (H.Three a b c) t = readThree a b c ≡ t
 
 -- what a width carries: sixteen bits of a number; a channel 0..31 at one byte, any byte at three; a control unit at three only
 abbrev pub Carried : Width → Target → Type 0
-Carried One (Channel n c) = (n .0 < 65536) × (c < ends)
+Carried One (Channel n c) = (n .0 < numbers) × (c < channels)
 Carried One (Unit n) = ⊥
-Carried Three (Channel n c) = (n .0 < 65536) × (c < 256)
-Carried Three (Unit n) = n .0 < 65536
+Carried Three (Channel n c) = (n .0 < numbers) × (c < 256)
+Carried Three (Unit n) = n .0 < numbers
 
 -- a destination in the bits that a width compares
 abbrev pub comparedTarget : Width → Target → Target

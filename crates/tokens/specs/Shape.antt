@@ -3,15 +3,30 @@ use Prim.Native.Nat.{ℕ, _-_}
 use mathlib.Core.Bool.{Bool, _||_}
 use lib.Dec.{eqb, ltb}
 use Rattle.laws.specs.Pick.{pick}
-use Rattle.names.specs.Size.{ends, sink}
+use Rattle.names.specs.Size.{channels, sink}
 use Rattle.tokens.specs.Control.{ssctrl}
 use Rattle.tokens.specs.Word.{controlWord, closes}
-use Rattle.tokens.specs.declared.word.Shape.{Shape}
-use Rattle.tokens.specs.declared.word.Shape.the-variants.{Wrong, Body, Closing, OneByte, ThreeByte, Channel, Unit}
+
+-- what a word is to the grammar of a port's contents
+pub data Shape : Type 0 where
+  -- no legal token
+  Wrong : Shape
+  -- a token past the header that closes nothing
+  Body : Shape
+  -- END or PAUSE
+  Closing : Shape
+  -- a header of one byte
+  OneByte : Shape
+  -- a byte of a three-byte header that is no channel
+  ThreeByte : Shape
+  -- a byte of a three-byte header that is a channel too
+  Channel : Shape
+  -- SSCTRL
+  Unit : Shape
 
 -- "channel 0..31 or 255"
-abbrev pub legalChannel : ℕ → Bool
-legalChannel c = ltb c ends || eqb c sink
+unfoldable pub legalChannel : ℕ → Bool
+legalChannel c = ltb c channels || eqb c sink
 
 -- a token of a three-byte header, its marks taken off: any data, of control SSCTRL alone
 unfoldable pub threeShape : ℕ → Shape

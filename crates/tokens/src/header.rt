@@ -4,9 +4,15 @@ use crate::word::of_header;
 use crate::word::of_unit;
 use crate::word::value;
 use names::NodeNumber;
+use names::size;
+use names::size::SINK;
 ghost use mathlib.Core.Path.{_≡_};
 ghost use Rattle.tokens.specs.Header.{compared, headerOf, threeOf, isNarrow, readOne, readThree};
+ghost use Rattle.tokens.specs.Shape.{legalChannel};
 ghost use Rattle.tokens.specs.declared.header.Width.{Width};
+
+// Channels that a header can name, beside bytes.
+const CHANNELS: u8 = size::CHANNELS as u8;
 
 // The width of a node's headers.
 pub enum Width {
@@ -27,6 +33,13 @@ pub enum Header {
     Three(u16, u16, u16),
 }
 
+// A destination can name the channel.
+pub fn is_channel(c: u32) -> bool
+    ensures { λ r. ⌜ r ≡ legalChannel c ⌝ }
+{
+    (c < size::CHANNELS) | (c == SINK)
+}
+
 // The bits of a number that a width compares: sixteen, or the low three.
 pub fn compared(n: NodeNumber, w: Width) -> NodeNumber
     ensures { λ r. ⌜ r ≡ compared w n ⌝ }
@@ -40,9 +53,9 @@ pub fn compared(n: NodeNumber, w: Width) -> NodeNumber
 fn one_byte(n: NodeNumber, c: u8) -> Header
     ensures { λ r. ⌜ r ≡ headerOf (Target.Channel n c) Width.One ⌝ }
 {
-    if c < 32 {
+    if c < CHANNELS {
         let low = compared(n, Width::One);
-        return Header::One(of_header((low.0 * 32) as u8 + c, Width::One));
+        return Header::One(of_header(low.0 as u8 * CHANNELS + c, Width::One));
     }
     Header::Narrow
 }
@@ -88,7 +101,7 @@ pub fn read_one(a: u16) -> Target
     ensures { λ r. ⌜ r ≡ readOne a ⌝ }
 {
     let v = value(a);
-    Target::Channel(NodeNumber((v / 32) as u16), v % 32)
+    Target::Channel(NodeNumber((v / CHANNELS) as u16), v % CHANNELS)
 }
 
 pub fn read_three(a: u16, b: u16, c: u16) -> Target

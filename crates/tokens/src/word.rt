@@ -1,14 +1,22 @@
 // The word in which a port holds a token: the value in bits 0..7, and in the bits above it what
 // the token is. Bit 8 marks a control token, bit 9 a token of a header, bit 10 (with bit 9) a
 // header of three bytes. The real wire has no such marks.
+use crate::control;
 use crate::header::Width;
 ghost use mathlib.Core.Path.{_≡_};
-ghost use Rattle.tokens.specs.Word.{dataWord, controlWord, headerWord, unitWord, valueOf, isControl, isHeader, isThree, closes, isPause};
-ghost use Rattle.tokens.specs.Shape.{shapeOf, threeShape};
+ghost use Rattle.tokens.specs.Word.{dataWord, controlWord, headerWord, unitWord, valueOf};
+ghost use Rattle.tokens.specs.Word.{isControl, isHeader, isThree, closes, isPause};
 
-pub const END: u16 = 0x0101;
+// The words of control tokens.
+const CONTROL: u16 = 0x0100;
 
-pub const PAUSE: u16 = 0x0102;
+pub const END: u16 = CONTROL + control::END as u16;
+
+pub const PAUSE: u16 = CONTROL + control::PAUSE as u16;
+
+pub const WRITEC: u16 = CONTROL + control::WRITEC as u16;
+
+pub const READC: u16 = CONTROL + control::READC as u16;
 
 pub fn of_data(v: u8) -> u16
     ensures { λ r. ⌜ r ≡ dataWord v ⌝ }
@@ -19,7 +27,7 @@ pub fn of_data(v: u8) -> u16
 pub fn of_control(v: u8) -> u16
     ensures { λ r. ⌜ r ≡ controlWord v ⌝ }
 {
-    v as u16 + 0x0100
+    v as u16 + CONTROL
 }
 
 // A data token of a header.
@@ -78,50 +86,4 @@ pub fn is_pause(word: u16) -> bool
     ensures { λ r. ⌜ r ≡ isPause word ⌝ }
 {
     word == PAUSE
-}
-
-// What a word is to the grammar of a port's contents.
-pub enum Shape {
-    // no legal token
-    Wrong,
-    // a token past the header that closes nothing
-    Body,
-    // END or PAUSE
-    Closing,
-    // a header of one byte
-    OneByte,
-    // a byte of a three-byte header that is no channel
-    ThreeByte,
-    // a byte of a three-byte header that is a channel too
-    Channel,
-    // SSCTRL
-    Unit,
-}
-
-// A token of a three-byte header, its marks taken off.
-fn three_shape(token: u16) -> Shape
-    ensures { λ r. ⌜ r ≡ threeShape token ⌝ }
-{
-    match token {
-        0x0000..=0x001F => Shape::Channel,
-        0x0020..=0x00FE => Shape::ThreeByte,
-        0x00FF => Shape::Channel,
-        0x0100..=0x01C2 => Shape::Wrong,
-        0x01C3 => Shape::Unit,
-        0x01C4..=0xFFFF => Shape::Wrong,
-    }
-}
-
-pub fn shape_of(word: u16) -> Shape
-    ensures { λ r. ⌜ r ≡ shapeOf word ⌝ }
-{
-    match word {
-        0x0000..=0x0100 => Shape::Body,
-        0x0101..=0x0102 => Shape::Closing,
-        0x0103..=0x01C1 => Shape::Body,
-        0x01C2..=0x01FF => Shape::Wrong,
-        0x0200..=0x02FF => Shape::OneByte,
-        0x0300..=0x05FF => Shape::Wrong,
-        0x0600..=0xFFFF => three_shape(word - 0x0600),
-    }
 }

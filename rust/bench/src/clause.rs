@@ -21,7 +21,7 @@ const TEXTS: [&str; 12] = [
     "credit plus tokens held at the far end at most 64",
     "cables agree at both ends",
     "tokens and headers in ports are legal and stand where they may",
-    "tokens in channel-ends are legal",
+    "tokens in channel-ends and control units are legal",
     "a port's output names that port back and no other",
     "each claim names one circuit that exists",
     "each open channel-end names one circuit that exists",

@@ -4,6 +4,7 @@
 //! means something. Where there is no such place, all words are 0.
 
 use crate::refusal::Cause;
+use crate::sizes::{END_BUFFER, UNIT_BUFFER};
 
 /// With whom a record has a circuit: two words.
 #[derive(Clone, Copy, Debug, Default, PartialEq, Eq)]
@@ -141,7 +142,7 @@ pub struct ChannelEnd {
     /// How many tokens it holds for Input.
     pub held: u32,
     /// Their words, oldest first.
-    pub tokens: [u32; 8],
+    pub tokens: [u32; END_BUFFER],
 }
 
 impl ChannelEnd {
@@ -164,7 +165,7 @@ pub struct ControlUnit {
     /// How many tokens of a message it has heard, while it serves.
     pub heard: u32,
     /// Their words, oldest first.
-    pub tokens: [u32; 11],
+    pub tokens: [u32; UNIT_BUFFER],
 }
 
 /// Takes the next words of a record.
@@ -185,7 +186,7 @@ impl Words<'_> {
     }
 }
 
-/// A record that a look shows as so many words, in the order of its fields.
+/// A record that a look shows as so many words: first its own, then those of its circuits.
 pub(crate) trait Record<const N: usize>: Sized {
     fn from_words(words: [u32; N]) -> Self {
         Self::take(&mut Words(words.iter()))
@@ -225,9 +226,9 @@ impl Record<8> for Port {
         Port {
             head: words.one(),
             held: words.one(),
-            circuit: words.circuit(),
             tile: words.one(),
             network: words.one(),
+            circuit: words.circuit(),
             sender: words.circuit(),
         }
     }
@@ -248,10 +249,10 @@ impl Record<17> for ChannelEnd {
             number: words.one(),
             channel: words.one(),
             network: words.one(),
-            sending: words.circuit(),
-            claim: words.circuit(),
             held: words.one(),
             tokens: words.many(),
+            sending: words.circuit(),
+            claim: words.circuit(),
         }
     }
 }
@@ -259,9 +260,9 @@ impl Record<17> for ChannelEnd {
 impl Record<14> for ControlUnit {
     fn take(words: &mut Words) -> ControlUnit {
         ControlUnit {
-            serves: words.circuit(),
             heard: words.one(),
             tokens: words.many(),
+            serves: words.circuit(),
         }
     }
 }

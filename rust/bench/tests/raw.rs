@@ -109,8 +109,8 @@ fn tokens_are_shown_as_far_as_they_are_held() {
 fn a_word_of_a_channel_end_is_shown_whole() {
     let mut state = vec![0; raw::state_words()];
     let end = 4 + 8 * 10 + 13 * 8 + 4 * 2 + 31 * 17;
-    state[end + 8] = u32::MAX;
-    state[end + 9 + 7] = u32::MAX;
+    state[end + 4] = u32::MAX;
+    state[end + 5 + 7] = u32::MAX;
     let shown = |place| raw::end_token(&state, 0, 31, place);
     assert_eq!(
         [shown(7), shown(8), shown(usize::MAX)],

@@ -5,9 +5,10 @@
 mod boards;
 
 use model::calls::Call;
-use model::network::{Network, Node, CHANNEL_ENDS};
+use model::network::{Network, Node};
 use model::random::Random;
 use model::set::Setting;
+use model::sizes::{CHANNELS, TILE_PORTS};
 use model::speech;
 use model::tokens::{Destination, Kind, Token, END, SINK};
 use model::{Answer, No};
@@ -238,9 +239,9 @@ impl Asking {
     fn message(&mut self, from: End, goal: usize) -> Vec<Token> {
         let channel = match self.random.below(10) {
             0..=4 => from.end,
-            5 => self.random.below(CHANNEL_ENDS),
+            5 => self.random.below(CHANNELS),
             6..=8 => SINK,
-            _ => self.random.pick(&[32, 254]).unwrap_or(32),
+            _ => self.random.pick(&[CHANNELS, SINK - 1]).unwrap_or(CHANNELS),
         };
         let own = self.random.chance(25);
         let number = self.number(if own { goal } else { from.slot });
@@ -293,7 +294,7 @@ impl Asking {
 
     /// Steps the ports 8..11 of a channel-end's board until they wait.
     fn send_on(&mut self, from: End) {
-        for port in 8..12 {
+        for port in TILE_PORTS {
             let call = Call::Step {
                 slot: from.slot,
                 port,

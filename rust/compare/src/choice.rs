@@ -5,17 +5,22 @@ mod ends;
 pub use ends::any_token;
 
 use model::calls::Call;
-use model::network::{LinkEnd, Network, BITS, LINKS, PORTS};
+use model::network::{LinkEnd, Network};
 use model::random::Random;
 use model::set::Setting;
+use model::sizes::{
+    BITS, HIGHEST_DIRECTION, HIGHEST_NETWORK, HIGHEST_NUMBER, LINKS, MOST_NODES, PORTS,
+};
+
+use crate::layout::NODE_TOKENS;
 
 /// Any call, often of a link or channel-end whose circuits make a difference.
 pub fn any(random: &mut Random, network: Option<&Network>) -> Call {
     let nodes = network.map_or(3, |network| network.nodes.len());
     match random.below(40) {
         0 => Call::Fresh {
-            nodes: below_or_beyond(random, 17),
-            memory_words: 832 * random.below(18),
+            nodes: below_or_beyond(random, MOST_NODES + 1),
+            memory_words: NODE_TOKENS * random.below(MOST_NODES + 2),
         },
         1..=2 => Call::Wire {
             one: any_end(random, nodes),
@@ -92,14 +97,14 @@ fn any_end(random: &mut Random, nodes: usize) -> LinkEnd {
 fn any_of_node(random: &mut Random) -> Setting {
     match random.below(3) {
         0 => Setting::Number {
-            value: value(random, 0x1_0000),
+            value: value(random, HIGHEST_NUMBER + 1),
         },
         1 => Setting::Width {
             value: value(random, 4),
         },
         _ => Setting::Direction {
             bit: value(random, BITS as u32) as usize,
-            value: value(random, 16),
+            value: value(random, HIGHEST_DIRECTION + 1),
         },
     }
 }
@@ -108,11 +113,11 @@ fn any_of_link(random: &mut Random, link: usize) -> Setting {
     match random.below(6) {
         0 => Setting::LinkDirection {
             link,
-            value: value(random, 16),
+            value: value(random, HIGHEST_DIRECTION + 1),
         },
         1 => Setting::Network {
             link,
-            value: value(random, 4),
+            value: value(random, HIGHEST_NETWORK + 1),
         },
         2 | 3 => Setting::Enable {
             link,

@@ -3,11 +3,9 @@
 pub mod things;
 
 use model::random::Random;
+use model::sizes::{PORTS, PORT_CAPACITY};
 
-use crate::layout::{NODE_TOKENS, NODE_WORDS};
-
-/// The kinds of record of a node: where their words begin, and how many words all of a kind have.
-const KINDS: [(usize, usize); 6] = [(0, 4), (4, 80), (84, 104), (188, 8), (196, 544), (740, 14)];
+use crate::layout::{FIRST_PORT, KINDS, NODE_TOKENS, NODE_WORDS, PORT};
 
 /// Values at the edges of what words mean.
 const EDGES: [u32; 24] = [
@@ -69,21 +67,23 @@ fn any_word(random: &mut Random, state: &[u32]) -> usize {
 
 /// A word among those that a port holds, where one is found.
 fn disturb_memory(random: &mut Random, state: &[u32], memory: &mut [u16]) {
-    let port = busy_port(random, state).unwrap_or_else(|| random.below(memory.len() / 64));
-    let (node, place) = (port / 13, port % 13);
-    let record = node * NODE_WORDS + 84 + place * 8;
+    let port =
+        busy_port(random, state).unwrap_or_else(|| random.below(memory.len() / PORT_CAPACITY));
+    let (node, place) = (port / PORTS, port % PORTS);
+    let record = node * NODE_WORDS + FIRST_PORT + place * PORT;
     let head = state.get(record).map_or(0, |head| *head as usize);
     let held = state.get(record + 1).map_or(1, |held| *held as usize);
-    let at = (head % 64 + random.below(held.min(64))) % 64;
-    if let Some(word) = memory.get_mut(node * NODE_TOKENS + place * 64 + at) {
+    let at = (head % PORT_CAPACITY + random.below(held.min(PORT_CAPACITY))) % PORT_CAPACITY;
+    if let Some(word) = memory.get_mut(node * NODE_TOKENS + place * PORT_CAPACITY + at) {
         *word = other_word(random, *word);
     }
 }
 
 /// One of the ports that hold tokens, counted through all nodes.
 fn busy_port(random: &mut Random, state: &[u32]) -> Option<usize> {
-    let ports = 0..state.len() / NODE_WORDS * 13;
-    let held = |port: &usize| state[port / 13 * NODE_WORDS + 84 + port % 13 * 8 + 1];
+    let ports = 0..state.len() / NODE_WORDS * PORTS;
+    let held =
+        |port: &usize| state[port / PORTS * NODE_WORDS + FIRST_PORT + port % PORTS * PORT + 1];
     let busy: Vec<usize> = ports.filter(|port| held(port) > 0).collect();
     random.pick(&busy)
 }

@@ -1,7 +1,7 @@
 //! Damaged memories, asked of both sides: the proved tests, looks and calls answer for any words,
 //! change none that they are not to, and agree with the model wherever the words are a state of it.
 
-use bench::sizes::{BITS, CHANNEL_ENDS, LINKS, PORTS};
+use bench::sizes::{BITS, CHANNEL_ENDS, DIRECTIONS, END_BUFFER, LINKS, PORTS, PORT_BUFFER};
 use bench::Looks;
 use model::calls::Call;
 use model::network::Network;
@@ -95,14 +95,14 @@ fn look_at_node(looks: Looks, slot: usize) -> bool {
         looks.link(slot, link);
         looks.tile_link(slot, link);
     }
-    let entries = (0..=BITS).all(|bit| looks.direction(slot, bit) < 16);
+    let entries = (0..=BITS).all(|bit| looks.direction(slot, bit) < DIRECTIONS);
     let ports = (0..=PORTS).all(|port| {
         looks.port(slot, port);
-        looks.port_tokens(slot, port).count() <= 64
+        looks.port_tokens(slot, port).count() <= PORT_BUFFER
     });
     let ends = (0..=CHANNEL_ENDS).all(|end| {
         looks.channel_end(slot, end);
-        looks.end_tokens(slot, end).count() <= 8
+        looks.end_tokens(slot, end).count() <= END_BUFFER
     });
     entries && ports && ends
 }

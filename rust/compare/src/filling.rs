@@ -4,6 +4,7 @@ use model::calls::Call;
 use model::network::memory_words;
 use model::random::Random;
 use model::set::Setting;
+use model::sizes::HIGHEST_NETWORK;
 use model::tokens::{Destination, Kind, END, PAUSE, SINK};
 
 use crate::choice::any_token;
@@ -93,6 +94,6 @@ fn aim(random: &mut Random, slot: usize, channel_end: usize) -> Call {
         slot,
         channel_end,
         destination,
-        network: random.value_below(4),
+        network: random.value_below(HIGHEST_NETWORK + 1),
     }
 }

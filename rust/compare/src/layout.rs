@@ -4,14 +4,41 @@
 //! there, written down here a second time so that a wrong place in either is found.
 
 use model::answers::Cause;
-use model::network::{
-    ChannelEnd, Claim, ControlUnit, Hop, Link, Network, Node, Port, Sending, PORTS, PORT_CAPACITY,
-};
+use model::network::{ChannelEnd, Claim, ControlUnit, Hop, Link, Network, Node, Port, Sending};
 use model::random::Random;
+use model::sizes::{
+    CHANNEL_ENDS, CHANNEL_END_CAPACITY, HEARD, LINKS, PORTS, PORT_CAPACITY, TILE_LINKS,
+};
 use model::tokens::{Destination, Kind, Token};
 
+/// The words of a circuit.
+const CIRCUIT: usize = 2;
+/// The words of each record: its own, then its circuits'.
+const OWN: usize = 4;
+const LINK: usize = 8 + CIRCUIT;
+pub const PORT: usize = 4 + 2 * CIRCUIT;
+const TILE_LINK: usize = CIRCUIT;
+const CHANNEL_END: usize = 5 + CHANNEL_END_CAPACITY + 2 * CIRCUIT;
+const CONTROL_UNIT: usize = 1 + HEARD + CIRCUIT;
+/// Where the first record of each kind lies among a node's words.
+const FIRST_LINK: usize = OWN;
+pub const FIRST_PORT: usize = FIRST_LINK + LINKS * LINK;
+const FIRST_TILE_LINK: usize = FIRST_PORT + PORTS * PORT;
+const FIRST_CHANNEL_END: usize = FIRST_TILE_LINK + TILE_LINKS * TILE_LINK;
+const FIRST_CONTROL_UNIT: usize = FIRST_CHANNEL_END + CHANNEL_ENDS * CHANNEL_END;
+/// Where what a control unit has heard lies among a node's words.
+pub const FIRST_HEARD: usize = FIRST_CONTROL_UNIT + 1;
 /// The words of a node.
-pub const NODE_WORDS: usize = 754;
+pub const NODE_WORDS: usize = FIRST_CONTROL_UNIT + CONTROL_UNIT;
+/// The records of each kind: where they begin among a node's words, and how many words they have.
+pub const KINDS: [(usize, usize); 6] = [
+    (0, OWN),
+    (FIRST_LINK, LINKS * LINK),
+    (FIRST_PORT, PORTS * PORT),
+    (FIRST_TILE_LINK, TILE_LINKS * TILE_LINK),
+    (FIRST_CHANNEL_END, CHANNEL_ENDS * CHANNEL_END),
+    (FIRST_CONTROL_UNIT, CONTROL_UNIT),
+];
 /// The words of token memory of a node.
 pub const NODE_TOKENS: usize = PORTS * PORT_CAPACITY;
 
@@ -26,7 +53,12 @@ pub fn write(network: &Network, random: &mut Random) -> (Vec<u32>, Vec<u16>) {
     for (node, stretch) in network.nodes.iter().zip(memory.chunks_mut(NODE_TOKENS)) {
         let heads: [usize; PORTS] = std::array::from_fn(|_| random.below(PORT_CAPACITY));
         state.extend(node_words(node, &heads));
-        for ((port, head), ring) in node.ports.iter().zip(heads).zip(stretch.chunks_mut(64)) {
+        for ((port, head), ring) in node
+            .ports
+            .iter()
+            .zip(heads)
+            .zip(stretch.chunks_mut(PORT_CAPACITY))
+        {
             write_tokens(port, head, ring);
         }
     }
@@ -40,7 +72,7 @@ fn write_tokens(port: &Port, head: usize, ring: &mut [u16]) {
     }
 }
 
-/// own 4 | links 8 x 10 | ports 13 x 8 | tile links 4 x 2 | channel-ends 32 x 17 | control unit 14
+/// own | links | ports | tile links | channel-ends | control unit
 fn node_words(node: &Node, heads: &[usize; PORTS]) -> Words {
     let mut words = own_words(node);
     words.extend(node.links.iter().flat_map(link_words));
@@ -92,6 +124,7 @@ fn port_words(node: &Node, port: usize, head: usize) -> Words {
         .iter()
         .position(|end| end.sending == by_it);
     let mut words = vec![head as u32, state.tokens.len() as u32];
+    words.extend([tile.unwrap_or(0) as u32, state.network]);
     words.extend(match state.hop {
         None => [0, 0],
         Some(Hop::Outward(link)) => [1, link as u32],
@@ -100,7 +133,6 @@ fn port_words(node: &Node, port: usize, head: usize) -> Words {
         Some(Hop::Dropped(Cause::Split)) => [4, 0],
         Some(Hop::Dropped(Cause::NoRoute)) => [5, 0],
     });
-    words.extend([tile.unwrap_or(0) as u32, state.network]);
     words.extend(named(2, sender));
     words
 }
@@ -116,6 +148,8 @@ fn channel_end_words(end: &ChannelEnd) -> Words {
             vec![kind, aim.destination.number(), channel, aim.network]
         }
     };
+    words.push(end.tokens.len() as u32);
+    words.extend(filled(CHANNEL_END_CAPACITY, end.tokens.iter().map(word)));
     words.extend(match end.sending {
         None => [0, 0],
         Some(Sending::ByPort(port)) => [1, port as u32],
@@ -126,15 +160,13 @@ fn channel_end_words(end: &ChannelEnd) -> Words {
         Some(Claim::ByPort(port)) => [1, port as u32],
         Some(Claim::ByChannelEnd(sender)) => [2, sender as u32],
     });
-    words.push(end.tokens.len() as u32);
-    words.extend(filled(8, end.tokens.iter().map(word)));
     words
 }
 
 fn control_unit_words(unit: &ControlUnit) -> Words {
-    let mut words = named(1, unit.serves).to_vec();
-    words.push(unit.heard.len() as u32);
-    words.extend(filled(11, unit.heard.iter().map(word)));
+    let mut words = vec![unit.heard.len() as u32];
+    words.extend(filled(HEARD, unit.heard.iter().map(word)));
+    words.extend(named(1, unit.serves));
     words
 }
 

@@ -10,11 +10,10 @@
 use bench::sizes::TILE_PORTS;
 use bench::{raw, Circuit, Looks, Peer};
 use model::answers::Cause;
-use model::messages::HEARD;
 use model::network::{
     Aim, ChannelEnd, Claim, ControlUnit, Hop, Link, LinkEnd, Network, Node, Port, Sending,
-    CHANNEL_END_CAPACITY, PORT_CAPACITY,
 };
+use model::sizes::{CHANNEL_END_CAPACITY, HEARD, PORT_CAPACITY};
 use model::tokens::{Destination, Kind, Token};
 
 /// Why words are no state of the model.
@@ -215,19 +214,10 @@ fn control_unit(looks: Looks, slot: usize) -> Read<ControlUnit> {
         return unreadable(format!("{heard} tokens heard"));
     }
     let heard = words.tokens[..heard as usize].iter();
+    let heard: Read<Vec<Token>> = heard.map(|word| token(*word)).collect();
     Ok(ControlUnit {
         serves,
-        heard: heard.map(|word| token_heard(*word)).collect(),
-    })
-}
-
-/// The list "Sound" does not look at what was heard, so that any word may stand there. One that is
-/// no token becomes one that no run of the model has.
-fn token_heard(word: u32) -> Token {
-    token(word).unwrap_or(Token {
-        kind: Kind::Control,
-        value: 0,
-        header: Some(word),
+        heard: heard?,
     })
 }
 

@@ -3,7 +3,8 @@
 use std::collections::BTreeSet;
 
 use model::calls::Call;
-use model::network::{memory_words, MOST_NODES};
+use model::network::memory_words;
+use model::sizes::MOST_NODES;
 use model::words::parse_call;
 
 use crate::calls::Apply;

@@ -9,7 +9,7 @@ use bench::sizes::MOST_NODES;
 use compare::calls::Lent;
 use compare::damage::disturb;
 use compare::damaged::{self, other_things, other_words};
-use compare::layout::{self, NODE_TOKENS, NODE_WORDS};
+use compare::layout::{self, FIRST_HEARD, NODE_TOKENS, NODE_WORDS};
 use compare::verdict::Verdict;
 use model::network::Network;
 use model::random::Random;
@@ -100,6 +100,44 @@ fn states_of_runs_with_other_things() {
         failed.iter().all(|times| *times > 0),
         "no damage met some clause"
     );
+}
+
+/// The last word that a serving control unit has heard, in states of runs: what may stand there, and
+/// what fails clause 8, on both sides.
+#[test]
+fn words_that_control_units_have_heard() {
+    let mut met = 0;
+    for seed in 0..RUNS {
+        let mut runner = Runner::new(seed);
+        for call in 0..CALLS {
+            runner.call();
+            let network = runner.network();
+            for (network, slot, last) in network.into_iter().flat_map(last_heard) {
+                let (mut state, memory) = layout::write(network, &mut Random::new(seed));
+                let from = format!("seed {seed}, call {call}");
+                let mut clause = |word| {
+                    state[slot * NODE_WORDS + FIRST_HEARD + last] = word;
+                    check(&state, &memory, &from);
+                    raw::unsound_clause(&state, &memory)
+                };
+                let legal = [0, 0xFF, 0x100, 0x103, 0x1C0, 0x1C1];
+                let illegal = [0x101, 0x102, 0x1C2, 0x1FF, 0x200, 0x600, 0x7C3, 0x1_0000];
+                assert_eq!(legal.map(&mut clause), [0; 6], "{from}");
+                assert_eq!(illegal.map(&mut clause), [8; 8], "{from}");
+                met += 1;
+            }
+        }
+    }
+    assert!(met > 100, "{met} states with words heard");
+}
+
+/// The control units that serve and have heard something, and the place of their last word.
+fn last_heard(network: &Network) -> Vec<(&Network, usize, usize)> {
+    let units = (0..).zip(network.nodes.iter().map(|node| &node.control_unit));
+    units
+        .filter(|(_, unit)| unit.serves.is_some() && !unit.heard.is_empty())
+        .map(|(slot, unit)| (network, slot, unit.heard.len() - 1))
+        .collect()
 }
 
 #[test]

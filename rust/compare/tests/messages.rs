@@ -7,7 +7,8 @@ use std::collections::BTreeMap;
 use compare::asking;
 use model::calls::Call;
 use model::credits::grant;
-use model::network::{Hop, LinkEnd, Network, Node, REPLY_PORT};
+use model::network::{Hop, LinkEnd, Network, Node};
+use model::sizes::REPLY_PORT;
 use model::tokens::{Kind, Token, ACK, END, NACK, PAUSE, READC, SINK, WRITEC};
 use model::Answer;
 

@@ -5,7 +5,8 @@ use compare::calls::Apply;
 use compare::soak::{ask, Found};
 use model::credits::grant;
 use model::messages::reply_address;
-use model::network::{Hop, Network, REPLY_PORT};
+use model::network::{Hop, Network};
+use model::sizes::REPLY_PORT;
 use model::tokens::{header, Token, NACK};
 use model::{Answer, Call};
 

@@ -1,11 +1,10 @@
 //! The calls, and the door through which each is made.
 
 use crate::answers::{Answer, No};
-use crate::network::{
-    memory_words, Aim, LinkEnd, Network, HIGHEST_NETWORK, HIGHEST_NUMBER, MOST_NODES,
-};
+use crate::network::{memory_words, Aim, LinkEnd, Network};
 use crate::output;
 use crate::set::{self, Setting};
+use crate::sizes::{HIGHEST_NETWORK, HIGHEST_NUMBER, MOST_NODES};
 use crate::sound;
 use crate::step;
 use crate::tokens::{is_channel, Destination, Kind, Token};

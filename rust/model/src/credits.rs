@@ -1,6 +1,7 @@
 //! Credits: how they are granted, and when a grant is considered.
 
-use crate::network::{LinkEnd, Network, PORT_CAPACITY};
+use crate::network::{LinkEnd, Network};
+use crate::sizes::PORT_CAPACITY;
 use crate::tokens::Token;
 
 /// "if credit is below 8, let room = 64 − tokens held at the far end − credit;

@@ -2,7 +2,8 @@
 //! them.
 
 use crate::answers::Cause;
-use crate::network::{Aim, ChannelEnd, Claim, Hop, Link, Network, Node, Port, Sending, TILE_PORTS};
+use crate::network::{Aim, ChannelEnd, Claim, Hop, Link, Network, Node, Port, Sending};
+use crate::sizes::TILE_PORTS;
 use crate::tokens::{low_byte, Destination, Kind, Token, THREE_BYTES};
 
 const OFFSET_BASIS: u64 = 0xcbf2_9ce4_8422_2325;

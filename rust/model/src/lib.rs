@@ -25,6 +25,7 @@ pub mod routing;
 pub mod runs;
 pub mod script;
 pub mod set;
+pub mod sizes;
 pub mod sound;
 pub mod speech;
 pub mod step;

@@ -1,14 +1,11 @@
 //! Switch messages: what a control unit hears, does and replies.
 
 use crate::answers::{Answer, No};
-use crate::network::{ControlUnit, Network, REPLY_PORT};
+use crate::network::{ControlUnit, Network};
 use crate::registers;
 use crate::set;
+use crate::sizes::{HEARD, REPLY_PORT};
 use crate::tokens::{header, is_channel, Destination, Token, ACK, END, NACK, READC, WRITEC};
-
-/// The longest message, a write, has ten tokens before its END. One more decides
-/// that a message is too long, and none beyond that is kept (open point 51).
-pub const HEARD: usize = 11;
 
 /// The control unit hears one token of a message that goes on.
 pub(crate) fn hear(unit: &mut ControlUnit, token: Token) {

@@ -6,39 +6,10 @@
 //! illegal tokens.
 
 use std::collections::VecDeque;
-use std::ops::Range;
 
 use crate::answers::{Cause, No};
+use crate::sizes::{BITS, CHANNEL_ENDS, LINKS, PORTS, PORT_CAPACITY, TILE_LINKS, TILE_PORTS};
 use crate::tokens::{Destination, Token, SINK, THREE_BYTES};
-
-/// "A network of 1 to 16 XS1-L nodes, known by slot 0..15."
-pub const MOST_NODES: usize = 16;
-/// Links A..H are ports 0..7.
-pub const LINKS: usize = 8;
-/// "four from the switch to the tile"
-pub const TILE_LINKS: usize = 4;
-/// Eight links, four links from the tile, and the control unit's replies.
-pub const PORTS: usize = 13;
-/// "four links from the tile to the switch (ports 8..11)"
-pub const TILE_PORTS: Range<usize> = 8..12;
-/// "a control unit whose replies leave by port 12"
-pub const REPLY_PORT: usize = 12;
-/// "channel-ends 0..31"
-pub const CHANNEL_ENDS: usize = 32;
-/// "port buffer: 64 tokens"
-pub const PORT_CAPACITY: usize = 64;
-/// "channel-end input buffer: 8 tokens"
-pub const CHANNEL_END_CAPACITY: usize = 8;
-/// "credit of a link: 0..64"
-pub const MOST_CREDIT: usize = 64;
-/// "network number: 0..3"
-pub const HIGHEST_NETWORK: u32 = 3;
-/// "direction: 0..15"
-pub const HIGHEST_DIRECTION: u32 = 15;
-/// A node's number is "the 16-bit identifier written into its switch".
-pub const HIGHEST_NUMBER: u32 = 0xFFFF;
-/// The bits of a number, each with an entry in the direction table.
-pub const BITS: usize = 16;
 
 /// "nodes × 13 ports × 64 words of 16 bits, exactly"
 pub fn memory_words(nodes: usize) -> Option<usize> {
@@ -163,7 +134,7 @@ pub struct ChannelEnd {
 pub struct ControlUnit {
     /// The port whose circuit it serves.
     pub serves: Option<usize>,
-    /// The message so far; see [`crate::messages::HEARD`].
+    /// The message so far; see [`crate::sizes::HEARD`].
     pub heard: Vec<Token>,
 }
 

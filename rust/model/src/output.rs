@@ -1,10 +1,9 @@
 //! Output: what a channel-end puts out, straight or by a port.
 
 use crate::answers::{Answer, No};
-use crate::network::{
-    Aim, Claim, Network, Node, Sending, CHANNEL_END_CAPACITY, PORT_CAPACITY, TILE_PORTS,
-};
+use crate::network::{Aim, Claim, Network, Node, Sending};
 use crate::routing::highest_differing_bit;
+use crate::sizes::{CHANNEL_END_CAPACITY, PORT_CAPACITY, TILE_PORTS};
 use crate::tokens::{class, header, Class, Destination, Kind, Token, READC, SINK, WRITEC};
 
 /// The call Output, on a state that is known to be sound. "After 1 and 2, Output

@@ -1,8 +1,9 @@
 //! The switch registers of source document 000, section 9.3, as far as they hold
 //! settings of Set.
 
-use crate::network::{Node, BITS};
+use crate::network::Node;
 use crate::set::Setting;
+use crate::sizes::BITS;
 use crate::tokens::{ONE_BYTE, THREE_BYTES};
 
 /// "Known addresses are those where 9.3 places at least one setting of Set."

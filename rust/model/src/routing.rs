@@ -1,6 +1,7 @@
 //! Which way a header goes.
 
-use crate::network::{Node, BITS};
+use crate::network::Node;
+use crate::sizes::BITS;
 use crate::tokens::ONE_BYTE;
 
 /// The bits of a number that are compared: "sixteen bits at three-byte width, the

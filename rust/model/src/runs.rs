@@ -11,6 +11,7 @@ use crate::calls::Call;
 use crate::network::{ChannelEnd, Network, Node};
 use crate::random::Random;
 use crate::script::{outcome, Outcome};
+use crate::sizes::{HIGHEST_NETWORK, HIGHEST_NUMBER};
 use crate::speech::{message, stream, Speech};
 use crate::tokens::{Destination, Kind, Token, END, PAUSE, SINK};
 use crate::topology::{plan, Plan};
@@ -189,7 +190,7 @@ impl Runner {
     fn number(&mut self) -> u32 {
         let planned = self.random.pick(&self.plan.numbers).unwrap_or(0);
         match self.random.below(40) {
-            0 => self.random.value_below(0x1_0000),
+            0 => self.random.value_below(HIGHEST_NUMBER + 1),
             1 => planned ^ 8,
             _ => planned,
         }
@@ -241,7 +242,7 @@ impl Runner {
     fn begin_speech(&mut self) -> Call {
         let (slot, channel_end) = self.talker();
         let other_network = self.random.chance(6);
-        let any_network = self.random.value_below(4);
+        let any_network = self.random.value_below(HIGHEST_NETWORK + 1);
         let network = if other_network { any_network } else { 0 };
         let (destination, tokens) = self.matter(slot, channel_end);
         if self.speeches.len() < SPEECHES {

@@ -1,7 +1,8 @@
 //! Set: a node's and a link's settings.
 
 use crate::answers::{Answer, No};
-use crate::network::{LinkEnd, Network, BITS, HIGHEST_DIRECTION, HIGHEST_NETWORK, HIGHEST_NUMBER};
+use crate::network::{LinkEnd, Network};
+use crate::sizes::{BITS, HIGHEST_DIRECTION, HIGHEST_NETWORK, HIGHEST_NUMBER};
 use crate::tokens::{ONE_BYTE, THREE_BYTES};
 
 /// "Set: a node's number, width, one direction entry; a link's direction, network,

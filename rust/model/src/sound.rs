@@ -1,7 +1,7 @@
 //! The list "Sound", clause by clause.
 //!
 //! The check is the list and nothing more (open point 1). Words that hold no token
-//! are no part of the state here, and a control unit's unfinished message is not
+//! are no part of the state here, and what an idle control unit heard last is not
 //! looked at (open points 5 and 52a).
 
 mod circuits;

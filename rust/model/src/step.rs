@@ -2,8 +2,9 @@
 
 use crate::answers::{Answer, Cause, No, Opening};
 use crate::messages;
-use crate::network::{Claim, Hop, LinkEnd, Network, CHANNEL_END_CAPACITY, REPLY_PORT};
+use crate::network::{Claim, Hop, LinkEnd, Network};
 use crate::routing::{highest_differing_bit, route, Route};
+use crate::sizes::{CHANNEL_END_CAPACITY, REPLY_PORT};
 use crate::tokens::{read_header, Destination, Front, Token, SINK};
 
 /// The call Step, on a state that is known to be sound. "Empty: Idle." Else with

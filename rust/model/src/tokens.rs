@@ -2,6 +2,8 @@
 
 use std::collections::VecDeque;
 
+use crate::sizes::CHANNELS;
+
 /// Control token that ends a circuit and is handed on.
 pub const END: u8 = 0x01;
 /// Control token that ends a circuit and is never handed to a program.
@@ -127,9 +129,9 @@ impl Destination {
     }
 }
 
-/// The channels there are: 0..31 and the sink.
+/// The channels that a destination can name: 0..31 and the sink.
 pub fn is_channel(channel: usize) -> bool {
-    channel < 32 || channel == SINK
+    channel < CHANNELS || channel == SINK
 }
 
 /// The header of a circuit for that destination at that width, or none where the
@@ -154,8 +156,8 @@ pub fn header(destination: Destination, width: u32) -> Option<Vec<Token>> {
 }
 
 fn one_byte_header(number: u32, channel: usize) -> Option<Vec<Token>> {
-    let channel = u32::try_from(channel).ok().filter(|c| *c < 32)?;
-    Some(vec![Token::data(low_byte(number % 8 * 32 + channel))])
+    let low_bits = number as usize % 8;
+    (channel < CHANNELS).then(|| vec![Token::data((low_bits * CHANNELS + channel) as u8)])
 }
 
 fn three_byte_header(number: u32, last: Token) -> Vec<Token> {
@@ -201,8 +203,8 @@ pub fn read_header(tokens: &VecDeque<Token>) -> Front {
 
 fn one_byte_destination(value: u8) -> Destination {
     Destination::Channel {
-        number: u32::from(value / 32),
-        channel: usize::from(value % 32),
+        number: (usize::from(value) / CHANNELS) as u32,
+        channel: usize::from(value) % CHANNELS,
     }
 }
 

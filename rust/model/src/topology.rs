@@ -4,10 +4,11 @@
 use std::collections::VecDeque;
 
 use crate::calls::Call;
-use crate::network::{memory_words, LinkEnd, BITS, LINKS};
+use crate::network::{memory_words, LinkEnd};
 use crate::random::Random;
 use crate::routing::highest_differing_bit;
 use crate::set::Setting;
+use crate::sizes::{BITS, HIGHEST_DIRECTION, HIGHEST_NETWORK, HIGHEST_NUMBER, LINKS, MOST_NODES};
 use crate::tokens::{ONE_BYTE, THREE_BYTES};
 
 /// A planned network. Its calls bring it about; made again later, a Set of it
@@ -44,7 +45,7 @@ pub fn plan(random: &mut Random) -> Plan {
     let nodes = match random.below(4) {
         0 => 1 + random.below(3),
         1 | 2 => 2 + random.below(5),
-        _ => 1 + random.below(16),
+        _ => 1 + random.below(MOST_NODES),
     };
     let cables = plug(&joined_slots(random, nodes));
     let numbers = planned_numbers(random, nodes);
@@ -108,7 +109,7 @@ fn mesh(nodes: usize) -> Vec<(usize, usize)> {
 /// Gives each cable the lowest free link at both its ends; a cable that finds none
 /// is left out.
 fn plug(pairs: &[(usize, usize)]) -> Vec<Cable> {
-    let mut used = [0; 16];
+    let mut used = [0; MOST_NODES];
     let mut cables = Vec::new();
     for &(one, other) in pairs {
         let needed = if one == other { 2 } else { 1 };
@@ -132,7 +133,7 @@ fn plug(pairs: &[(usize, usize)]) -> Vec<Cable> {
 /// byte does not carry; some twice.
 fn planned_numbers(random: &mut Random, nodes: usize) -> Vec<u32> {
     let base = match random.below(4) {
-        0 => random.value_below(0x1_0000) & 0xFFF0,
+        0 => random.value_below(HIGHEST_NUMBER + 1) & 0xFFF0,
         1 => 8,
         _ => 0,
     };
@@ -159,7 +160,7 @@ fn node_settings(random: &mut Random, numbers: &[u32]) -> Vec<Call> {
 
 /// The direction number that a node's links towards one neighbour share.
 fn direction_towards(slot: usize, neighbour: usize) -> u32 {
-    ((5 * slot + 3 * neighbour) % 16) as u32
+    (5 * slot + 3 * neighbour) as u32 % (HIGHEST_DIRECTION + 1)
 }
 
 /// Direction tables that lead towards the nearest board for each bit; in some
@@ -226,7 +227,7 @@ fn link_settings(random: &mut Random, cables: &[Cable]) -> Vec<Call> {
     for cable in cables {
         let other_network = random.chance(other_network_percent);
         let network = if other_network {
-            random.value_below(4)
+            random.value_below(HIGHEST_NETWORK + 1)
         } else {
             0
         };
@@ -242,7 +243,7 @@ fn link_settings(random: &mut Random, cables: &[Cable]) -> Vec<Call> {
     }
     calls.extend(hellos);
     if random.chance(10) {
-        let value = random.value_below(16);
+        let value = random.value_below(HIGHEST_DIRECTION + 1);
         calls.push(set(0, Setting::LinkDirection { link: 7, value }));
         calls.push(set(0, Setting::Enable { link: 7, value: 1 }));
     }

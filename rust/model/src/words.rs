@@ -5,9 +5,10 @@ use std::str::SplitWhitespace;
 
 use crate::answers::{Answer, Cause, No, Opening};
 use crate::calls::Call;
-use crate::network::{LinkEnd, LINKS};
+use crate::network::LinkEnd;
 use crate::script::Outcome;
 use crate::set::Setting;
+use crate::sizes::LINKS;
 use crate::tokens::{Destination, Kind};
 
 const CALLS: &str = "fresh, wire, set, aim, output, input or step";

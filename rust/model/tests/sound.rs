@@ -7,12 +7,11 @@ mod common;
 use common::Bench;
 use model::answers::{Answer, Cause};
 use model::calls::{apply, Call};
-use model::network::{
-    Aim, Claim, Hop, LinkEnd, Network, Node, Port, Sending, CHANNEL_ENDS, LINKS, PORTS,
-};
+use model::network::{Aim, Claim, Hop, LinkEnd, Network, Node, Port, Sending};
 use model::random::Random;
 use model::runs::Runner;
 use model::set::Setting;
+use model::sizes::{CHANNEL_ENDS, LINKS, PORTS};
 use model::sound::{failing, first_failing, is_sound, Clause};
 use model::tokens::{Destination, Token};
 
@@ -316,6 +315,22 @@ fn tokens_are_legal() {
         }
         passes(move |n| put(n, 0, 8, &[Token::data(value)]));
     }
+}
+
+/// In a message that a control unit hears, too; END and PAUSE end it and are not kept.
+#[test]
+fn tokens_that_a_control_unit_has_heard_are_legal() {
+    let hears = |token| move |n: &mut Network| n.nodes[2].control_unit.heard.push(token);
+    for value in 0..=255 {
+        passes(hears(Token::data(value)));
+        match value {
+            END | PAUSE | 0xC2..=0xFF => {
+                fails(Clause::LegalTokens, hears(Token::control(value)));
+            }
+            _ => passes(hears(Token::control(value))),
+        }
+    }
+    fails(Clause::HeaderElsewhere, hears(Token::data(0).in_header(1)));
 }
 
 /// A port without a circuit to try headers in.

@@ -7,8 +7,9 @@ use std::collections::{HashMap, VecDeque};
 
 use model::answers::{Answer, Cause, Opening};
 use model::calls::Call;
-use model::network::{Hop, Network, Sending, REPLY_PORT, TILE_PORTS};
+use model::network::{Hop, Network, Sending};
 use model::runs::Runner;
+use model::sizes::{REPLY_PORT, TILE_PORTS};
 use model::tokens::{Destination, Token, SINK};
 
 /// One opening, up to its END or PAUSE.

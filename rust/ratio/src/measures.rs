@@ -1,6 +1,7 @@
 //! What is timed: from which state, and which calls.
 
 use model::script;
+use model::sizes::{MOST_NODES, TILE_PORTS};
 use model::tokens::Kind;
 use model::Call;
 
@@ -10,7 +11,7 @@ use crate::states::{empty, half_full, nothing, State};
 const HALF_UPDATE: &str = include_str!("../../../examples/half-update.txt");
 
 /// The networks whose cost is compared with the number of their boards.
-pub const BOARDS: [usize; 5] = [1, 2, 4, 8, 16];
+pub const BOARDS: [usize; 5] = [1, 2, 4, 8, MOST_NODES];
 
 /// Work that every side does from the same state.
 pub struct Measure {
@@ -30,14 +31,14 @@ pub enum Work {
 
 /// What `ratio` prints, in its order.
 pub fn measures() -> Vec<Measure> {
-    let full = half_full(16);
+    let full = half_full(MOST_NODES);
     let on_full = |name: &str, call| Measure {
         name: format!("{name}/16-half-full"),
         begin: full.clone(),
-        work: round_the_boards(16, call),
+        work: round_the_boards(MOST_NODES, call),
     };
     let mut measures = vec![
-        is_sound("is_sound/16-empty".to_owned(), empty(16)),
+        is_sound("is_sound/16-empty".to_owned(), empty(MOST_NODES)),
         is_sound("is_sound/16-half-full".to_owned(), full.clone()),
         on_full("step-to-channel", step_to_channel),
         on_full("output", output),
@@ -77,7 +78,10 @@ fn half_update() -> Measure {
 
 /// A token of port 8 moves over link A to the next board.
 fn step_over_cable(slot: usize) -> Call {
-    Call::Step { slot, port: 8 }
+    Call::Step {
+        slot,
+        port: TILE_PORTS.start,
+    }
 }
 
 /// A token of port 4 is handed to channel 7.

@@ -2,9 +2,10 @@
 
 use compare::calls::{self, Lent};
 use compare::reading;
-use model::network::{memory_words, LinkEnd, LINKS, REPLY_PORT};
+use model::network::{memory_words, LinkEnd};
 use model::random::Random;
 use model::set::Setting;
+use model::sizes::{LINKS, REPLY_PORT, TILE_PORTS};
 use model::tokens::{header, Destination, Kind, Token, ACK, END, NACK, THREE_BYTES};
 use model::{Answer, Call, Network};
 
@@ -131,13 +132,13 @@ fn send_streams(lent: &mut Lent, slot: usize) {
             aim(lent, slot, 0, 1 << link, 7);
             output(lent, slot, 0, data);
             end(lent, slot, 0);
-            step(lent, slot, 8, 1 + 3 + data + 1);
+            step(lent, slot, TILE_PORTS.start, 1 + 3 + data + 1);
         }
     }
     for link in 0..OPEN {
         aim(lent, slot, link, 1 << link, 7);
         output(lent, slot, link, 5);
-        step(lent, slot, 8 + link, 1 + 3 + 5);
+        step(lent, slot, TILE_PORTS.start + link, 1 + 3 + 5);
         output(lent, slot, link, 32);
     }
 }

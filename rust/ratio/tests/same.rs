@@ -4,12 +4,14 @@
 use bench::{raw, Looks};
 use compare::calls::{make, Lent};
 use compare::damaged::{other_things, other_words};
+use compare::layout::{NODE_TOKENS, NODE_WORDS};
 use compare::{choice, filling};
 use model::answers::Cause;
-use model::network::{Hop, LinkEnd, PORTS, REPLY_PORT};
+use model::network::{Hop, LinkEnd};
 use model::random::Random;
 use model::runs::Runner;
 use model::set::Setting;
+use model::sizes::{PORTS, REPLY_PORT};
 use model::tokens::Token;
 use model::{Answer, Call, Network};
 use ratio::baseline;
@@ -177,7 +179,13 @@ fn damaged_memories_have_the_same_verdict() {
 fn words_all_alike_and_wrong_lengths_have_the_same_verdict() {
     for word in [0, 1, 2, 3, 5, 12, 64, 255, u32::MAX] {
         for token in [0, 0x101, 0x600, u16::MAX] {
-            for (words, tokens) in [(754, 832), (754 * 16, 832 * 16), (755, 832), (754, 64)] {
+            let (one, lent) = (NODE_WORDS, NODE_TOKENS);
+            for (words, tokens) in [
+                (one, lent),
+                (one * 16, lent * 16),
+                (one + 1, lent),
+                (one, 64),
+            ] {
                 let lent = Lent {
                     state: vec![word; words],
                     memory: vec![token; tokens],

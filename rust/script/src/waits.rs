@@ -2,7 +2,7 @@
 
 use std::fmt;
 
-use bench::sizes::{LINKS, TILE_LINKS, TILE_PORTS};
+use bench::sizes::{CHANNELS, LINKS, TILE_LINKS, TILE_PORTS};
 use bench::{Bench, Destination, Hop, Kind, Looks, Peer, Stepped, Token, Width};
 
 use crate::names::{channel, counted, letter, peer, port};
@@ -87,8 +87,8 @@ fn header(words: impl Iterator<Item = u32>) -> Option<Destination> {
     let value = u32::from(first.value);
     match first.header? {
         Width::One => Some(Destination::Channel {
-            number: value >> 5,
-            channel: value & 31,
+            number: value / CHANNELS as u32,
+            channel: value % CHANNELS as u32,
         }),
         Width::Three => {
             let (low, door) = (tokens.next()?, tokens.next()?);

@@ -6,13 +6,19 @@ use Rattle.acts.proofs.pop.Statement.{statement}
 use Rattle.acts.proofs.pop.Tie as tie
 
 take-at-requires : tie.Need-take-at-requires
-take-at-requires c κs = let r = c .before .before .before .before .before .pre in rw (c .before .at .ensures) (r .fair, omega (arith, r .held), r .reaches)
+take-at-requires c κs =
+    let read = c .before in
+    let held = read .before .before .before .before .pre in
+    rw (read .at .ensures) (held .fair, omega (arith, held .held), held .reaches)
 
 returns : tie.Need-returns
 unfolding popped
 returns c =
-    let t = c .before .before .before .before .before .before .before .take-at .ensures in
-    (rw (t .1, c .before .before .before .before .before .before .before .before .before .at .ensures), rw (c .before .before .put .ensures, t .0, t .2, c .before .before .before .before .before .before .before .before .before .at .ensures))
+    let set = c .before .before in
+    let took = set .before .before .before .before in
+    let read = took .before .before in
+    let t = took .take-at .ensures in
+    (rw (t .1, read .at .ensures), rw (set .put-counters .ensures, t .0, t .2, read .at .ensures))
 
 pub pop-spec : {M : Type 1} → statement M
 pop-spec =

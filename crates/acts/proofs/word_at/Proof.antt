@@ -20,7 +20,7 @@ shared-slice-read-result c =
 returns : tie.Need-returns
 returns c =
     let a = c .before .before .before .before .before .before .args in
-    let k = view (a .st .now) .ports (a .slot .0) (a .p) .counters in
+    let k = view (a .st .now) .ports .counters (a .slot .0) (a .p) in
     rw (c .before .before .stretch .ensures, c .before .before .before .at .ensures) (row-at capacity (place (a .slot .0) (a .p)) ((k .head + a .i) % capacity) (a .mem .now) 0 (omega arith))
 
 pub word-at-spec : {M : Type 1} → statement M

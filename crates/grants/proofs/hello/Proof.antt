@@ -5,13 +5,22 @@ use Rattle.grants.specs.Grants.{helloed, helloGrant}
 use Rattle.grants.proofs.hello.Statement.{statement}
 use Rattle.grants.proofs.hello.Tie as tie
 
--- src/lib.rt:72:5
 consider-requires : tie.Need-consider-requires
-consider-requires c κs = rw (c .before .before .before .put .ensures) (c .before .before .before .before .before .before .before .before .before .pre)
+consider-requires c κs =
+    let put = c .before .before .before in
+    let entry = put .before .before .before .before .before .before .before in
+    rw (put .put-flow .ensures) (entry .pre)
 
 returns : tie.Need-returns
 unfolding helloed helloGrant
-returns c = (c .before .before .consider .ensures .0 ∙ rw (c .before .before .before .before .before .before .put .ensures, c .before .before .before .before .before .before .before .before .greet .ensures, c .before .before .before .before .before .before .before .before .before .at .ensures), c .before .before .consider .ensures .1 ∙ rw (c .before .before .before .before .before .before .put .ensures, c .before .before .before .before .before .before .before .before .greet .ensures, c .before .before .before .before .before .before .before .before .before .at .ensures))
+returns c =
+    let considered = c .before .before in
+    let put = considered .before .before .before .before in
+    let greeted = put .before .before in
+    let read = greeted .before .before in (
+      considered .consider .ensures .0 ∙ rw (put .put-flow .ensures, greeted .greeting .ensures, read .at .ensures),
+      considered .consider .ensures .1 ∙ rw (put .put-flow .ensures, greeted .greeting .ensures, read .at .ensures),
+    )
 
 pub hello-spec : {M : Type 1} → statement M
 hello-spec =

@@ -14,10 +14,10 @@ use Rattle.looks.proofs.end_token.Tie as tie
 
 -- how many the channel-end holds
 abbrev held : tie.After-at → ℕ
-held c = let a = c .before .before .args in view (a .st .now) .ends (a .slot .0) (a .c) .held
+held c = let a = c .before .before .args in view (a .st .now) .ends .buffers (a .slot .0) (a .c) .held
 
-count : (c : tie.After-at) → c .at .result .held ≡ held c
-count c = ap (λ (k : End). k .held) (c .at .ensures)
+count : (c : tie.After-at) → c .at .result .buffer .held ≡ held c
+count c = ap (λ (k : End). k .buffer .held) (c .at .ensures)
 
 returns : tie.Need-returns
 unfolding endToken

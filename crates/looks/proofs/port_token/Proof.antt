@@ -21,7 +21,7 @@ start c = c .before .before .before
 
 -- how many the port holds, and how many nodes the memory is for
 abbrev held : tie.After-at → ℕ
-held c = let a = start c .args in view (a .st .now) .ports (a .slot .0) (a .p) .counters .held
+held c = let a = start c .args in view (a .st .now) .ports .counters (a .slot .0) (a .p) .held
 
 abbrev nodes : tie.After-at → ℕ
 nodes c = length (start c .args .mem .now) / (ports * capacity)

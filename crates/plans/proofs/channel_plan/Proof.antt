@@ -8,11 +8,14 @@ returns : tie.Need-returns
 returns c = rw (← c .before .lowest-tile .ensures, eq-eqb _ _ (c .if1 .taken))
 
 returns-2 : tie.Need-returns-2
-returns-2 c = rw (← c .before .before .before .before .lowest-tile .ensures, ne-eqb _ _ (c .before .before .before .if1 .left), ← c .before .before .at .ensures, c .if2 .taken)
+returns-2 c =
+    let found = c .before .before in
+    rw (← found .before .lowest-tile .ensures, ne-eqb _ _ (found .if1 .left), ← c .before .channel-claimed .ensures, c .if2 .taken)
 
 returns-3 : tie.Need-returns-3
-returns-3 c = rw (← c .before .before .before .before .lowest-tile .ensures, ne-eqb _ _ (c .before .before .before .if1 .left), ← c .before .before .at .ensures, c .if2 .left)
+returns-3 c =
+    let found = c .before .before in
+    rw (← found .before .lowest-tile .ensures, ne-eqb _ _ (found .if1 .left), ← c .before .channel-claimed .ensures, c .if2 .left)
 
 pub channel-plan-spec : {M : Type 1} → statement M
-channel-plan-spec =
-    tie.close (tie.spec (λ c κs. search needs) returns (λ c κs. search needs) (λ c. search needs) returns-2 returns-3)
+channel-plan-spec = tie.close (tie.spec (λ c κs. search needs) returns (λ c κs. search needs) returns-2 returns-3)

@@ -4,10 +4,10 @@ use Rattle.plans.proofs.hand_plan.Statement.{statement}
 use Rattle.plans.proofs.hand_plan.Tie as tie
 
 returns : tie.Need-returns
-returns c = rw (← c .before .before .before .at .ensures, ← c .before .is-pause .ensures, c .if1 .taken)
+returns c = rw (← c .before .channel-full .ensures, c .if1 .taken)
 
 returns-2 : tie.Need-returns-2
-returns-2 c = rw (← c .before .before .before .at .ensures, ← c .before .is-pause .ensures, c .if1 .left)
+returns-2 c = rw (← c .before .channel-full .ensures, c .if1 .left)
 
 pub hand-plan-spec : {M : Type 1} → statement M
-hand-plan-spec = tie.close (tie.spec (λ c κs. search needs) (λ c. search needs) (λ c κs. search needs) returns returns-2)
+hand-plan-spec = tie.close (tie.spec (λ c κs. search needs) returns returns-2)

@@ -8,7 +8,10 @@ use Rattle.plans.proofs.header_plan.Statement.{statement}
 use Rattle.plans.proofs.header_plan.Tie as tie
 
 returns : tie.Need-returns
-returns c = rw (← (c .before .before .size-of .ensures ∙ ap sizeOf (c .before .before .before .before .marked-width .ensures ∙ ap markedWidth (c .before .before .before .before .before .word-at .ensures))), ← c .before .before .before .at .ensures, lt-ltb _ _ (c .if1 .taken))
+returns c =
+    let marked = c .before .before .before .before in
+    let width = marked .marked-width .ensures ∙ ap markedWidth (marked .before .word-at .ensures) in
+    rw (lt-ltb _ _ (rw (c .before .before .before .at .ensures, c .before .before .size-of .ensures, width) at (c .if1 .taken)))
 
 returns-2 : tie.Need-returns-2
 returns-2 c =

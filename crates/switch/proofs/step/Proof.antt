@@ -12,24 +12,39 @@ use Rattle.switch.proofs.step.Statement.{statement}
 use Rattle.switch.proofs.step.Tie as tie
 
 returns : tie.Need-returns
-returns c = let a = c .before .before .before .before .before .args in not-there (world (a .st .now) (a .mem .now)) (a .slot .0) (a .p) (sym (c .before .port-at .ensures) ∙ not-true _ (c .if1 .taken))
+returns c =
+    let a = c .before .before .before .before .before .args in
+    not-there (world (a .st .now) (a .mem .now)) (a .slot .0) (a .p) (sym (c .before .port-at .ensures) ∙ not-true _ (c .if1 .taken))
 
 plan-of-requires : tie.Need-plan-of-requires
 plan-of-requires c κs =
-    let a = c .before .before .before .before .before .before .before .args in
-    let z = port-there (view (a .st .now)) (a .slot .0) (a .p) (sym (c .before .before .before .port-at .ensures) ∙ not-false _ (c .before .before .if1 .left)) in
-    (node-facts (world (a .st .now) (a .mem .now)) (c .before .before .before .before .before .before .before .pre) (a .slot .0) (z .0) .0, holds (world (a .st .now) (a .mem .now)) (c .before .before .before .before .before .before .before .pre) (a .slot .0) (a .p) (z .0) (z .1) 0 zero-le)
+    let tested = c .before .before in
+    let entry = tested .before .before .before .before .before in
+    let a = entry .args in
+    let n = a .slot .0 in
+    let w = world (a .st .now) (a .mem .now) in
+    let z = port-there (view (a .st .now)) n (a .p) (sym (tested .before .port-at .ensures) ∙ not-false _ (tested .if1 .left)) in
+    (node-facts w (entry .pre) n (z .0) .0, holds w (entry .pre) n (a .p) (z .0) (z .1) 0 zero-le)
 
 perform-requires : tie.Need-perform-requires
 perform-requires c κs =
-    let a = c .before .before .before .before .before .before .before .before .before .before .args in
-    let z = port-there (view (a .st .now)) (a .slot .0) (a .p) (sym (c .before .before .before .before .before .before .port-at .ensures) ∙ not-false _ (c .before .before .before .before .before .if1 .left)) in
-    (z .0, z .1, rw (c .before .before .plan-of .ensures) (plan-possible (world (a .st .now) (a .mem .now)) (c .before .before .before .before .before .before .before .before .before .before .pre) (a .slot .0) (a .p) (z .0) (z .1)))
+    let planned = c .before .before in
+    let tested = planned .before .before .before in
+    let entry = tested .before .before .before .before .before in
+    let a = entry .args in
+    let n = a .slot .0 in
+    let z = port-there (view (a .st .now)) n (a .p) (sym (tested .before .port-at .ensures) ∙ not-false _ (tested .if1 .left)) in
+    let possible = plan-possible (world (a .st .now) (a .mem .now)) (entry .pre) n (a .p) (z .0) (z .1) in
+    (z .0, z .1, rw (planned .plan-of .ensures) possible)
 
 returns-2 : tie.Need-returns-2
 returns-2 c =
-    let a = c .before .before .before .before .before .before .before .before .before .before .before .before .before .before .before .args in
-    (rw (c .before .before .before .before .before .before .before .plan-of .ensures) at (c .before .before .before .before .perform .ensures)) ∙ stepped (world (a .st .now) (a .mem .now)) (a .slot .0) (a .p) (sym (c .before .before .before .before .before .before .before .before .before .before .before .port-at .ensures) ∙ not-false _ (c .before .before .before .before .before .before .before .before .before .before .if1 .left))
+    let done = c .before .before .before .before in
+    let planned = done .before .before .before in
+    let tested = planned .before .before .before in
+    let a = tested .before .before .before .before .before .args in
+    let there = sym (tested .before .port-at .ensures) ∙ not-false _ (tested .if1 .left) in
+    (rw (planned .plan-of .ensures) at (done .perform .ensures)) ∙ stepped (world (a .st .now) (a .mem .now)) (a .slot .0) (a .p) there
 
 pub step-spec : {M : Type 1} → statement M
 step-spec =

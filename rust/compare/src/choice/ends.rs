@@ -1,8 +1,9 @@
 //! Aim, Output and Input, made up at random.
 
 use model::calls::Call;
-use model::network::{ChannelEnd, Network, CHANNEL_ENDS};
+use model::network::{ChannelEnd, Network};
 use model::random::Random;
+use model::sizes::{CHANNELS, CHANNEL_ENDS, HIGHEST_NETWORK, HIGHEST_NUMBER};
 use model::tokens::{Destination, Kind, END, PAUSE, READC, SINK, WRITEC};
 
 use super::{below_or_beyond, value};
@@ -62,7 +63,7 @@ fn any_aim(random: &mut Random, network: Option<&Network>, at: Place) -> Call {
         slot: at.slot,
         channel_end: at.end,
         destination,
-        network: value(random, 4),
+        network: value(random, HIGHEST_NETWORK + 1),
     }
 }
 
@@ -76,19 +77,25 @@ fn any_number(random: &mut Random, network: Option<&Network>, slot: usize) -> u3
         0..=2 => own,
         3 => own ^ 8,
         4 | 5 => other.map_or(0, |node| node.number),
-        _ => value(random, 0x1_0000),
+        _ => value(random, HIGHEST_NUMBER + 1),
     }
 }
 
 /// A channel-end aimed at itself is one of the cases.
 fn any_channel(random: &mut Random, own: usize) -> usize {
-    let edges = [31, 32, 254, 256, u32::MAX as usize];
+    let edges = [
+        CHANNELS - 1,
+        CHANNELS,
+        SINK - 1,
+        SINK + 1,
+        u32::MAX as usize,
+    ];
     match random.below(12) {
         0 | 1 => own.min(u32::MAX as usize),
         2 | 3 => SINK,
-        4 => random.pick(&edges).unwrap_or(32),
+        4 => random.pick(&edges).unwrap_or(CHANNELS),
         5..=7 => random.below(6),
-        _ => random.below(CHANNEL_ENDS),
+        _ => random.below(CHANNELS),
     }
 }
 

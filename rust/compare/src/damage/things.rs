@@ -3,22 +3,24 @@
 //! sound than changed words are.
 
 use model::answers::Cause;
-use model::network::{
-    Aim, Claim, Hop, LinkEnd, Network, Node, Sending, CHANNEL_ENDS, LINKS, PORTS, TILE_LINKS,
-};
+use model::network::{Aim, Claim, Hop, LinkEnd, Network, Node, Sending};
 use model::random::Random;
-use model::tokens::{header, Destination, Token, END, PAUSE};
+use model::sizes::{
+    CHANNELS, CHANNEL_ENDS, HIGHEST_NETWORK, HIGHEST_NUMBER, LINKS, PORTS, TILE_LINKS, TILE_PORTS,
+};
+use model::tokens::{header, Destination, Token, END, PAUSE, SINK};
 
 /// Changes one to three things.
 pub fn disturb(random: &mut Random, network: &mut Network) {
     for _ in 0..1 + random.below(3) {
         let slots = network.nodes.len();
         let slot = random.below(slots);
-        match random.below(5) {
+        match random.below(6) {
             0 => link(random, slots, &mut network.nodes[slot]),
             1 => hold(random, &mut network.nodes[slot]),
             2 => lose(random, &mut network.nodes[slot]),
             3 => port(random, &mut network.nodes[slot]),
+            4 => hear(random, &mut network.nodes[slot]),
             _ => channel_end(random, &mut network.nodes[slot]),
         }
     }
@@ -32,12 +34,12 @@ fn any_port(random: &mut Random) -> usize {
 
 /// A channel, the sink among them, now and then one that is not there.
 fn any_channel(random: &mut Random) -> usize {
-    let odd = [255, 255, 32, 254];
-    let odd = random.pick(&odd).unwrap_or(255);
+    let odd = [SINK, SINK, CHANNELS, SINK - 1];
+    let odd = random.pick(&odd).unwrap_or(SINK);
     if random.chance(15) {
         odd
     } else {
-        random.below(CHANNEL_ENDS)
+        random.below(CHANNELS)
     }
 }
 
@@ -69,7 +71,7 @@ fn link(random: &mut Random, slots: usize, node: &mut Node) {
 fn hold(random: &mut Random, node: &mut Node) {
     let width = random.pick(&[1, 3, 3]).unwrap_or(3);
     let channel = any_channel(random);
-    let number = random.value_below(0x1_0000);
+    let number = random.value_below(HIGHEST_NUMBER + 1);
     let unit = Destination::Control { number };
     let far = Destination::Channel { number, channel };
     let destination = if random.chance(80) { far } else { unit };
@@ -126,11 +128,26 @@ fn port(random: &mut Random, node: &mut Node) {
     }
 }
 
+/// The token that a control unit heard last becomes another, or a first one is heard.
+fn hear(random: &mut Random, node: &mut Node) {
+    let tokens = [
+        Token::data(random.byte()),
+        Token::control(random.byte()),
+        Token::control(END),
+        Token::control(PAUSE),
+        Token::data(random.byte()).in_header(3),
+    ];
+    let token = random.pick(&tokens).unwrap_or(tokens[0]);
+    let heard = &mut node.control_unit.heard;
+    heard.pop();
+    heard.push(token);
+}
+
 /// A channel-end's aim, open circuit or claim.
 fn channel_end(random: &mut Random, node: &mut Node) {
     let sending = [
         Sending::ByPort(any_port(random)),
-        Sending::ByPort(8 + random.below(4)),
+        Sending::ByPort(TILE_PORTS.start + random.below(TILE_PORTS.len())),
         Sending::Straight(any_channel(random)),
     ];
     let claims = [
@@ -139,10 +156,10 @@ fn channel_end(random: &mut Random, node: &mut Node) {
     ];
     let aim = Aim {
         destination: Destination::Channel {
-            number: random.value_below(0x1_0001),
+            number: random.value_below(HIGHEST_NUMBER + 2),
             channel: any_channel(random),
         },
-        network: random.value_below(5),
+        network: random.value_below(HIGHEST_NETWORK + 2),
     };
     let end = &mut node.channel_ends[random.below(6)];
     match random.below(3) {

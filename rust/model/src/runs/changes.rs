@@ -2,8 +2,9 @@
 
 use super::Runner;
 use crate::calls::Call;
-use crate::network::{LinkEnd, Network, BITS, LINKS};
+use crate::network::{LinkEnd, Network};
 use crate::set::Setting;
+use crate::sizes::{BITS, HIGHEST_DIRECTION, HIGHEST_NETWORK, HIGHEST_NUMBER, LINKS};
 
 impl Runner {
     /// Changes one setting: a step of an update, or a mistake.
@@ -23,7 +24,7 @@ impl Runner {
                 value: self.number(),
             },
             1 => Setting::Number {
-                value: self.value_below_or_beyond(0x1_0000),
+                value: self.value_below_or_beyond(HIGHEST_NUMBER + 1),
             },
             2 | 3 => Setting::Width {
                 value: self.random.pick(&[1, 3]).unwrap_or(3),
@@ -33,7 +34,7 @@ impl Runner {
             },
             _ => Setting::Direction {
                 bit: self.value_below_or_beyond(BITS as u32) as usize,
-                value: self.value_below_or_beyond(16),
+                value: self.value_below_or_beyond(HIGHEST_DIRECTION + 1),
             },
         }
     }
@@ -43,11 +44,11 @@ impl Runner {
         match self.random.below(6) {
             0 => Setting::LinkDirection {
                 link,
-                value: self.value_below_or_beyond(16),
+                value: self.value_below_or_beyond(HIGHEST_DIRECTION + 1),
             },
             1 => Setting::Network {
                 link,
-                value: self.value_below_or_beyond(4),
+                value: self.value_below_or_beyond(HIGHEST_NETWORK + 1),
             },
             2 => Setting::Enable { link, value: 0 },
             3 => Setting::Enable {

@@ -2,8 +2,11 @@
 
 use super::{Runner, TALKERS};
 use crate::calls::Call;
-use crate::network::{memory_words, LinkEnd, CHANNEL_ENDS, LINKS, PORTS, REPLY_PORT};
-use crate::tokens::Destination;
+use crate::network::{memory_words, LinkEnd};
+use crate::sizes::{
+    CHANNELS, CHANNEL_ENDS, HIGHEST_NETWORK, HIGHEST_NUMBER, LINKS, MOST_NODES, PORTS, REPLY_PORT,
+};
+use crate::tokens::{Destination, SINK};
 
 impl Runner {
     pub(super) fn wire(&mut self) -> Call {
@@ -32,8 +35,16 @@ impl Runner {
     }
 
     pub(super) fn odd_aim(&mut self) -> Call {
-        let number = self.value_below_or_beyond(0x1_0000);
-        let channels = [0, 31, 32, 254, 255, 256, u32::MAX as usize];
+        let number = self.value_below_or_beyond(HIGHEST_NUMBER + 1);
+        let channels = [
+            0,
+            CHANNELS - 1,
+            CHANNELS,
+            SINK - 1,
+            SINK,
+            SINK + 1,
+            u32::MAX as usize,
+        ];
         let channel = self.random.pick(&channels).unwrap_or(0);
         let to_channel = self.random.chance(70);
         Call::Aim {
@@ -44,7 +55,7 @@ impl Runner {
             } else {
                 Destination::Control { number }
             },
-            network: self.value_below_or_beyond(4),
+            network: self.value_below_or_beyond(HIGHEST_NETWORK + 1),
         }
     }
 
@@ -66,7 +77,7 @@ impl Runner {
 
     /// A Fresh that is refused: no such count, or another memory.
     pub(super) fn odd_fresh(&mut self) -> Call {
-        let counts = [0, 1, 5, 16, 17, usize::MAX];
+        let counts = [0, 1, 5, MOST_NODES, MOST_NODES + 1, usize::MAX];
         let nodes = self.random.pick(&counts).unwrap_or(0);
         let right = memory_words(nodes).unwrap_or(usize::MAX);
         let lengths = [0, 1, right - right.min(1), right.saturating_add(1)];

@@ -1,8 +1,7 @@
 //! Sound: circuits, and who names them.
 
-use crate::network::{
-    ChannelEnd, Claim, Hop, Network, Node, Sending, CHANNEL_ENDS, PORTS, REPLY_PORT, TILE_PORTS,
-};
+use crate::network::{ChannelEnd, Claim, Hop, Network, Node, Sending};
+use crate::sizes::{CHANNEL_ENDS, PORTS, REPLY_PORT, TILE_PORTS};
 use crate::tokens::SINK;
 
 /// "a port's output names that port back and no other": links, tile links and the

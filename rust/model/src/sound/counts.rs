@@ -1,11 +1,13 @@
 //! Sound: the length of the memory, counts and indices.
 
 use crate::network::{
-    memory_words, Aim, ChannelEnd, Claim, Hop, Link, Network, Node, Port, Sending, CHANNEL_ENDS,
-    CHANNEL_END_CAPACITY, HIGHEST_DIRECTION, HIGHEST_NETWORK, HIGHEST_NUMBER, LINKS, MOST_CREDIT,
-    MOST_NODES, PORTS, PORT_CAPACITY, TILE_PORTS,
+    memory_words, Aim, ChannelEnd, Claim, Hop, Link, Network, Node, Port, Sending,
 };
-use crate::tokens::{is_channel, Destination, ONE_BYTE, THREE_BYTES};
+use crate::sizes::{
+    CHANNEL_ENDS, CHANNEL_END_CAPACITY, HIGHEST_DIRECTION, HIGHEST_NETWORK, HIGHEST_NUMBER, LINKS,
+    MOST_CREDIT, MOST_NODES, PORTS, PORT_CAPACITY, TILE_PORTS,
+};
+use crate::tokens::{is_channel, Destination, ONE_BYTE, SINK, THREE_BYTES};
 
 /// Unsound is also "memory of the wrong length".
 pub(super) fn memory_has_its_length(network: &Network) -> bool {
@@ -41,10 +43,15 @@ fn link_counts(link: &Link, count: usize) -> bool {
         && link.used_by.is_none_or(|port| port < PORTS)
 }
 
+/// A channel-end of the node, or the sink.
+fn is_there(channel: usize) -> bool {
+    channel < CHANNEL_ENDS || channel == SINK
+}
+
 fn port_counts(port: &Port) -> bool {
     let hop = match port.hop {
         Some(Hop::Outward(link)) => link < LINKS,
-        Some(Hop::Channel(channel)) => is_channel(channel),
+        Some(Hop::Channel(channel)) => is_there(channel),
         Some(Hop::Control | Hop::Dropped(_)) | None => true,
     };
     hop && port.tokens.len() <= PORT_CAPACITY
@@ -59,7 +66,7 @@ fn circuit_network_counts(port: &Port) -> bool {
 fn channel_end_counts(end: &ChannelEnd) -> bool {
     let sending = match end.sending {
         Some(Sending::ByPort(port)) => port < PORTS,
-        Some(Sending::Straight(channel)) => is_channel(channel),
+        Some(Sending::Straight(channel)) => is_there(channel),
         None => true,
     };
     let claim = match end.claim {

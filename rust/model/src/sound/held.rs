@@ -1,13 +1,14 @@
-//! Sound: what ports and channel-ends hold.
+//! Sound: what ports, channel-ends and control units hold.
 
 use std::collections::vec_deque;
 
-use crate::network::{ChannelEnd, Hop, Network, Port};
+use crate::network::{ChannelEnd, ControlUnit, Hop, Network, Port};
 use crate::tokens::{is_channel, Kind, Token, PAUSE, READC, SSCTRL, WRITEC};
 
 /// "tokens [...] are legal": outside headers no hardware token and of the
-/// privileged only 0xC0 and 0xC1; no PAUSE in a channel-end (open point 2). Header
-/// tokens are judged with their headers.
+/// privileged only 0xC0 and 0xC1; no PAUSE in a channel-end (open point 2); neither
+/// END nor PAUSE in a message that a control unit hears. Header tokens are judged
+/// with their headers.
 pub(super) fn tokens_legal(network: &Network) -> bool {
     let legal = |token: &Token| token.header.is_some() || is_legal(token);
     let ports = all_ports(network, |port| port.tokens.iter().all(legal));
@@ -15,6 +16,10 @@ pub(super) fn tokens_legal(network: &Network) -> bool {
         && all_channel_ends(network, |end| {
             let mut tokens = end.tokens.iter();
             tokens.all(|token| legal(token) && !token.is_control(PAUSE))
+        })
+        && all_serving_units(network, |unit| {
+            let mut tokens = unit.heard.iter();
+            tokens.all(|token| legal(token) && !token.ends_circuit())
         })
 }
 
@@ -147,6 +152,9 @@ pub(super) fn no_header_elsewhere(network: &Network) -> bool {
         && all_channel_ends(network, |end| {
             end.tokens.iter().all(|token| token.header.is_none())
         })
+        && all_serving_units(network, |unit| {
+            unit.heard.iter().all(|token| token.header.is_none())
+        })
 }
 
 fn all_stretches(network: &Network, holds: impl Fn(&Stretch) -> bool) -> bool {
@@ -163,4 +171,10 @@ fn all_ports(network: &Network, holds: impl Fn(&Port) -> bool) -> bool {
 fn all_channel_ends(network: &Network, holds: impl Fn(&ChannelEnd) -> bool) -> bool {
     let mut nodes = network.nodes.iter();
     nodes.all(|node| node.channel_ends.iter().all(&holds))
+}
+
+/// What an idle control unit heard last is not looked at.
+fn all_serving_units(network: &Network, holds: impl Fn(&ControlUnit) -> bool) -> bool {
+    let units = network.nodes.iter().map(|node| &node.control_unit);
+    units.filter(|unit| unit.serves.is_some()).all(holds)
 }

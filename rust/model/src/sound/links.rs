@@ -1,6 +1,7 @@
 //! Sound: credits, greetings and cables.
 
-use crate::network::{Link, LinkEnd, Network, MOST_CREDIT};
+use crate::network::{Link, LinkEnd, Network};
+use crate::sizes::MOST_CREDIT;
 
 /// "credit only where greeted"
 pub(super) fn credit_only_where_greeted(network: &Network) -> bool {

@@ -5,7 +5,8 @@ use std::collections::VecDeque;
 use crate::network::Node;
 use crate::random::Random;
 use crate::registers;
-use crate::tokens::{Token, END, PAUSE, READC, WRITEC};
+use crate::sizes::CHANNELS;
+use crate::tokens::{Token, END, PAUSE, READC, SINK, WRITEC};
 
 const HELLO: u32 = 1 << 24;
 const ENABLE: u32 = 1 << 31;
@@ -57,14 +58,16 @@ fn whole(command: u8, front: &[u8], data: &[u8]) -> Vec<Token> {
 /// A write that sets one-byte width and asks for a reply to the sink, which that
 /// width cannot carry.
 fn last_words(number: u32) -> VecDeque<Token> {
-    write(number, 255, 0x04, 1).into()
+    write(number, SINK, 0x04, 1).into()
 }
 
 /// The channel given, the sink, or seldom one that is no channel.
 fn any_channel(random: &mut Random, channel: usize) -> usize {
     match random.below(25) {
-        0 | 1 => 255,
-        2 => random.pick(&[32, 33, 127, 253, 254]).unwrap_or(32),
+        0 | 1 => SINK,
+        2 => random
+            .pick(&[CHANNELS, CHANNELS + 1, 127, 253, 254])
+            .unwrap_or(CHANNELS),
         _ => channel,
     }
 }

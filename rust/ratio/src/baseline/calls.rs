@@ -1,6 +1,6 @@
 //! The door: every call but Fresh tests the state first.
 
-use model::network::MOST_NODES;
+use model::sizes::MOST_NODES;
 use model::tokens::THREE_BYTES;
 use model::{Answer, Call, No};
 

@@ -1,6 +1,6 @@
 //! Aim, Output and Input.
 
-use model::network::{
+use model::sizes::{
     CHANNEL_END_CAPACITY, HIGHEST_NETWORK, HIGHEST_NUMBER, PORT_CAPACITY, TILE_PORTS,
 };
 use model::tokens::{Destination, Kind, ONE_BYTE, READC, SINK, SSCTRL, WRITEC};

@@ -1,13 +1,11 @@
 //! The records of a network.
 
 use model::answers::Cause;
-use model::network::{
-    CHANNEL_ENDS, CHANNEL_END_CAPACITY, LINKS, MOST_NODES, PORTS, PORT_CAPACITY, TILE_LINKS,
+use model::sizes::{
+    CHANNELS, CHANNEL_ENDS, CHANNEL_END_CAPACITY, HEARD, LINKS, MOST_NODES, PORTS, PORT_CAPACITY,
+    TILE_LINKS,
 };
 use model::tokens::SINK;
-
-/// The tokens of a message that a control unit keeps.
-pub const HEARD: usize = 11;
 
 /// The words of the control tokens END and PAUSE.
 pub const END: u16 = 0x0101;
@@ -203,7 +201,7 @@ pub fn closes(token: u16) -> bool {
     token == END || token == PAUSE
 }
 
-/// The channels that there are: 0..31 and the sink.
+/// The channels that a destination can name: 0..31 and the sink.
 pub fn is_channel(channel: usize) -> bool {
-    channel < CHANNEL_ENDS || channel == SINK
+    channel < CHANNELS || channel == SINK
 }

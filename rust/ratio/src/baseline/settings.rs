@@ -1,9 +1,8 @@
 //! Wire and Set, and the credits of links.
 
-use model::network::{
-    LinkEnd, BITS, HIGHEST_DIRECTION, HIGHEST_NETWORK, HIGHEST_NUMBER, MOST_CREDIT,
-};
+use model::network::LinkEnd;
 use model::set::Setting;
+use model::sizes::{BITS, HIGHEST_DIRECTION, HIGHEST_NETWORK, HIGHEST_NUMBER, MOST_CREDIT};
 use model::tokens::{ONE_BYTE, THREE_BYTES};
 use model::{Answer, No};
 

@@ -1,18 +1,18 @@
 //! The list "Sound": one pass over the nodes, and what a record names is looked up.
 
-use model::network::{
-    HIGHEST_DIRECTION, HIGHEST_NETWORK, HIGHEST_NUMBER, MOST_CREDIT, MOST_NODES, REPLY_PORT,
+use model::sizes::{
+    HEARD, HIGHEST_DIRECTION, HIGHEST_NETWORK, HIGHEST_NUMBER, MOST_CREDIT, MOST_NODES, REPLY_PORT,
     TILE_PORTS,
 };
 use model::tokens::SINK;
 
 use super::records::{
-    is_channel, ChannelEnd, Circuit, Hop, Link, Network, Node, Peer, Port, Unit, END, HEARD,
-    NO_ROUTE, OUTWARD, PAUSE, TO_CHANNEL, TO_UNIT,
+    is_channel, ChannelEnd, Circuit, Hop, Link, Network, Node, Peer, Port, Unit, END, NO_ROUTE,
+    OUTWARD, PAUSE, TO_CHANNEL, TO_UNIT,
 };
 
-const PORT_CAPACITY: u32 = model::network::PORT_CAPACITY as u32;
-const END_CAPACITY: u32 = model::network::CHANNEL_END_CAPACITY as u32;
+const PORT_CAPACITY: u32 = model::sizes::PORT_CAPACITY as u32;
+const END_CAPACITY: u32 = model::sizes::CHANNEL_END_CAPACITY as u32;
 
 /// Where a walk over a port's tokens is.
 #[derive(Clone, Copy)]
@@ -97,6 +97,7 @@ impl Node {
         unit.serves.kind == 0
             || (unit.serves.kind == 1
                 && unit.heard <= HEARD as u32
+                && unit.tokens_are_legal()
                 && self.ports[REPLY_PORT].held == 0
                 && self
                     .port_of(unit.serves)
@@ -265,9 +266,23 @@ impl ChannelEnd {
             && (self.aim == 2 || (self.aim == 1 && is_channel(self.channel as usize)))
     }
 
-    /// No header, no privileged token but 0xC0 and 0xC1, no PAUSE.
     fn tokens_are_legal(&self) -> bool {
-        let mut held = self.tokens[..self.held as usize].iter();
-        held.all(|token| *token <= 0x01C1 && *token != u32::from(PAUSE))
+        let held = &self.tokens[..self.held as usize];
+        held.iter().all(|token| may_be_kept(*token))
+    }
+}
+
+/// No header, no privileged token but 0xC0 and 0xC1, no PAUSE.
+fn may_be_kept(token: u32) -> bool {
+    token <= 0x01C1 && token != u32::from(PAUSE)
+}
+
+impl Unit {
+    /// END ends a message, as PAUSE does, and is not kept.
+    fn tokens_are_legal(&self) -> bool {
+        let heard = &self.tokens[..self.heard as usize];
+        heard
+            .iter()
+            .all(|token| may_be_kept(*token) && *token != u32::from(END))
     }
 }

@@ -1,13 +1,12 @@
 //! Step.
 
 use model::answers::{Cause, Opening};
-use model::network::{CHANNEL_END_CAPACITY, LINKS, PORTS, REPLY_PORT, TILE_PORTS};
+use model::sizes::{CHANNELS, CHANNEL_END_CAPACITY, HEARD, LINKS, PORTS, REPLY_PORT, TILE_PORTS};
 use model::tokens::{ONE_BYTE, SINK};
 use model::{Answer, No};
 
 use super::records::{
-    closes, Circuit, Hop, Network, Node, HEARD, NO_ROUTE, OUTWARD, PAUSE, SPLIT, TO_CHANNEL,
-    TO_UNIT,
+    closes, Circuit, Hop, Network, Node, NO_ROUTE, OUTWARD, PAUSE, SPLIT, TO_CHANNEL, TO_UNIT,
 };
 
 /// What a whole header asks for.
@@ -171,7 +170,9 @@ impl Node {
         let port = &self.ports[place];
         let byte = |at: u32| u32::from(port.token(at) & 0xFF);
         if self.width == ONE_BYTE {
-            return (byte(0) >> 5, Target::Channel(byte(0) as usize & 31));
+            let header = byte(0) as usize;
+            let channel = Target::Channel(header % CHANNELS);
+            return ((header / CHANNELS) as u32, channel);
         }
         let number = byte(0) << 8 | byte(1);
         if port.token(2) & 0x100 != 0 {

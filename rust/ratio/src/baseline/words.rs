@@ -1,6 +1,6 @@
 //! A network read from the lent words of the proved library, and written as them.
 
-use model::network::{MOST_NODES, PORT_CAPACITY};
+use model::sizes::{MOST_NODES, PORT_CAPACITY};
 
 use compare::layout::{NODE_TOKENS, NODE_WORDS};
 
@@ -67,9 +67,9 @@ fn read_node(words: &mut impl Words) -> Node {
         tile_users: std::array::from_fn(|_| words.circuit()),
         ends: std::array::from_fn(|_| read_end(words)),
         unit: Unit {
-            serves: words.circuit(),
             heard: words.word(),
             tokens: words.words(),
+            serves: words.circuit(),
         },
     }
 }
@@ -92,9 +92,9 @@ fn read_port(words: &mut impl Words) -> Port {
     Port {
         head: words.word(),
         held: words.word(),
-        circuit: words.circuit(),
         tile: words.word(),
         network: words.word(),
+        circuit: words.circuit(),
         sender: words.circuit(),
         ..Port::default()
     }
@@ -106,10 +106,10 @@ fn read_end(words: &mut impl Words) -> ChannelEnd {
         number: words.word(),
         channel: words.word(),
         network: words.word(),
-        sending: words.circuit(),
-        claim: words.circuit(),
         held: words.word(),
         tokens: words.words(),
+        sending: words.circuit(),
+        claim: words.circuit(),
     }
 }
 
@@ -120,9 +120,9 @@ fn node_words(node: &Node) -> Vec<u32> {
     words.extend(node.ports.iter().flat_map(port_words));
     words.extend(node.tile_users.iter().flat_map(circuit_words));
     words.extend(node.ends.iter().flat_map(end_words));
-    words.extend(circuit_words(&node.unit.serves));
     words.push(node.unit.heard);
     words.extend(node.unit.tokens);
+    words.extend(circuit_words(&node.unit.serves));
     words
 }
 
@@ -149,10 +149,10 @@ fn port_words(port: &Port) -> [u32; 8] {
     [
         port.head,
         port.held,
-        port.circuit.kind,
-        port.circuit.index,
         port.tile,
         port.network,
+        port.circuit.kind,
+        port.circuit.index,
         port.sender.kind,
         port.sender.index,
     ]
@@ -160,9 +160,9 @@ fn port_words(port: &Port) -> [u32; 8] {
 
 fn end_words(end: &ChannelEnd) -> Vec<u32> {
     let mut words = vec![end.aim, end.number, end.channel, end.network];
-    words.extend(circuit_words(&end.sending));
-    words.extend(circuit_words(&end.claim));
     words.push(end.held);
     words.extend(end.tokens);
+    words.extend(circuit_words(&end.sending));
+    words.extend(circuit_words(&end.claim));
     words
 }

@@ -4,8 +4,7 @@ use Rattle.acts.proofs.circuit.set_tile_user.Statement.{statement}
 use Rattle.acts.proofs.circuit.set_tile_user.Tie as tie
 
 returns : tie.Need-returns
-returns c = rw (c .before .before .put .ensures, c .before .before .before .before .of-peer .ensures)
+returns c = rw (c .before .before .put .ensures, c .before .before .before .of-peer .ensures)
 
 pub set-tile-user-spec : {M : Type 1} → statement M
-set-tile-user-spec =
-    tie.close (tie.spec (λ c κs. search needs) (λ c κs. search needs) (λ c κs. search needs) (λ c. search needs) returns)
+set-tile-user-spec = tie.close (tie.spec (λ c κs. search needs) (λ c κs. search needs) (λ c. search needs) returns)

@@ -13,7 +13,8 @@ returns : tie.Need-returns
 unfolding view
 returns c =
     let a = c .before .before .before .args in
-    c .read .ensures ∙ ap toNode (ap (whole 4) (c .before .words .ensures) ∙ words-whole node (lit≤ tt) (a .st .now) (a .slot .0) 0)
+    c .read .ensures
+    ∙ ap toNode (ap (whole (node .size)) (c .before .words .ensures) ∙ words-whole node (lit≤ tt) (a .st .now) (a .slot .0) 0)
 
 pub at-spec : {M : Type 1} → statement M
 at-spec = tie.close (tie.spec (λ c κs. search needs) (λ c κs. search needs) returns)

@@ -1,11 +1,12 @@
 -- `cells::node::write` meets its contract: every word is stored. Assumes nothing.
 use borrow.Author.Needs.{needs}
 use Rattle.laws.proofs.Row.{listed}
+use Rattle.cells.specs.Layout.{node}
 use Rattle.cells.proofs.node.write.Statement.{statement}
 use Rattle.cells.proofs.node.write.Tie as tie
 
 returns : tie.Need-returns
-returns c = rw (listed 4 (c .args .w .now) 0 (c .pre))
+returns c = rw (listed (node .size) (c .args .w .now) 0 (c .pre))
 
 pub write-spec : {M : Type 1} → statement M
 write-spec =

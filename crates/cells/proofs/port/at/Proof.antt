@@ -13,7 +13,8 @@ returns : tie.Need-returns
 unfolding view
 returns c =
     let a = c .before .before .before .args in
-    c .read .ensures ∙ ap toPort (ap (whole 8) (c .before .words .ensures) ∙ words-whole port (lit≤ tt) (a .st .now) (a .slot .0) (a .p))
+    c .read .ensures
+    ∙ ap toPort (ap (whole (port .size)) (c .before .words .ensures) ∙ words-whole port (lit≤ tt) (a .st .now) (a .slot .0) (a .p))
 
 pub at-spec : {M : Type 1} → statement M
 at-spec = tie.close (tie.spec (λ c κs. search needs) (λ c κs. search needs) returns)

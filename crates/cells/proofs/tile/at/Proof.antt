@@ -13,7 +13,8 @@ returns : tie.Need-returns
 unfolding view
 returns c =
     let a = c .before .before .before .args in
-    c .read .ensures ∙ ap toTile (ap (whole 2) (c .before .words .ensures) ∙ words-whole tile (lit≤ tt) (a .st .now) (a .slot .0) (a .t))
+    c .read .ensures
+    ∙ ap toTile (ap (whole (tile .size)) (c .before .words .ensures) ∙ words-whole tile (lit≤ tt) (a .st .now) (a .slot .0) (a .t))
 
 pub at-spec : {M : Type 1} → statement M
 at-spec = tie.close (tie.spec (λ c κs. search needs) (λ c κs. search needs) returns)

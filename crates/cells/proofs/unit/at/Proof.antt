@@ -13,7 +13,8 @@ returns : tie.Need-returns
 unfolding view
 returns c =
     let a = c .before .before .before .args in
-    c .read .ensures ∙ ap toUnit (ap (whole 14) (c .before .words .ensures) ∙ words-whole unit (lit≤ tt) (a .st .now) (a .slot .0) 0)
+    c .read .ensures
+    ∙ ap toUnit (ap (whole (unit .size)) (c .before .words .ensures) ∙ words-whole unit (lit≤ tt) (a .st .now) (a .slot .0) 0)
 
 pub at-spec : {M : Type 1} → statement M
 at-spec = tie.close (tie.spec (λ c κs. search needs) (λ c κs. search needs) returns)

@@ -1,13 +1,26 @@
--- `cells::unit::write` meets its contract: every word is stored. Assumes nothing.
+-- `cells::unit::write` meets its contract: every word is stored, and each circuit in its own words. Assumes nothing.
 use native.Mathlib.Omega.{arith}
 use borrow.Author.Needs.{needs}
 use lib.ListN.{length-set}
 use Rattle.laws.proofs.Row.{listed}
+use Rattle.cells.specs.Layout.{unit}
 use Rattle.cells.proofs.unit.write.Statement.{statement}
 use Rattle.cells.proofs.unit.write.Tie as tie
 
+write-requires : tie.Need-write-requires
+write-requires c κs = let s = c .before .before .before in rw (listed (unit .size) (s .args .w .now) 0 (s .pre))
+
+same-length : tie.Need-same-length
+same-length c =
+    let stored = c .before .before in
+    let entry = stored .before .before .before .before in
+    rw (stored .write .ensures, listed (unit .size) (entry .args .w .now) 0 (entry .pre))
+
 returns : tie.Need-returns
-returns c = rw (listed 14 (c .before .args .w .now) 0 (c .before .pre))
+returns c =
+    let stored = c .before .before in
+    let entry = stored .before .before .before .before in
+    rw (stored .write .ensures, listed (unit .size) (entry .args .w .now) 0 (entry .pre))
 
 pub write-spec : {M : Type 1} → statement M
 write-spec =
@@ -19,7 +32,7 @@ write-spec =
     (λ c. search needs)
     (λ c. search needs)
     (λ c. search needs)
-    (λ c. simp length-set (omega arith))
+    (λ c. search needs)
     (λ c. search needs)
     (λ c. simp length-set (omega arith))
     (λ c. search needs)
@@ -36,7 +49,9 @@ write-spec =
     (λ c. simp length-set (omega arith))
     (λ c. search needs)
     (λ c. simp length-set (omega arith))
-    (λ c. search needs)
     (λ c. simp length-set (omega arith))
-    (λ c. simp length-set)
+    (λ c. simp length-set (omega arith))
+    (λ c. search needs)
+    write-requires
+    same-length
     returns)

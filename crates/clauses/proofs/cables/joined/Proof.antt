@@ -4,8 +4,8 @@ use Rattle.clauses.proofs.cables.joined.Statement.{statement}
 use Rattle.clauses.proofs.cables.joined.Tie as tie
 
 returns : tie.Need-returns
-returns c = rw (c .before .before .before .count .ensures, c .before .before .before .before .leads-to .ensures, c .before .before .before .before .before .far-of .ensures, c .before .before .before .before .before .before .at .ensures)
+returns c = rw (c .before .before .before .count .ensures, c .before .before .before .before .leads-to .ensures, c .before .before .before .before .before .far-at .ensures)
 
 pub joined-spec : {M : Type 1} → statement M
 joined-spec =
-    tie.close (tie.spec (λ c κs. search needs) (λ c κs. search needs) (λ c κs. search needs) (λ c κs. search needs) returns)
+    tie.close (tie.spec (λ c κs. search needs) (λ c κs. search needs) (λ c κs. search needs) returns)

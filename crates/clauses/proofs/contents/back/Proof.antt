@@ -1,56 +1,10 @@
--- `clauses::contents::back` meets its contract: read off where the port is ready. Assumes nothing.
-use mathlib.Core.Path.{_≡_, _∙_, sym, ap}
-use mathlib.Core.Bool.{true}
+-- `clauses::contents::back` meets its contract. Assumes nothing.
 use borrow.Author.Needs.{needs}
-use lib.ListN.{length}
-use Rattle.laws.proofs.Row.{row-long}
-use Rattle.ports.specs.Queue.{capacity}
-use Rattle.ports.specs.Memory.{place}
-use Rattle.grammar.specs.Walk.{backOf}
-use Rattle.cells.specs.World.{World, world}
-use Rattle.clauses.specs.Contents.{ready}
-use Rattle.clauses.proofs.Readies.{reaches, fair, read-off}
 use Rattle.clauses.proofs.contents.back.Statement.{statement}
 use Rattle.clauses.proofs.contents.back.Tie as tie
 
-abbrev start : tie.After-at → tie.Start
-start c = c .before .before .before .before .before
-
-abbrev lent : tie.Start → World
-lent s = world (s .args .st .now) (s .args .mem .now)
-
-is-ready : (c : tie.After-at) → ready (lent (start c)) (start c .args .slot .0) (start c .args .p) ≡ true
-is-ready c = sym (c .before .before .ready .ensures) ∙ c .before .if1 .taken
-
-stretch-requires : tie.Need-stretch-requires
-stretch-requires c κs = let a = c .before in let s = start a in reaches (lent s) (s .args .slot .0) (s .args .p) (is-ready a)
-
-back-requires : tie.Need-back-requires
-back-requires c κs =
-    let a = c .before .before in
-    let s = start a in
-    let r = is-ready a in (
-      rw (a .at .ensures) (fair (lent s) (s .args .slot .0) (s .args .p) r),
-      ap length (c .stretch .ensures) ∙ row-long capacity (place (s .args .slot .0) (s .args .p)) (s .args .mem .now) (reaches (lent s) (s .args .slot .0) (s .args .p) r),
-    )
-
 returns : tie.Need-returns
-returns c =
-    let a = c .before .before .before in
-    let s = start a in
-    read-off (lent s) (s .args .slot .0) (s .args .p) (is-ready a) backOf (a .at .ensures) (c .before .before .hop-of .ensures) (c .before .stretch .ensures) (c .back .ensures)
-
-returns-2 : tie.Need-returns-2
-returns-2 c = rw (← c .before .ready .ensures, c .if1 .left)
+returns c = rw (c .stages .ensures)
 
 pub back-spec : {M : Type 1} → statement M
-back-spec =
-    tie.close
-    (tie.spec
-    (λ c κs. search needs)
-    (λ c κs. search needs)
-    (λ c κs. search needs)
-    stretch-requires
-    back-requires
-    returns
-    returns-2)
+back-spec = tie.close (tie.spec (λ c κs. search needs) returns)

@@ -7,7 +7,10 @@ use Rattle.clauses.proofs.contents.contents.Statement.{statement}
 use Rattle.clauses.proofs.contents.contents.Tie as tie
 
 returns : tie.Need-returns
-returns c = let a = c .before .before .before .before .before .before .args in c .ready .ensures ∙ empty-port (world (a .st .now) (a .mem .now)) (a .slot .0) (a .p) (rw (← c .before .before .before .at .ensures) (c .before .if1 .taken))
+returns c =
+    let a = c .before .before .before .before .before .before .args in
+    let empty = rw (c .before .before .before .at .ensures) at (c .before .if1 .taken) in
+    c .ready .ensures ∙ empty-port (world (a .st .now) (a .mem .now)) (a .slot .0) (a .p) empty
 
 returns-2 : tie.Need-returns-2
 returns-2 c = rw (c .is-bad .ensures, c .before .back .ensures)

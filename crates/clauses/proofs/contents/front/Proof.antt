@@ -1,56 +1,10 @@
--- `clauses::contents::front` meets its contract: read off where the port is ready. Assumes nothing.
-use mathlib.Core.Path.{_≡_, _∙_, sym, ap}
-use mathlib.Core.Bool.{true}
+-- `clauses::contents::front` meets its contract. Assumes nothing.
 use borrow.Author.Needs.{needs}
-use lib.ListN.{length}
-use Rattle.laws.proofs.Row.{row-long}
-use Rattle.ports.specs.Queue.{capacity}
-use Rattle.ports.specs.Memory.{place}
-use Rattle.grammar.specs.Walk.{frontOf}
-use Rattle.cells.specs.World.{World, world}
-use Rattle.clauses.specs.Contents.{ready}
-use Rattle.clauses.proofs.Readies.{reaches, fair, read-off}
 use Rattle.clauses.proofs.contents.front.Statement.{statement}
 use Rattle.clauses.proofs.contents.front.Tie as tie
 
-abbrev start : tie.After-at → tie.Start
-start c = c .before .before .before .before .before
-
-abbrev lent : tie.Start → World
-lent s = world (s .args .st .now) (s .args .mem .now)
-
-is-ready : (c : tie.After-at) → ready (lent (start c)) (start c .args .slot .0) (start c .args .p) ≡ true
-is-ready c = sym (c .before .before .ready .ensures) ∙ c .before .if1 .taken
-
-stretch-requires : tie.Need-stretch-requires
-stretch-requires c κs = let a = c .before in let s = start a in reaches (lent s) (s .args .slot .0) (s .args .p) (is-ready a)
-
-front-requires : tie.Need-front-requires
-front-requires c κs =
-    let a = c .before .before in
-    let s = start a in
-    let r = is-ready a in (
-      rw (a .at .ensures) (fair (lent s) (s .args .slot .0) (s .args .p) r),
-      ap length (c .stretch .ensures) ∙ row-long capacity (place (s .args .slot .0) (s .args .p)) (s .args .mem .now) (reaches (lent s) (s .args .slot .0) (s .args .p) r),
-    )
-
 returns : tie.Need-returns
-returns c =
-    let a = c .before .before .before in
-    let s = start a in
-    read-off (lent s) (s .args .slot .0) (s .args .p) (is-ready a) frontOf (a .at .ensures) (c .before .before .hop-of .ensures) (c .before .stretch .ensures) (c .front .ensures)
-
-returns-2 : tie.Need-returns-2
-returns-2 c = rw (← c .before .ready .ensures, c .if1 .left)
+returns c = rw (c .stages .ensures)
 
 pub front-spec : {M : Type 1} → statement M
-front-spec =
-    tie.close
-    (tie.spec
-    (λ c κs. search needs)
-    (λ c κs. search needs)
-    (λ c κs. search needs)
-    stretch-requires
-    front-requires
-    returns
-    returns-2)
+front-spec = tie.close (tie.spec (λ c κs. search needs) returns)

@@ -12,17 +12,26 @@ use Rattle.ends.proofs.aim.aim.Tie as tie
 
 returns : tie.Need-returns
 unfolding aim
-returns c = let a = c .before .before .before .before .args in refuses (aimRows (view (a .st .now)) (a .slot .0) (a .c) (a .g) (a .network)) _ _ _ (c .before .aim-no .ensures) (c .if1 .taken)
+returns c =
+    let a = c .before .before .before .before .args in
+    refuses (aimRows (view (a .st .now)) (a .slot .0) (a .c) (a .g) (a .network)) _ _ _ (c .before .aim-no .ensures) (c .if1 .taken)
 
-put-requires : tie.Need-put-requires
-put-requires c κs = let a = c .before .before .before .before .before .before .before .before .args in aim-there (view (a .st .now)) (a .slot .0) (a .c) (a .g) (a .network) (sym (c .before .before .before .before .before .aim-no .ensures) ∙ c .before .before .before .before .if1 .left)
+put-aim-requires : tie.Need-put-aim-requires
+put-aim-requires c κs =
+    let tested = c .before .before in
+    let a = tested .before .before .before .before .args in
+    aim-there (view (a .st .now)) (a .slot .0) (a .c) (a .g) (a .network) (sym (tested .before .aim-no .ensures) ∙ tested .if1 .left)
 
 returns-2 : tie.Need-returns-2
 unfolding aim
 returns-2 c =
-    let a = c .before .before .before .before .before .before .before .before .before .before .before .args in
-    goes-on (aimRows (view (a .st .now)) (a .slot .0) (a .c) (a .g) (a .network)) _ (out Done (aimMade (view (a .st .now)) (a .slot .0) (a .c) (a .g) (a .network))) _ (c .before .before .before .before .before .before .before .before .aim-no .ensures) (c .before .before .before .before .before .before .before .if1 .left)
-    (rw (c .before .before .put .ensures, c .before .before .before .before .aimed-at .ensures, c .before .before .before .before .before .at .ensures))
+    let put = c .before .before in
+    let tested = put .before .before .before in
+    let a = tested .before .before .before .before .args in
+    goes-on (aimRows (view (a .st .now)) (a .slot .0) (a .c) (a .g) (a .network)) _
+    (out Done (aimMade (view (a .st .now)) (a .slot .0) (a .c) (a .g) (a .network))) _
+    (tested .before .aim-no .ensures) (tested .if1 .left)
+    (rw (put .put-aim .ensures, put .before .aimed-at .ensures))
 
 pub aim-spec : {M : Type 1} → statement M
 aim-spec =
@@ -32,7 +41,6 @@ aim-spec =
     (λ c. search needs)
     returns
     (λ c κs. search needs)
-    (λ c κs. search needs)
-    put-requires
+    put-aim-requires
     (λ c. search needs)
     returns-2)

@@ -11,10 +11,32 @@ returns-2 : tie.Need-returns-2
 returns-2 c = rw (← c .before .before .before .end-at .ensures, c .before .before .if1 .left, ← c .before .goal-ranged .ensures, c .if2 .taken)
 
 returns-3 : tie.Need-returns-3
-returns-3 c = rw (← c .before .before .before .before .before .before .end-at .ensures, c .before .before .before .before .before .if1 .left, ← c .before .before .before .before .goal-ranged .ensures, c .before .before .before .if2 .left, ← c .before .before .at .ensures, ne-eqb _ _ (c .if3 .taken))
+returns-3 c =
+    let read = c .before .before in
+    let ranged = read .before .before in
+    let there = ranged .before .before in
+    let open-test = rw (read .at .ensures) at (c .if3 .taken) in
+    rw (
+      ← there .end-at .ensures,
+      ranged .before .if1 .left,
+      ← ranged .goal-ranged .ensures,
+      read .before .if2 .left,
+      ne-eqb _ _ open-test,
+    )
 
 returns-4 : tie.Need-returns-4
-returns-4 c = rw (← c .before .before .before .before .before .before .end-at .ensures, c .before .before .before .before .before .if1 .left, ← c .before .before .before .before .goal-ranged .ensures, c .before .before .before .if2 .left, ← c .before .before .at .ensures, eq-eqb _ _ (c .if3 .left))
+returns-4 c =
+    let read = c .before .before in
+    let ranged = read .before .before in
+    let there = ranged .before .before in
+    let open-test = rw (read .at .ensures) at (c .if3 .left) in
+    rw (
+      ← there .end-at .ensures,
+      ranged .before .if1 .left,
+      ← ranged .goal-ranged .ensures,
+      read .before .if2 .left,
+      eq-eqb _ _ open-test,
+    )
 
 pub aim-no-spec : {M : Type 1} → statement M
 aim-no-spec =

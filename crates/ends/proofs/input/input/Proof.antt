@@ -12,20 +12,36 @@ use Rattle.ends.proofs.input.input.Tie as tie
 
 returns : tie.Need-returns
 unfolding input
-returns c = let a = c .before .before .before .before .args in refuses (inputRows (view (a .st .now)) (a .slot .0) (a .c) (a .wanted)) _ _ _ (c .before .input-no .ensures) (c .if1 .taken)
+returns c =
+    let a = c .before .before .before .before .args in
+    refuses (inputRows (view (a .st .now)) (a .slot .0) (a .c) (a .wanted)) _ _ _ (c .before .input-no .ensures) (c .if1 .taken)
 
 took-first-requires : tie.Need-took-first-requires
-took-first-requires c κs = let a = c .before .before .before .before .before .before .before .before .args in rw (c .before .before .at .ensures) (some-held (view (a .st .now)) (a .slot .0) (a .c) (a .wanted) (sym (c .before .before .before .before .before .input-no .ensures) ∙ c .before .before .before .before .if1 .left))
+took-first-requires c κs =
+    let read = c .before .before in
+    let tested = read .before .before in
+    let a = tested .before .before .before .before .args in
+    let passed = sym (tested .before .input-no .ensures) ∙ tested .if1 .left in
+    rw (read .at .ensures) (some-held (view (a .st .now)) (a .slot .0) (a .c) (a .wanted) passed)
 
-put-requires : tie.Need-put-requires
-put-requires c κs = let a = c .before .before .before .before .before .before .before .before .before .args in input-there (view (a .st .now)) (a .slot .0) (a .c) (a .wanted) (sym (c .before .before .before .before .before .before .input-no .ensures) ∙ c .before .before .before .before .before .if1 .left)
+put-buffer-requires : tie.Need-put-buffer-requires
+put-buffer-requires c κs =
+    let tested = c .before .before .before .before .before in
+    let a = tested .before .before .before .before .args in
+    input-there (view (a .st .now)) (a .slot .0) (a .c) (a .wanted) (sym (tested .before .input-no .ensures) ∙ tested .if1 .left)
 
 returns-2 : tie.Need-returns-2
 unfolding input
 returns-2 c =
-    let a = c .before .before .before .before .before .before .before .before .before .before .before .before .args in
-    goes-on (inputRows (view (a .st .now)) (a .slot .0) (a .c) (a .wanted)) _ (out (Token (inputValue (view (a .st .now)) (a .slot .0) (a .c))) (inputMade (view (a .st .now)) (a .slot .0) (a .c))) _ (c .before .before .before .before .before .before .before .before .before .input-no .ensures) (c .before .before .before .before .before .before .before .before .if1 .left)
-    (rw (c .before .before .put .ensures, c .before .before .before .took-first .ensures, c .before .before .before .before .before .first-held .ensures, c .before .before .before .before .before .before .at .ensures))
+    let put = c .before .before in
+    let first = put .before .before .before in
+    let read = first .before in
+    let tested = read .before .before in
+    let a = tested .before .before .before .before .args in
+    goes-on (inputRows (view (a .st .now)) (a .slot .0) (a .c) (a .wanted)) _
+    (out (Token (inputValue (view (a .st .now)) (a .slot .0) (a .c))) (inputMade (view (a .st .now)) (a .slot .0) (a .c))) _
+    (tested .before .input-no .ensures) (tested .if1 .left)
+    (rw (put .put-buffer .ensures, put .before .took-first .ensures, first .first-held .ensures, read .at .ensures))
 
 pub input-spec : {M : Type 1} → statement M
 input-spec =
@@ -37,7 +53,7 @@ input-spec =
     (λ c κs. search needs)
     (λ c κs. search needs)
     took-first-requires
-    put-requires
+    put-buffer-requires
     (λ c. search needs)
     (λ c. search needs)
     returns-2)

@@ -4,10 +4,16 @@ use Rattle.ends.proofs.output.go_by.Statement.{statement}
 use Rattle.ends.proofs.output.go_by.Tie as tie
 
 set-sending-requires : tie.Need-set-sending-requires
-set-sending-requires c κs = rw (c .before .before .before .set-sender .ensures) (c .before .before .before .before .before .before .before .before .before .before .pre .0, c .before .before .before .before .before .before .before .before .before .before .pre .1)
+set-sending-requires c κs =
+    let sent = c .before .before .before .before in
+    let h = sent .before .before .before .before .pre in
+    rw (sent .set-sender .ensures) (h .0, h .1)
 
 returns : tie.Need-returns
-returns c = rw (c .before .before .set-sending .ensures, c .before .before .before .before .before .before .set-sender .ensures, c .before .before .before .before .before .before .before .before .still2 .ensures, c .before .before .before .before .before .before .before .before .before .of-peer2 .ensures, c .before .before .before .before .before .before .before .before .before .before .still .ensures, c .before .before .before .before .before .before .before .before .before .before .before .of-peer .ensures)
+returns c =
+    let sending = c .before .before in
+    let sent = sending .before .before .before .before .before in
+    rw (sending .set-sending .ensures, sending .before .still2 .ensures, sent .set-sender .ensures, sent .before .still .ensures)
 
 pub go-by-spec : {M : Type 1} → statement M
 go-by-spec =
@@ -17,8 +23,6 @@ go-by-spec =
     (λ c κs. search needs)
     (λ c κs. search needs)
     (λ c. search needs)
-    (λ c κs. search needs)
-    (λ c κs. search needs)
     (λ c κs. search needs)
     set-sending-requires
     (λ c. search needs)

@@ -9,17 +9,32 @@ use Rattle.ends.proofs.output.open_by.Tie as tie
 
 set-network-requires : tie.Need-set-network-requires
 set-network-requires c κs =
-    let a = c .before .before .before .before .before .before .before .before .before .before .before .before .before .before .before in
-    (ready-opened (world (a .args .st .now) (a .args .mem .now)) _ _ (a .args .slot .0) (a .args .p) (a .args .word) (words (c .before .before .before .before .before .before .before .before .make-header .result)) (c .before .before .before .before .before .fill .ensures) (a .pre .1 .node), a .pre .1 .port)
+    let filled = c .before .before .before .before .before in
+    let entry = filled .before .before .before .before .before .before .before .before .before .before in
+    let a = entry .args in
+    let w = world (a .st .now) (a .mem .now) in
+    let ts = words (filled .before .before .before .make-header .result) in
+    (ready-opened w _ _ (a .slot .0) (a .p) (a .word) ts (filled .fill .ensures) (entry .pre .1 .node), entry .pre .1 .port)
 
 go-by-requires : tie.Need-go-by-requires
 go-by-requires c κs =
-    let a = c .before .before .before .before .before .before .before .before .before .before .before .before .before .before .before .before .before .before .before in
-    rw (c .before .before .before .set-network .ensures)
-    (ready-opened (world (a .args .st .now) (a .args .mem .now)) _ _ (a .args .slot .0) (a .args .p) (a .args .word) (words (c .before .before .before .before .before .before .before .before .before .before .before .before .make-header .result)) (c .before .before .before .before .before .before .before .before .before .fill .ensures) (a .pre .1 .node), a .pre .0, a .pre .1 .port)
+    let networked = c .before .before .before in
+    let filled = networked .before .before .before .before .before .before in
+    let entry = filled .before .before .before .before .before .before .before .before .before .before in
+    let a = entry .args in
+    let w = world (a .st .now) (a .mem .now) in
+    let ts = words (filled .before .before .before .make-header .result) in
+    rw (networked .set-network .ensures)
+    (ready-opened w _ _ (a .slot .0) (a .p) (a .word) ts (filled .fill .ensures) (entry .pre .1 .node), entry .pre .0, entry .pre .1 .port)
 
 returns : tie.Need-returns
-returns c = opens-gives _ _ _ _ _ _ _ _ _ _ _ _ (c .before .before .before .before .before .before .before .before .before .before .before .before .before .before .before .make-header .ensures ∙ rw (c .before .before .before .before .before .before .before .before .before .before .before .before .before .before .before .before .width-at .ensures)) (rw (c .before .before .before .before .before .before .before .before .before .before .before .before .before .before .before .before .before .before .at .ensures)) (c .before .before .before .before .before .before .before .before .before .before .before .before .fill .ensures) (c .before .before .before .before .before .before .set-network .ensures) (c .before .before .go-by .ensures)
+returns c =
+    let went = c .before .before in
+    let networked = went .before .before .before .before in
+    let filled = networked .before .before .before .before .before .before in
+    let made = filled .before .before .before in
+    opens-gives _ _ _ _ _ _ _ _ _ _ _ _ (made .make-header .ensures ∙ rw (made .before .width-at .ensures))
+    (rw (made .before .before .before .at .ensures)) (filled .fill .ensures) (networked .set-network .ensures) (went .go-by .ensures)
 
 pub open-by-spec : {M : Type 1} → statement M
 open-by-spec =

@@ -9,21 +9,35 @@ use Rattle.ends.proofs.output.send.Statement.{statement}
 use Rattle.ends.proofs.output.send.Tie as tie
 
 returns : tie.Need-returns
-returns c = let a = c .before .before .before .before in token-refused (world (a .args .st .now) (a .args .mem .now)) (a .args .slot .0) (a .args .c) (a .args .g) (a .args .x) _ (c .before .token-no .ensures) (c .if1 .taken)
+returns c =
+    let a = c .before .before .before .before .args in
+    token-refused (world (a .st .now) (a .mem .now)) (a .slot .0) (a .c) (a .g) (a .x) _ (c .before .token-no .ensures) (c .if1 .taken)
 
 plan-of-requires : tie.Need-plan-of-requires
-plan-of-requires c κs = let a = c .before .before .before .before .before .before in node-facts (world (a .args .st .now) (a .args .mem .now)) (a .pre .all) (a .args .slot .0) (a .pre .node) .0
+plan-of-requires c κs =
+    let entry = c .before .before .before .before .before .before in
+    let a = entry .args in
+    node-facts (world (a .st .now) (a .mem .now)) (entry .pre .all) (a .slot .0) (entry .pre .node) .0
 
 carry-requires : tie.Need-carry-requires
 carry-requires c κs =
-    let a = c .before .before .before .before .before .before .before .before .before in
-    (a .pre .node, a .pre .end, rw (c .before .before .plan-of .ensures) (plan-possible (world (a .args .st .now) (a .args .mem .now)) (a .args .slot .0) (a .args .c) (c .before .before .before .before .word-of .result) (a .args .g) (a .pre)))
+    let planned = c .before .before in
+    let entry = planned .before .before .before .before .before .before .before in
+    let a = entry .args in
+    let word = planned .before .before .word-of .result in
+    let possible = plan-possible (world (a .st .now) (a .mem .now)) (a .slot .0) (a .c) word (a .g) (entry .pre) in
+    (entry .pre .node, entry .pre .end, rw (planned .plan-of .ensures) possible)
 
 returns-2 : tie.Need-returns-2
 returns-2 c =
-    let a = c .before .before .before .before .before .before .before .before .before .before .before .before .before .before in
-    c .before .before .before .before .carry .ensures
-    ∙ rw (c .before .before .before .before .before .before .before .plan-of .ensures, c .before .before .before .before .before .before .before .before .before .word-of .ensures) (token-passes (world (a .args .st .now) (a .args .mem .now)) (a .args .slot .0) (a .args .c) (a .args .g) (a .args .x) _ (c .before .before .before .before .before .before .before .before .before .before .before .token-no .ensures) (c .before .before .before .before .before .before .before .before .before .before .if1 .left))
+    let done = c .before .before .before .before in
+    let planned = done .before .before .before in
+    let passed = planned .before .before .before in
+    let a = passed .before .before .before .before .args in
+    let told = passed .before .token-no .ensures in
+    done .carry .ensures
+    ∙ rw (planned .plan-of .ensures, planned .before .before .word-of .ensures)
+    (token-passes (world (a .st .now) (a .mem .now)) (a .slot .0) (a .c) (a .g) (a .x) _ told (passed .if1 .left))
 
 pub send-spec : {M : Type 1} → statement M
 send-spec =

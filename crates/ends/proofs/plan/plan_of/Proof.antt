@@ -1,20 +1,32 @@
 -- `ends::plan::plan_of` meets its contract. Assumes nothing.
+use mathlib.Core.Path.{ap, _∙_}
 use borrow.Author.Needs.{needs}
+use Rattle.circuits.specs.Circuit.{peerOf}
+use Rattle.cells.specs.declared.end.End.{End}
 use Rattle.ends.specs.Plan.{planOf}
 use Rattle.ends.proofs.plan.plan_of.Statement.{statement}
 use Rattle.ends.proofs.plan.plan_of.Tie as tie
 
 returns : tie.Need-returns
 unfolding planOf
-returns c = rw (← c .before .before .before .before .at .ensures, ← c .before .before .before .peer-of .ensures, c .before .enum-told .given .1) (c .open-plan .ensures)
+returns c =
+    let told = c .before in
+    let read = told .before .before in
+    rw (← (read .peer-of .ensures ∙ ap (λ (k : End). peerOf (k .sending)) (read .before .at .ensures)), told .enum-told .given .1) (c .open-plan .ensures)
 
 returns-2 : tie.Need-returns-2
 unfolding planOf
-returns-2 c = rw (← c .before .before .before .before .before .at .ensures, ← c .before .before .before .before .peer-of .ensures, c .before .before .p .given .1) (c .behind-plan .ensures)
+returns-2 c =
+    let told = c .before .before in
+    let read = told .before .before in
+    rw (← (read .peer-of .ensures ∙ ap (λ (k : End). peerOf (k .sending)) (read .before .at .ensures)), told .p .given .1) (c .behind-plan .ensures)
 
 returns-3 : tie.Need-returns-3
 unfolding planOf
-returns-3 c = rw (← c .before .before .before .before .before .at .ensures, ← c .before .before .before .before .peer-of .ensures, c .before .before .d .given .1) (c .on-plan .ensures)
+returns-3 c =
+    let told = c .before .before in
+    let read = told .before .before in
+    rw (← (read .peer-of .ensures ∙ ap (λ (k : End). peerOf (k .sending)) (read .before .at .ensures)), told .d .given .1) (c .straight-plan .ensures)
 
 pub plan-of-spec : {M : Type 1} → statement M
 plan-of-spec =
@@ -27,6 +39,7 @@ plan-of-spec =
     (λ c. search needs)
     (λ c. search needs)
     (λ c κs. search needs)
+    (λ c. search needs)
     (λ c. search needs)
     (λ c κs. search needs)
     returns

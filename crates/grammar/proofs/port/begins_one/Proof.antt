@@ -2,9 +2,8 @@
 use mathlib.Core.Path.{_∙_, sym, ap}
 use native.Mathlib.Omega.{arith}
 use borrow.Author.Needs.{needs}
-use Rattle.ports.specs.Queue.{ring}
-use Rattle.ports.proofs.Rings.{take-removes}
-use Rattle.grammar.specs.Stage.{ofOne}
+use Rattle.ports.specs.Ring.{ring}
+use Rattle.ports.proofs.Ports.{take-removes}
 use Rattle.grammar.specs.Walk.{beginsOne}
 use Rattle.grammar.proofs.port.begins_one.Statement.{statement}
 use Rattle.grammar.proofs.port.begins_one.Tie as tie
@@ -15,10 +14,8 @@ returns c = rw (c .if1 .taken)
 
 returns-2 : tie.Need-returns-2
 returns-2 c =
-    let s = c .before .before .before .before .before .before .before in
-    c .of-one .ensures
-    ∙ ap ofOne (c .before .shape-of .ensures)
-    ∙ sym (ap beginsOne (take-removes (s .args .c) (s .args .stretch .now) (s .pre .0) (omega arith)))
+    let s = c .before .before .before .before .before .before in
+    c .of-one .ensures ∙ sym (ap beginsOne (take-removes (s .args .c) (s .args .stretch .now) (s .pre .0) (omega arith)))
 
 pub begins-one-spec : {M : Type 1} → statement M
 begins-one-spec =
@@ -28,6 +25,5 @@ begins-one-spec =
     (λ c. search needs)
     (λ c. search needs)
     (λ c. search needs)
-    (λ c κs. search needs)
     (λ c κs. search needs)
     returns-2)

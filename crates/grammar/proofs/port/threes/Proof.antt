@@ -8,21 +8,21 @@ use borrow.Author.Needs.{needs}
 use borrow.Author.Tests.{not-true, not-false}
 use lib.ListN.{getD}
 use Rattle.ports.specs.Queue.{capacity, ring}
-use Rattle.ports.proofs.Rings.{ring-start, ring-next, ring-done}
+use Rattle.ports.specs.declared.Counters.{Counters}
+use Rattle.ports.proofs.Ports.{ring-start, ring-next, ring-done}
 use Rattle.tokens.specs.Shape.{shapeOf}
-use Rattle.tokens.specs.declared.word.Shape.{Shape}
 use Rattle.grammar.specs.Stage.{ofThree}
 use Rattle.grammar.specs.Walk.{threes}
 use Rattle.grammar.proofs.port.threes.Statement.{statement}
 use Rattle.grammar.proofs.port.threes.Tie as tie
 
 -- the count stops at the first token that is none of a three-byte header
-module _ (x : ℕ) (q : List ℕ) {c : Shape} {b : Bool} (shape : c ≡ shapeOf x) (test : b ≡ ofThree c) where
+module _ (x : ℕ) (q : List ℕ) {b : Bool} (test : b ≡ ofThree (shapeOf x)) where
   stops : b ≡ false → threes (x ∷ q) ≡ 0
-  stops e = rw (← shape, ← test, e)
+  stops e = rw (← test, e)
 
   goes-on : b ≡ true → threes (x ∷ q) ≡ suc (threes q)
-  goes-on e = rw (← shape, ← test, e)
+  goes-on e = rw (← test, e)
 
 abbrev Inv-loop : tie.InvT-loop
 Inv-loop stretch c i₀ i =
@@ -36,21 +36,30 @@ loop-holds c =
     let a = c .before .args in
     (omega arith, omega (arith, ap threes (ring-start (a .stretch .now) (a .c .head) (a .c .held))))
 
+-- what is left of the ring after the token that the loop is at
+abbrev rest : List ℕ → Counters → ℕ → List ℕ
+rest stretch c i = ring stretch (c .head + (i + 1)) (c .held - (i + 1))
+
+abbrev here : List ℕ → Counters → ℕ → ℕ
+here stretch c i = getD stretch ((c .head + i) % capacity) 0
+
 returns : tie.Need-returns Inv-loop μ-loop
 returns c =
-    let l = c .before .before .before .before .before .before .before .loop in
-    let a = c .before .before .before .before .before .before .before .before .before .args in
-    let next = ap threes (ring-next (a .stretch .now) (a .c .head) (a .c .held) (l .i) (omega arith)) in
-    omega (arith, l .inv .1, next ∙ stops (getD (a .stretch .now) ((a .c .head + l .i) % capacity) 0) (ring (a .stretch .now) (a .c .head + (l .i + 1)) (a .c .held - (l .i + 1))) (c .before .before .shape-of .ensures) (c .before .of-three .ensures) (not-true _ (c .if2 .taken)))
+    let l = c .before .before .before .before .before .before .loop in
+    let a = c .before .before .before .before .before .before .before .before .args in
+    let s = a .stretch .now in
+    let next = ap threes (ring-next s (a .c .head) (a .c .held) (l .i) (omega arith)) in
+    let over = stops (here s (a .c) (l .i)) (rest s (a .c) (l .i)) (c .before .of-three .ensures) (not-true _ (c .if2 .taken)) in
+    omega (arith, l .inv .1, next ∙ over)
 
 loop-again : tie.Need-loop-again Inv-loop μ-loop
 loop-again c =
-    let l = c .before .before .before .before .before .before .before .loop in
-    let a = c .before .before .before .before .before .before .before .before .before .args in
-    let next = ap threes (ring-next (a .stretch .now) (a .c .head) (a .c .held) (l .i) (omega arith)) in (
-      omega arith,
-      omega (arith, l .inv .1, next ∙ goes-on (getD (a .stretch .now) ((a .c .head + l .i) % capacity) 0) (ring (a .stretch .now) (a .c .head + (l .i + 1)) (a .c .held - (l .i + 1))) (c .before .before .shape-of .ensures) (c .before .of-three .ensures) (not-false _ (c .if2 .left))),
-    )
+    let l = c .before .before .before .before .before .before .loop in
+    let a = c .before .before .before .before .before .before .before .before .args in
+    let s = a .stretch .now in
+    let next = ap threes (ring-next s (a .c .head) (a .c .held) (l .i) (omega arith)) in
+    let on = goes-on (here s (a .c) (l .i)) (rest s (a .c) (l .i)) (c .before .of-three .ensures) (not-false _ (c .if2 .left)) in
+    (omega arith, omega (arith, l .inv .1, next ∙ on))
 
 returns-2 : tie.Need-returns-2 Inv-loop μ-loop
 returns-2 c =
@@ -69,7 +78,6 @@ threes-spec =
     (λ c. search needs)
     (λ c. search needs)
     (λ c. search needs)
-    (λ c κs. search needs)
     (λ c κs. search needs)
     returns
     (λ c. search needs)

@@ -1,11 +1,11 @@
--- `grammar::port::walk` meets its contract: at each turn the walk over what is left, from where it is, ends where the whole walk does. Assumes
--- nothing.
+-- `grammar::port::walk` meets its contract: at each turn the walk over what is left, from where it is, ends where the whole walk does.
+-- Assumes nothing.
 use Prim.Native.Nat.{_+_, _-_, _≤_}
 use mathlib.Core.Path.{_≡_, _∙_, sym, ap}
 use native.Mathlib.Omega.{arith}
 use borrow.Author.Needs.{needs}
 use Rattle.ports.specs.Queue.{ring}
-use Rattle.ports.proofs.Rings.{ring-start, ring-next, ring-done}
+use Rattle.ports.proofs.Ports.{ring-start, ring-next, ring-done}
 use Rattle.grammar.specs.Walk.{walk}
 use Rattle.grammar.proofs.port.walk.Statement.{statement}
 use Rattle.grammar.proofs.port.walk.Tie as tie
@@ -23,11 +23,11 @@ loop-holds c =
 
 loop-again : tie.Need-loop-again Inv-loop μ-loop
 loop-again c =
-    let l = c .before .before .before .before .before .loop in
-    let a = c .before .before .before .before .before .before .before .args in (
-      omega arith,
-      rw (c .next .ensures) (sym (ap (walk (l .at)) (ring-next (a .stretch .now) (a .c .head) (a .c .held) (l .i) (omega arith)))) ∙ l .inv .1,
-    )
+    let turn = c .before .before .before .before .before in
+    let l = turn .loop in
+    let a = turn .before .before .args in
+    let next = ring-next (a .stretch .now) (a .c .head) (a .c .held) (l .i) (omega arith) in
+    (omega arith, rw (c .next .ensures) (sym (ap (walk (l .at)) next)) ∙ l .inv .1)
 
 returns : tie.Need-returns Inv-loop μ-loop
 returns c =

@@ -4,13 +4,13 @@ use mathlib.Core.Path.{ap, _∙_}
 use mathlib.Core.List.{List}
 use borrow.Author.Needs.{needs}
 use Rattle.cells.specs.Records.{fromEnd}
-use Rattle.cells.specs.View.{view}
+use Rattle.cells.specs.View.{view, wholeEnd}
 use Rattle.host.proofs.Shows.{shows-nothing, shows-record}
 use Rattle.host.proofs.record.tarvelgyo_channel_end.Statement.{statement}
 use Rattle.host.proofs.record.tarvelgyo_channel_end.Tie as tie
 
 abbrev words : tie.Start → List ℕ
-words s = let a = s .args in fromEnd (view (a .st .now) .ends (a .slot) (a .c))
+words s = let a = s .args in fromEnd (wholeEnd (view (a .st .now)) (a .slot) (a .c))
 
 returns : tie.Need-returns
 returns c =

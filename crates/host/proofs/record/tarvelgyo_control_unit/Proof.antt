@@ -4,13 +4,13 @@ use mathlib.Core.Path.{ap, _∙_}
 use mathlib.Core.List.{List}
 use borrow.Author.Needs.{needs}
 use Rattle.cells.specs.Records.{fromUnit}
-use Rattle.cells.specs.View.{view}
+use Rattle.cells.specs.View.{view, wholeUnit}
 use Rattle.host.proofs.Shows.{shows-nothing, shows-record}
 use Rattle.host.proofs.record.tarvelgyo_control_unit.Statement.{statement}
 use Rattle.host.proofs.record.tarvelgyo_control_unit.Tie as tie
 
 abbrev words : tie.Start → List ℕ
-words s = let a = s .args in fromUnit (view (a .st .now) .units (a .slot) 0)
+words s = let a = s .args in fromUnit (wholeUnit (view (a .st .now)) (a .slot))
 
 returns : tie.Need-returns
 returns c =

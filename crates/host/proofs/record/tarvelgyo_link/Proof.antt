@@ -4,13 +4,13 @@ use mathlib.Core.Path.{ap, _∙_}
 use mathlib.Core.List.{List}
 use borrow.Author.Needs.{needs}
 use Rattle.cells.specs.Records.{fromLink}
-use Rattle.cells.specs.View.{view}
+use Rattle.cells.specs.View.{view, wholeLink}
 use Rattle.host.proofs.Shows.{shows-nothing, shows-record}
 use Rattle.host.proofs.record.tarvelgyo_link.Statement.{statement}
 use Rattle.host.proofs.record.tarvelgyo_link.Tie as tie
 
 abbrev words : tie.Start → List ℕ
-words s = let a = s .args in fromLink (view (a .st .now) .links (a .slot) (a .l))
+words s = let a = s .args in fromLink (wholeLink (view (a .st .now)) (a .slot) (a .l))
 
 returns : tie.Need-returns
 returns c =

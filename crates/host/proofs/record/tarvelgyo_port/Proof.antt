@@ -4,13 +4,13 @@ use mathlib.Core.Path.{ap, _∙_}
 use mathlib.Core.List.{List}
 use borrow.Author.Needs.{needs}
 use Rattle.cells.specs.Records.{fromPort}
-use Rattle.cells.specs.View.{view}
+use Rattle.cells.specs.View.{view, wholePort}
 use Rattle.host.proofs.Shows.{shows-nothing, shows-record}
 use Rattle.host.proofs.record.tarvelgyo_port.Statement.{statement}
 use Rattle.host.proofs.record.tarvelgyo_port.Tie as tie
 
 abbrev words : tie.Start → List ℕ
-words s = let a = s .args in fromPort (view (a .st .now) .ports (a .slot) (a .p))
+words s = let a = s .args in fromPort (wholePort (view (a .st .now)) (a .slot) (a .p))
 
 returns : tie.Need-returns
 returns c =

@@ -8,7 +8,10 @@ returns : tie.Need-returns
 returns c = rw (eq-eqb _ _ (c .before .before .before .before .if1 .taken)) (c .before .before .disable .ensures)
 
 returns-2 : tie.Need-returns-2
-returns-2 c = rw (ne-eqb _ _ (c .before .before .before .before .before .before .if1 .left), c .before .before .put .ensures, c .before .before .before .before .at .ensures)
+returns-2 c =
+    let put = c .before .before in
+    let read = put .before .before .before in
+    rw (ne-eqb _ _ (read .before .before .if1 .left), put .put-setup .ensures, read .at .ensures)
 
 pub set-enable-spec : {M : Type 1} → statement M
 set-enable-spec =

@@ -1,10 +1,16 @@
 -- `sound::passes::of_link` meets its contract. Assumes nothing.
+use mathlib.Core.Bool.{and-true}
 use borrow.Author.Needs.{needs}
 use Rattle.sound.proofs.passes.of_link.Statement.{statement}
 use Rattle.sound.proofs.passes.of_link.Tie as tie
 
 returns : tie.Need-returns
-returns c = rw (c .greeted .ensures, c .before .credited .ensures, c .before .before .link-counts .ensures, c .before .before .before .at .ensures, c .before .before .before .before .agrees .ensures, c .before .before .before .before .before .cable .ensures, c .before .before .before .before .before .before .room .ensures)
+returns c =
+    let counted = c .before .before in
+    let named = counted .before .before in
+    let cabled = named .before in
+    rw (c .greeted .ensures, c .before .credited .ensures, counted .link-counts .ensures, counted .before .at .ensures)
+    (rw (named .agrees .ensures, cabled .cable .ensures, cabled .before .room .ensures, and-true))
 
 pub of-link-spec : {M : Type 1} → statement M
 of-link-spec =

@@ -4,13 +4,25 @@ use Rattle.switch.proofs.open.close_channel.Statement.{statement}
 use Rattle.switch.proofs.open.close_channel.Tie as tie
 
 set-tile-user-requires : tie.Need-set-tile-user-requires
-set-tile-user-requires c κs = rw (c .before .before .before .shut .ensures) (c .before .before .before .before .before .before .before .before .pre .0, c .before .before .before .before .before .before .before .before .pre .3)
+set-tile-user-requires c κs =
+    let closed = c .before .before .before in
+    let h = closed .before .before .before .before .before .pre in
+    rw (closed .shut .ensures) (h .0, h .3)
 
 claim-requires : tie.Need-claim-requires
-claim-requires c κs = rw (c .before .before .before .set-tile-user .ensures, c .before .before .before .before .before .before .before .shut .ensures) (c .before .before .before .before .before .before .before .before .before .before .before .before .pre .0, c .before .before .before .before .before .before .before .before .before .before .before .before .pre .2)
+claim-requires c κs =
+    let tiled = c .before .before .before in
+    let closed = tiled .before .before .before .before in
+    let h = closed .before .before .before .before .before .pre in
+    rw (tiled .set-tile-user .ensures, closed .shut .ensures) (h .0, h .2)
 
 returns : tie.Need-returns
-returns c = rw (← c .before .before .before .before .before .before .before .before .before .before .before .before .before .closes .ensures, c .before .before .before .before .before .before .before .before .before .before .before .before .if1 .taken, c .before .before .claim .ensures, c .before .before .before .before .before .before .set-tile-user .ensures, c .before .before .before .before .before .before .before .before .before .before .shut .ensures)
+returns c =
+    let freed = c .before .before in
+    let tiled = freed .before .before .before .before in
+    let closed = tiled .before .before .before .before in
+    let tested = closed .before .before in
+    rw (← tested .before .closes .ensures, tested .if1 .taken, freed .claim .ensures, tiled .set-tile-user .ensures, closed .shut .ensures)
 
 returns-2 : tie.Need-returns-2
 returns-2 c = rw (← c .before .closes .ensures, c .if1 .left)

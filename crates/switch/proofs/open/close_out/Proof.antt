@@ -4,10 +4,17 @@ use Rattle.switch.proofs.open.close_out.Statement.{statement}
 use Rattle.switch.proofs.open.close_out.Tie as tie
 
 set-user-requires : tie.Need-set-user-requires
-set-user-requires c κs = rw (c .before .before .before .shut .ensures) (c .before .before .before .before .before .before .before .before .pre .0, c .before .before .before .before .before .before .before .before .pre .2)
+set-user-requires c κs =
+    let closed = c .before .before .before in
+    let h = closed .before .before .before .before .before .pre in
+    rw (closed .shut .ensures) (h .0, h .2)
 
 returns : tie.Need-returns
-returns c = rw (← c .before .before .before .before .before .before .before .before .before .closes .ensures, c .before .before .before .before .before .before .before .before .if1 .taken, c .before .before .set-user .ensures, c .before .before .before .before .before .before .shut .ensures)
+returns c =
+    let freed = c .before .before in
+    let closed = freed .before .before .before .before in
+    let tested = closed .before .before in
+    rw (← tested .before .closes .ensures, tested .if1 .taken, freed .set-user .ensures, closed .shut .ensures)
 
 returns-2 : tie.Need-returns-2
 returns-2 c = rw (← c .before .closes .ensures, c .if1 .left)

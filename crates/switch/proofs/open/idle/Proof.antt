@@ -4,7 +4,7 @@ use Rattle.switch.proofs.open.idle.Statement.{statement}
 use Rattle.switch.proofs.open.idle.Tie as tie
 
 returns : tie.Need-returns
-returns c = rw (c .before .before .put .ensures, c .before .before .before .before .of-peer .ensures, c .before .before .before .before .before .at .ensures)
+returns c = rw (c .before .before .put-serves .ensures, c .before .before .before .of-peer .ensures)
 
 pub idle-spec : {M : Type 1} → statement M
-idle-spec = tie.close (tie.spec (λ c κs. search needs) (λ c κs. search needs) (λ c κs. search needs) (λ c. search needs) returns)
+idle-spec = tie.close (tie.spec (λ c κs. search needs) (λ c κs. search needs) (λ c. search needs) returns)

@@ -9,13 +9,23 @@ cast-t9 : tie.Need-cast-t9
 cast-t9 c = ⊎-elim (λ e. omega arith) (λ h. omega arith) (c .before .before .pre .2)
 
 set-tile-user-requires : tie.Need-set-tile-user-requires
-set-tile-user-requires c κs = rw (c .before .before .before .set-hop .ensures) (c .before .before .before .before .before .before .pre .0, c .before .before .before .before .before .before .pre .3)
+set-tile-user-requires c κs =
+    let opened = c .before .before .before in
+    let h = opened .before .before .before .pre in
+    rw (opened .set-hop .ensures) (h .0, h .3)
 
 claim-requires : tie.Need-claim-requires
-claim-requires c κs = rw (c .before .before .before .set-tile-user .ensures, c .before .before .before .before .before .before .before .set-hop .ensures) (c .before .before .before .before .before .before .before .before .before .before .pre .0, c .before .before .before .before .before .before .before .before .before .before .pre .2)
+claim-requires c κs =
+    let tiled = c .before .before .before in
+    let opened = tiled .before .before .before .before in
+    let h = opened .before .before .before .pre in
+    rw (tiled .set-tile-user .ensures, opened .set-hop .ensures) (h .0, h .2)
 
 returns : tie.Need-returns
-returns c = rw (c .before .before .claim .ensures, c .before .before .before .before .before .before .set-tile-user .ensures, c .before .before .before .before .before .before .before .before .before .before .set-hop .ensures)
+returns c =
+    let claimed = c .before .before in
+    let tiled = claimed .before .before .before .before in
+    rw (claimed .claim .ensures, tiled .set-tile-user .ensures, tiled .before .before .before .before .set-hop .ensures)
 
 pub open-channel-spec : {M : Type 1} → statement M
 open-channel-spec =

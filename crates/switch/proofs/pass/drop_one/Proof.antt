@@ -7,10 +7,21 @@ use Rattle.switch.proofs.pass.drop_one.Statement.{statement}
 use Rattle.switch.proofs.pass.drop_one.Tie as tie
 
 close-dropped-requires : tie.Need-close-dropped-requires
-close-dropped-requires c κs = let a = c .before .before .before .before .before .before .before .before .before .before in (node-after (world (a .args .st .now) (a .args .mem .now)) _ _ (a .args .slot .0) (a .args .p) (c .before .before .before .before .before .take .ensures .1) (a .pre .holds .node), a .pre .holds .port)
+close-dropped-requires c κs =
+    let took = c .before .before .before .before .before in
+    let entry = took .before .before .before .before .before in
+    let a = entry .args in
+    let h = entry .pre .holds in
+    (node-after (world (a .st .now) (a .mem .now)) _ _ (a .slot .0) (a .p) (took .take .ensures .1) (h .node), h .port)
 
 returns : tie.Need-returns
-returns c = let a = c .before .before .before .before .before .before .before .before .before .before .before .before .before in after-took (world (a .args .st .now) (a .args .mem .now)) _ _ (a .args .slot .0) (a .args .p) (c .before .before .before .before .before .before .before .before .take .ensures .1) _ _ (λ s x. closesDropped s (a .args .slot .0) (a .args .p) x) (c .before .before .before .before .before .before .before .before .take .ensures .0) (c .before .before .close-dropped .ensures)
+returns c =
+    let took = c .before .before .before .before .before .before .before .before in
+    let a = took .before .before .before .before .before .args in
+    let n = a .slot .0 in
+    let t = took .take .ensures in
+    after-took (world (a .st .now) (a .mem .now)) _ _ n (a .p) (t .1) _ _ (λ s x. closesDropped s n (a .p) x) (t .0)
+    (c .before .before .close-dropped .ensures)
 
 pub drop-one-spec : {M : Type 1} → statement M
 drop-one-spec =

@@ -8,24 +8,43 @@ use Rattle.switch.proofs.pass.move_out.Statement.{statement}
 use Rattle.switch.proofs.pass.move_out.Tie as tie
 
 close-out-requires : tie.Need-close-out-requires
-close-out-requires c κs = let a = c .before .before .before .before .before .before .before .before .before .before in (node-after (world (a .args .st .now) (a .args .mem .now)) _ _ (a .args .slot .0) (a .args .p) (c .before .before .before .before .before .take .ensures .1) (a .pre .1 .holds .node), a .pre .1 .holds .port, a .pre .0)
+close-out-requires c κs =
+    let took = c .before .before .before .before .before in
+    let entry = took .before .before .before .before .before in
+    let a = entry .args in
+    let h = entry .pre .1 .holds in
+    (node-after (world (a .st .now) (a .mem .now)) _ _ (a .slot .0) (a .p) (took .take .ensures .1) (h .node), h .port, entry .pre .0)
 
 cross-requires : tie.Need-cross-requires
 cross-requires c κs =
-    let a = c .before .before .before .before .before .before .before .before .before .before .before .before .before .before .before in
-    let e = c .before .before .before .before .before .before .before .before .before .before .take .ensures .1 in
-    let l = a .args .l in
-    let x = c .before .before .before .before .before .before .before .before .before .before .take .result in
-    rw (c .before .before .before .before .close-out .ensures, far-after (world (a .args .st .now) (a .args .mem .now)) _ _ (a .args .slot .0) (a .args .p) e l x)
-    (closed-after (world (a .args .st .now) (a .args .mem .now)) _ _ (a .args .slot .0) (a .args .p) e l x (a .pre .1 .holds .node), a .pre .0, room-after (world (a .args .st .now) (a .args .mem .now)) _ _ (a .args .slot .0) (a .args .p) e l x (farOf (view (a .args .st .now) .links (a .args .slot .0) l)) (a .pre .1 .holds) (a .pre .2))
+    let closed = c .before .before .before .before in
+    let took = closed .before .before .before .before .before .before in
+    let entry = took .before .before .before .before .before in
+    let a = entry .args in
+    let n = a .slot .0 in
+    let l = a .l in
+    let w = world (a .st .now) (a .mem .now) in
+    let e = took .take .ensures .1 in
+    let x = took .take .result in
+    let h = entry .pre .1 .holds in
+    rw (closed .close-out .ensures, far-after w _ _ n (a .p) e l x) (
+      closed-after w _ _ n (a .p) e l x (h .node),
+      entry .pre .0,
+      room-after w _ _ n (a .p) e l x (farOf (view (a .st .now) .links .cables n l)) h (entry .pre .2),
+    )
 
 returns : tie.Need-returns
 returns c =
-    let a = c .before .before .before .before .before .before .before .before .before .before .before .before .before .before .before .before .before .before .before .before in
-    let t = c .before .before .before .before .before .before .before .before .before .before .before .before .before .before .before .take .ensures in
-    moves-gives (world (a .args .st .now) (a .args .mem .now)) _ _ (a .args .slot .0) (a .args .p) (a .args .l) _ (t .0)
-    (after-took (world (a .args .st .now) (a .args .mem .now)) _ _ (a .args .slot .0) (a .args .p) (t .1) _ _ (λ s x. closesOut s (a .args .slot .0) (a .args .p) (a .args .l) x) (t .0) (c .before .before .before .before .before .before .before .before .before .close-out .ensures))
-    (c .before .before .before .before .cross .ensures)
+    let crossed = c .before .before .before .before in
+    let closed = crossed .before .before .before .before .before in
+    let took = closed .before .before .before .before .before .before in
+    let a = took .before .before .before .before .before .args in
+    let n = a .slot .0 in
+    let w = world (a .st .now) (a .mem .now) in
+    let t = took .take .ensures in
+    moves-gives w _ _ n (a .p) (a .l) _ (t .0)
+    (after-took w _ _ n (a .p) (t .1) _ _ (λ s x. closesOut s n (a .p) (a .l) x) (t .0) (closed .close-out .ensures))
+    (crossed .cross .ensures)
 
 pub move-out-spec : {M : Type 1} → statement M
 move-out-spec =

@@ -8,11 +8,17 @@ use Rattle.switch.proofs.perform.land_unit.Tie as tie
 
 strip-requires : tie.Need-strip-requires
 strip-requires c κs =
-    let a = c .before .before .before .before .before .before .before .before .before .before in
-    rw (c .before .before .before .before .open-unit .ensures, c .before .before .before .before .before .before .width-at .ensures) (unit-takes (world (a .args .st .now) (a .args .mem .now)) (a .args .slot .0) (a .args .p) _ (a .pre))
+    let opened = c .before .before .before .before in
+    let entry = opened .before .before .before .before .before .before in
+    let a = entry .args in
+    rw (opened .open-unit .ensures, opened .before .before .width-at .ensures)
+    (unit-takes (world (a .st .now) (a .mem .now)) (a .slot .0) (a .p) _ (entry .pre))
 
 returns : tie.Need-returns
-returns c = c .before .before .before .before .strip .ensures ∙ rw (c .before .before .before .before .before .before .before .before .before .open-unit .ensures, c .before .before .before .before .before .before .before .before .before .before .before .width-at .ensures)
+returns c =
+    let stripped = c .before .before .before .before in
+    let opened = stripped .before .before .before .before .before in
+    stripped .strip .ensures ∙ rw (opened .open-unit .ensures, opened .before .before .width-at .ensures)
 
 pub land-unit-spec : {M : Type 1} → statement M
 land-unit-spec =

@@ -5,15 +5,18 @@ use Rattle.switch.proofs.take.grant_up.Statement.{statement}
 use Rattle.switch.proofs.take.grant_up.Tie as tie
 
 consider-at-requires : tie.Need-consider-at-requires
-consider-at-requires c κs = rw (c .before .far-of .ensures, c .before .before .at .ensures) (c .before .before .before .before .before .before .pre (c .before .before .before .before .if1 .taken))
+consider-at-requires c κs =
+    let tested = c .before .before .before in
+    rw (c .before .far-at .ensures) (tested .before .before .pre (tested .if1 .taken))
 
 returns : tie.Need-returns
-returns c = rw (lt-ltb _ _ (c .before .before .before .before .before .before .before .if1 .taken), c .before .before .consider-at .ensures, c .before .before .before .before .far-of .ensures, c .before .before .before .before .before .at .ensures)
+returns c =
+    let granted = c .before .before in
+    let read = granted .before .before in
+    rw (lt-ltb _ _ (read .before .before .if1 .taken), granted .consider-at .ensures, read .far-at .ensures)
 
 returns-2 : tie.Need-returns-2
 returns-2 c = rw (le-ltb _ _ (c .if1 .left))
 
 pub grant-up-spec : {M : Type 1} → statement M
-grant-up-spec =
-    tie.close
-    (tie.spec (λ c κs. search needs) (λ c κs. search needs) consider-at-requires (λ c. search needs) returns returns-2)
+grant-up-spec = tie.close (tie.spec (λ c κs. search needs) consider-at-requires (λ c. search needs) returns returns-2)

@@ -13,11 +13,11 @@ use Rattle.tokens.proofs.header.one_byte.Tie as tie
 low : (c : tie.After-compared) → c .compared .result .0 ≡ c .before .before .args .n .0 % 8
 low c = ap (λ (n : NodeNumber). n .0) (c .compared .ensures)
 
-mul-of-header : tie.Need-mul-of-header
-mul-of-header c = let e = low (c .before) in omega arith
-
 cast-of-header : tie.Need-cast-of-header
 cast-of-header c = let e = low (c .before) in omega arith
+
+mul-of-header : tie.Need-mul-of-header
+mul-of-header c = let e = low (c .before) in omega arith
 
 add-of-header : tie.Need-add-of-header
 add-of-header c = let e = low (c .before) in omega arith
@@ -35,8 +35,8 @@ one-byte-spec =
     tie.close
     (tie.spec
     (λ c κs. search needs)
-    mul-of-header
     cast-of-header
+    mul-of-header
     add-of-header
     (λ c κs. search needs)
     returns

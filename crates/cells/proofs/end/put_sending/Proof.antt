@@ -1,0 +1,15 @@
+-- `cells::end::put_sending` meets its contract: the record is written with one part changed. Assumes nothing.
+use borrow.Author.Needs.{needs}
+use Rattle.cells.specs.View.{view}
+use Rattle.cells.proofs.Alone.{sending-alone}
+use Rattle.cells.proofs.end.put_sending.Statement.{statement}
+use Rattle.cells.proofs.end.put_sending.Tie as tie
+
+returns : tie.Need-returns
+returns c =
+    let s = c .before .before .before .before .before .before .before in
+    rw (c .before .before .put .ensures, c .before .before .before .before .at .ensures)
+    (sending-alone (view (s .args .st .now)) (s .args .slot .0) (s .args .c) (s .args .x))
+
+pub put-sending-spec : {M : Type 1} → statement M
+put-sending-spec = tie.close (tie.spec (λ c κs. search needs) (λ c κs. search needs) (λ c. search needs) returns)

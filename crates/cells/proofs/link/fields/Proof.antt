@@ -1,0 +1,29 @@
+-- `cells::link::fields` meets its contract: each word is read, and each circuit from its own words. Assumes nothing.
+use borrow.Author.Needs.{needs}
+use Rattle.laws.proofs.Row.{listed}
+use Rattle.cells.specs.Layout.{link}
+use Rattle.cells.proofs.link.fields.Statement.{statement}
+use Rattle.cells.proofs.link.fields.Tie as tie
+
+returns : tie.Need-returns
+returns c =
+    let entry = c .before .before .before .before .before .before .before .before .before .before .before in
+    rw (c .read .ensures, listed (link .size) (entry .args .w .now) 0 (entry .pre))
+
+pub fields-spec : {M : Type 1} → statement M
+fields-spec =
+    tie.close
+    (tie.spec
+    (λ c. search needs)
+    (λ c. search needs)
+    (λ c. search needs)
+    (λ c. search needs)
+    (λ c. search needs)
+    (λ c. search needs)
+    (λ c. search needs)
+    (λ c. search needs)
+    (λ c. search needs)
+    (λ c. search needs)
+    (λ c. search needs)
+    (λ c κs. search needs)
+    returns)

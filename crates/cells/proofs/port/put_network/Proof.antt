@@ -1,0 +1,15 @@
+-- `cells::port::put_network` meets its contract: the record is written with one part changed. Assumes nothing.
+use borrow.Author.Needs.{needs}
+use Rattle.cells.specs.View.{view}
+use Rattle.cells.proofs.Alone.{network-alone}
+use Rattle.cells.proofs.port.put_network.Statement.{statement}
+use Rattle.cells.proofs.port.put_network.Tie as tie
+
+returns : tie.Need-returns
+returns c =
+    let s = c .before .before .before .before .before .before .before in
+    rw (c .before .before .put .ensures, c .before .before .before .before .at .ensures)
+    (network-alone (view (s .args .st .now)) (s .args .slot .0) (s .args .p) (s .args .x))
+
+pub put-network-spec : {M : Type 1} → statement M
+put-network-spec = tie.close (tie.spec (λ c κs. search needs) (λ c κs. search needs) (λ c. search needs) returns)

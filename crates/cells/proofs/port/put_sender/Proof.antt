@@ -1,0 +1,15 @@
+-- `cells::port::put_sender` meets its contract: the record is written with one part changed. Assumes nothing.
+use borrow.Author.Needs.{needs}
+use Rattle.cells.specs.View.{view}
+use Rattle.cells.proofs.Alone.{sender-alone}
+use Rattle.cells.proofs.port.put_sender.Statement.{statement}
+use Rattle.cells.proofs.port.put_sender.Tie as tie
+
+returns : tie.Need-returns
+returns c =
+    let s = c .before .before .before .before .before .before .before in
+    rw (c .before .before .put .ensures, c .before .before .before .before .at .ensures)
+    (sender-alone (view (s .args .st .now)) (s .args .slot .0) (s .args .p) (s .args .x))
+
+pub put-sender-spec : {M : Type 1} → statement M
+put-sender-spec = tie.close (tie.spec (λ c κs. search needs) (λ c κs. search needs) (λ c. search needs) returns)

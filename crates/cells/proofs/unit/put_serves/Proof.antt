@@ -1,0 +1,15 @@
+-- `cells::unit::put_serves` meets its contract: the record is written with one part changed. Assumes nothing.
+use borrow.Author.Needs.{needs}
+use Rattle.cells.specs.View.{view}
+use Rattle.cells.proofs.Alone.{serves-alone}
+use Rattle.cells.proofs.unit.put_serves.Statement.{statement}
+use Rattle.cells.proofs.unit.put_serves.Tie as tie
+
+returns : tie.Need-returns
+returns c =
+    let s = c .before .before .before .before .before .before .before in
+    rw (c .before .before .put .ensures, c .before .before .before .before .at .ensures)
+    (serves-alone (view (s .args .st .now)) (s .args .slot .0) (s .args .x))
+
+pub put-serves-spec : {M : Type 1} → statement M
+put-serves-spec = tie.close (tie.spec (λ c κs. search needs) (λ c κs. search needs) (λ c. search needs) returns)

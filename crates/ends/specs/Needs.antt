@@ -1,0 +1,39 @@
+-- What carrying out an Output asks of the state. A sound state has it: `fits-here`, `sends-here` and `plan-possible` in
+-- ends/proofs/Possibles.antt.
+use Prim.{Unit}
+use Prim.Native.Nat.{ℕ, _<_}
+use mathlib.Core.Path.{_≡_}
+use mathlib.Core.Bool.{true}
+use Rattle.names.specs.Size.{ends, numbers}
+use Rattle.tokens.specs.declared.header.Target.{Target}
+use Rattle.cells.specs.World.{World}
+use Rattle.cells.specs.declared.end.Aim.{Aim}
+use Rattle.acts.specs.Needs.{Room, Given}
+use Rattle.sound.specs.Sound.{sound}
+use Rattle.ends.specs.Plan.{targetOf}
+use Rattle.ends.specs.declared.plan.Plan.{Plan}
+use Rattle.ends.specs.declared.plan.Plan.the-variants.{Narrow, Full, Opens, Behind, Straight}
+
+-- a number of 16 bits and a channel of 8
+abbrev pub AimFits : Aim → Type 0
+AimFits k = (k .number < numbers) × (k .kind ≡ 1 → k .channel < 256)
+
+-- .. while it is aimed
+abbrev pub Fits : Aim → Type 0
+Fits k = (k .kind ≡ 0 → ⊥) → AimFits k
+
+-- a plan that can be carried out
+abbrev pub Possible : World → ℕ → ℕ → Plan → Type 0
+Possible w n t Narrow = Unit
+Possible w n t Full = Unit
+Possible w n t (Opens p) = Room w n p 4
+Possible w n t (Behind p) = Room w n p 1
+Possible w n t (Straight d) = Given (w .net) n d t
+
+-- a channel-end that is there and aimed at g, of a state that is sound
+pub record Sends (w : World) (n c : ℕ) (g : Target) : Type 0 where
+  pub all : sound w ≡ true
+  pub node : n < w .net .nodes
+  pub end : c < ends
+  pub aimed : w .net .ends .aims n c .kind ≡ 0 → ⊥
+  pub target : g ≡ targetOf (w .net .ends .aims n c)
