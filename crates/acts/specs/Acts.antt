@@ -7,7 +7,7 @@ use lib.ListN.{getD, set}
 use Rattle.laws.specs.Pick.{pick}
 use Rattle.names.specs.Size.{endBuffer, sink}
 use Rattle.names.specs.declared.NodeNumber.{NodeNumber}
-use Rattle.circuits.specs.Circuit.{ofPeer, ofHop, tileOf}
+use Rattle.circuits.specs.Circuit.{ofPeer, ofHop, tileTaken}
 use Rattle.circuits.specs.declared.Peer.{Peer}
 use Rattle.circuits.specs.declared.Peer.the-variants.{Nobody}
 use Rattle.circuits.specs.declared.Hop.{Hop}
@@ -64,7 +64,7 @@ popped w n p =
 
 -- a port's circuit goes this way
 abbrev pub legOf : Hop → Leg
-legOf h = record { circuit = ofHop h; tile = tileOf h }
+legOf h = record { circuit = ofHop h; tile = tileTaken h }
 
 abbrev pub hopped : Net → ℕ → ℕ → Hop → Net
 hopped s n p h = withLeg s n p (legOf h)
@@ -95,8 +95,8 @@ abbrev pub sendsTo : Net → ℕ → ℕ → Peer → Net
 sendsTo s n c x = withSending s n c (ofPeer x)
 
 -- "until END or PAUSE": who has a circuit after a token, nobody where the token closes it
-abbrev pub still : ℕ → Peer → Peer
-still t x = pick (closes t) Nobody x
+abbrev pub untilClosed : ℕ → Peer → Peer
+untilClosed t x = pick (closes t) Nobody x
 
 -- who claims a channel: "the sink never is"
 abbrev pub claimedBy : Net → ℕ → ℕ → Peer → Net
@@ -110,9 +110,9 @@ abbrev pub channelFull : Net → ℕ → ℕ → ℕ → Bool
 channelFull s n c t = not (eqb c sink) && (leb endBuffer (s .ends .buffers n c .held) && not (isPause t))
 
 -- "PAUSE is never stored in a channel-end; END is."
-abbrev pub kept : Buffer → ℕ → Buffer
-kept k t = pick (isPause t) k (record { held = k .held + 1; tokens = set (k .tokens) (k .held) t })
+abbrev pub bufferAfter : Buffer → ℕ → Buffer
+bufferAfter k t = pick (isPause t) k (record { held = k .held + 1; tokens = set (k .tokens) (k .held) t })
 
 -- a channel is handed a token: "Channel 255 is the sink: it takes and forgets"
 abbrev pub handed : Net → ℕ → ℕ → ℕ → Net
-handed s n c t = pick (eqb c sink) s (withBuffer s n c (kept (s .ends .buffers n c) t))
+handed s n c t = pick (eqb c sink) s (withBuffer s n c (bufferAfter (s .ends .buffers n c) t))

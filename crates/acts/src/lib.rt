@@ -26,7 +26,7 @@ ghost use Rattle.tokens.specs.Header.{words};
 ghost use Rattle.cells.specs.View.{view};
 ghost use Rattle.cells.specs.World.{world};
 ghost use Rattle.acts.specs.Acts.{widthAt, numberAt, pushed, pushedAll, wordAt, firstAt, popped};
-ghost use Rattle.acts.specs.Acts.{networked, sentBy, sendsTo, still, channelFull, kept, handed};
+ghost use Rattle.acts.specs.Acts.{networked, sentBy, sendsTo, untilClosed, channelFull, bufferAfter, handed};
 ghost use Rattle.acts.specs.Needs.{NumberFits, Room, Holds, Keeps, Given};
 
 // What a channel-end holds at most, beside words of 32 bits.
@@ -104,7 +104,7 @@ pub fn pop(st: &mut [u32], mem: &mut [u16], slot: Slot, p: usize) -> u16
 
 // Who has a circuit until its END or PAUSE: nobody where this word closes it.
 pub fn still(word: u16, x: Peer) -> Peer
-    ensures { λ r. ⌜ r ≡ still word x ⌝ }
+    ensures { λ r. ⌜ r ≡ untilClosed word x ⌝ }
 {
     if closes(word) {
         return Peer::Nobody;
@@ -123,7 +123,7 @@ pub fn channel_full(st: &[u32], slot: Slot, c: usize, word: u16) -> bool
 // A channel-end's buffer after a token: it keeps every one but PAUSE, and has room for those.
 fn keep(k: Buffer, word: u16) -> Buffer
     requires { ⌜ Keeps k word ⌝ }
-    ensures { λ r. ⌜ r ≡ kept k word ⌝ }
+    ensures { λ r. ⌜ r ≡ bufferAfter k word ⌝ }
 {
     if is_pause(word) {
         return k;

@@ -47,18 +47,18 @@ causeOf NoRoute = 1
 
 -- the number that its case bears: a refusal's, "The answer to HELLO gives the grant", the token that Input took, the link that a circuit opened
 -- by, a circuit's cause
-abbrev pub valueOf : Answer → ℕ
-valueOf (No n) = n
-valueOf Done = 0
-valueOf (Granted g) = g
-valueOf (Token v) = v
-valueOf Idle = 0
-valueOf Waiting = 0
-valueOf Moved = 0
-valueOf (OpenedLink l) = l
-valueOf OpenedChannel = 0
-valueOf OpenedUnit = 0
-valueOf (Refused c) = causeOf c
-valueOf (Dropped c) = causeOf c
-valueOf Malformed = 0
-valueOf Unheard = 0
+abbrev pub answerValue : Answer → ℕ
+answerValue (No n) = n
+answerValue Done = 0
+answerValue (Granted g) = g
+answerValue (Token v) = v
+answerValue Idle = 0
+answerValue Waiting = 0
+answerValue Moved = 0
+answerValue (OpenedLink l) = l
+answerValue OpenedChannel = 0
+answerValue OpenedUnit = 0
+answerValue (Refused c) = causeOf c
+answerValue (Dropped c) = causeOf c
+answerValue Malformed = 0
+answerValue Unheard = 0

@@ -13,8 +13,8 @@ pub record Row : Type 0 where
   pub when : Bool
   pub no : Names.No
 
-abbrev pub row : Bool → Names.No → Row
-row b k = record { when = b; no = k }
+abbrev pub refusedIf : Bool → Names.No → Row
+refusedIf b k = record { when = b; no = k }
 
 abbrev pub refusal : List Row → ℕ
 refusal [] = Names.passes

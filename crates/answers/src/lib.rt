@@ -2,7 +2,7 @@
 // host's crossing has one translation.
 use circuits::Cause;
 ghost use mathlib.Core.Path.{_≡_};
-ghost use Rattle.answers.specs.Answer.{numberOf, caseOf, causeOf, valueOf};
+ghost use Rattle.answers.specs.Answer.{numberOf, caseOf, causeOf, answerValue};
 
 pub enum Answer {
     // refused, by the paper's number: nothing is changed
@@ -90,7 +90,7 @@ fn cause_of(c: Cause) -> u32
 
 // The number that its case bears.
 pub fn value_of(a: Answer) -> u32
-    ensures { λ r. ⌜ r ≡ valueOf a ⌝ }
+    ensures { λ r. ⌜ r ≡ answerValue a ⌝ }
 {
     match a {
         Answer::No(n) => n as u32,

@@ -14,8 +14,8 @@ use Rattle.answers.proofs.Refusals.{given, passed, answered, kept}
 use Rattle.cells.specs.World.{World, world}
 use Rattle.cells.proofs.Whole.{whole-state}
 use Rattle.settings.specs.declared.Setting.the-variants.{Number, Width, Direction, LinkDirection, Network, Enable, Hello}
-use Rattle.plans.specs.Plan.{planOf}
-use Rattle.switch.specs.Step.{performed}
+use Rattle.plans.specs.Plan.{stepPlan}
+use Rattle.switch.specs.Step.{stepPerformed}
 use Rattle.plans.specs.declared.Plan.{Plan}
 use Rattle.plans.specs.declared.Plan.the-variants.{Idle, Wait, OpenOut, OpenChannel, OpenUnit, Refuse, MoveOut, Hand, Hear, Drop}
 use Rattle.switch.proofs.Stepped.{heard-answers}
@@ -31,7 +31,7 @@ one-result w c r q st zt mem nem a b =
     (ap (λ (o : Out World). o .answer) e, whole-state st zt (ap (λ (o : Out World). o .next .net) e), ap (λ (o : Out World). o .next .memory) e)
 
 -- a Step's answer is no refusal of the call
-no-refusal : (w : World) (n p : ℕ) (x : Plan) → numberOf (performed w n p x .answer) ≡ Names.passes
+no-refusal : (w : World) (n p : ℕ) (x : Plan) → numberOf (stepPerformed w n p x .answer) ≡ Names.passes
 no-refusal w n p Idle = refl
 no-refusal w n p Wait = refl
 no-refusal w n p (OpenOut l) = refl
@@ -57,7 +57,7 @@ passing w (Set a (Hello l)) = refl
 passing w (Aim a c g v) = refl
 passing w (Output a c x) = refl
 passing w (Input a c k) = refl
-passing w (Step a p) = no-refusal w (a .0) p (planOf w (a .0) p)
+passing w (Step a p) = no-refusal w (a .0) p (stepPlan w (a .0) p)
 
 -- no call has two rows of one number
 once : (w : World) (c : Call) → distinct (rows w c) ≡ true

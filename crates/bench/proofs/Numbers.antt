@@ -18,8 +18,8 @@ use Rattle.sound.specs.Sound.{sound}
 use Rattle.ends.specs.Ends.{endAt, isOpen}
 use Rattle.ends.specs.Aim.{goalRanged}
 use Rattle.ends.specs.Input.{isWanted, firstHeld}
-use Rattle.ends.specs.Plan.{targetOf, planOf}
-use Rattle.ends.specs.Output.{wordOf, tokenNo, isNarrow, isFull}
+use Rattle.ends.specs.Plan.{targetOf, outputPlan}
+use Rattle.ends.specs.Output.{wordOf, tokenNo, isNarrowPlan, isFullPlan}
 use Rattle.ends.specs.declared.Token.{Token}
 use Rattle.ends.specs.declared.Wanted.{Wanted}
 use Rattle.ends.specs.declared.aim.Goal.{Goal}
@@ -130,15 +130,15 @@ module _ (w : World) where
         ((not (sound w) ≡ false) × ((not (endAt (w .net) (a .0) c) ≡ false) × ((eqb (w .net .ends .aims (a .0) c .kind) 0 ≡ false)
         × ((eqb (tokenNo x (targetOf (w .net .ends .aims (a .0) c))) 7 ≡ false)
         × ((eqb (tokenNo x (targetOf (w .net .ends .aims (a .0) c))) 8 ≡ false)
-        × (isNarrow (planOf (w .net) (a .0) c (targetOf (w .net .ends .aims (a .0) c)) (wordOf x)) ≡ true))))))
+        × (isNarrowPlan (outputPlan (w .net) (a .0) c (targetOf (w .net .ends .aims (a .0) c)) (wordOf x)) ≡ true))))))
     output-narrow = exactly w (Output a c x) Names.Narrow
 
     pub output-full : Refused w (Output a c x) Names.Full
         ((not (sound w) ≡ false) × ((not (endAt (w .net) (a .0) c) ≡ false) × ((eqb (w .net .ends .aims (a .0) c .kind) 0 ≡ false)
         × ((eqb (tokenNo x (targetOf (w .net .ends .aims (a .0) c))) 7 ≡ false)
         × ((eqb (tokenNo x (targetOf (w .net .ends .aims (a .0) c))) 8 ≡ false)
-        × ((isNarrow (planOf (w .net) (a .0) c (targetOf (w .net .ends .aims (a .0) c)) (wordOf x)) ≡ false)
-        × (isFull (planOf (w .net) (a .0) c (targetOf (w .net .ends .aims (a .0) c)) (wordOf x)) ≡ true)))))))
+        × ((isNarrowPlan (outputPlan (w .net) (a .0) c (targetOf (w .net .ends .aims (a .0) c)) (wordOf x)) ≡ false)
+        × (isFullPlan (outputPlan (w .net) (a .0) c (targetOf (w .net .ends .aims (a .0) c)) (wordOf x)) ≡ true)))))))
     output-full = exactly w (Output a c x) Names.Full
 
   module _ (a : Slot) (p : ℕ) where

@@ -10,8 +10,8 @@ use Rattle.answers.specs.Rows.{refusal}
 use Rattle.answers.specs.declared.Answer.{Answer}
 use Rattle.answers.specs.declared.Answer.the-variants as A
 use Rattle.cells.specs.World.{World}
-use Rattle.plans.specs.Plan.{planOf}
-use Rattle.switch.specs.Step.{performed}
+use Rattle.plans.specs.Plan.{stepPlan}
+use Rattle.switch.specs.Step.{stepPerformed}
 use Rattle.plans.specs.declared.Plan.{Plan}
 use Rattle.plans.specs.declared.Plan.the-variants.{Idle, Wait, OpenOut, OpenChannel, OpenUnit, Refuse, MoveOut, Hand, Hear, Drop}
 use Rattle.switch.proofs.Stepped.{heard-answers}
@@ -35,7 +35,7 @@ still A.Malformed = false
 still A.Unheard = false
 
 module _ (w : World) (n p : ℕ) where
-  plan-still : (x : Plan) → still (performed w n p x .answer) ≡ true → performed w n p x .next ≡ w
+  plan-still : (x : Plan) → still (stepPerformed w n p x .answer) ≡ true → stepPerformed w n p x .next ≡ w
   plan-still Idle e = refl
   plan-still Wait e = refl
   plan-still (OpenOut l) e = clash (sym e)
@@ -51,5 +51,5 @@ pub waits-change-nothing : (w : World) (a : Slot) (p : ℕ) → still (apply w (
 unfolding apply
 waits-change-nothing w a p h =
     by-test (eqb (refusal (rows w (Step a p))) passes)
-    (λ e. rw e (plan-still w (a .0) p (planOf w (a .0) p) (rw e at h)))
+    (λ e. rw e (plan-still w (a .0) p (stepPlan w (a .0) p) (rw e at h)))
     (λ e. rw e)

@@ -5,7 +5,7 @@ use mathlib.Core.Bool.{not}
 use mathlib.Core.List.{List, _∷_}
 use Rattle.names.specs.No.{Unsound}
 use Rattle.names.specs.declared.Slot.{Slot}
-use Rattle.answers.specs.Rows.{Row, row}
+use Rattle.answers.specs.Rows.{Row, refusedIf}
 use Rattle.answers.specs.Out.{Out, out, attempt}
 use Rattle.answers.specs.declared.Answer.the-variants.{Done}
 use Rattle.answers.specs.declared.Answer.the-variants as Answers
@@ -41,7 +41,7 @@ pub data Call : Type 0 where
 
 -- "1 Unsound: memory of the wrong length, or (not Fresh) state that fails the list"
 abbrev pub unsound : World → Row
-unsound w = row (not (sound w)) Unsound
+unsound w = refusedIf (not (sound w)) Unsound
 
 -- when a call is refused, in the order of "Numbers for no" (Fresh has its own)
 abbrev pub rows : World → Call → List Row

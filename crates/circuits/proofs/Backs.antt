@@ -1,6 +1,6 @@
 -- What was written as words is read back. Assumes nothing.
 use mathlib.Core.Path.{_≡_, refl}
-use Rattle.circuits.specs.Circuit.{peerOf, ofPeer, hopOf, ofHop, ofCause, tileOf}
+use Rattle.circuits.specs.Circuit.{peerOf, ofPeer, hopOf, ofHop, ofCause, tileTaken}
 use Rattle.circuits.specs.declared.Cause.{Cause}
 use Rattle.circuits.specs.declared.Cause.the-variants.{Split, NoRoute}
 use Rattle.circuits.specs.declared.Peer.{Peer}
@@ -17,7 +17,7 @@ cause-back : (c : Cause) → hopOf (ofCause c) 0 ≡ Dropped c
 cause-back Split = refl
 cause-back NoRoute = refl
 
-pub hop-back : (h : Hop) → hopOf (ofHop h) (tileOf h) ≡ h
+pub hop-back : (h : Hop) → hopOf (ofHop h) (tileTaken h) ≡ h
 hop-back Shut = refl
 hop-back (Out l) = refl
 hop-back (Channel c t) = refl

@@ -46,12 +46,12 @@ ofHop (Channel c t) = circuit 2 c
 ofHop Unit = circuit 3 0
 ofHop (Dropped c) = ofCause c
 
-abbrev pub tileOf : Hop → ℕ
-tileOf Shut = 0
-tileOf (Out l) = 0
-tileOf (Channel c t) = t
-tileOf Unit = 0
-tileOf (Dropped c) = 0
+abbrev pub tileTaken : Hop → ℕ
+tileTaken Shut = 0
+tileTaken (Out l) = 0
+tileTaken (Channel c t) = t
+tileTaken Unit = 0
+tileTaken (Dropped c) = 0
 
 abbrev pub legalHopKind : Circuit → Bool
 legalHopKind c = leb (c .kind) 5

@@ -3,7 +3,7 @@
 ghost use mathlib.Core.Path.{_≡_};
 ghost use mathlib.Core.List.{[]};
 ghost use lib.ListN.{length};
-ghost use Rattle.circuits.specs.Circuit.{circuitWords, toCircuit, fromCircuit, peerOf, ofPeer, hopOf, ofHop, ofCause, tileOf};
+ghost use Rattle.circuits.specs.Circuit.{circuitWords, toCircuit, fromCircuit, peerOf, ofPeer, hopOf, ofHop, ofCause, tileTaken};
 
 // The one record of a circuit, shared by ports, claims, open channel-ends, links and the control
 // unit. What kind and index mean is read off by `peer_of` and `hop_of`.
@@ -99,7 +99,7 @@ pub fn of_hop(h: Hop) -> Circuit
 
 // The tile link of a hop, 0 where it takes none.
 pub fn tile_of(h: Hop) -> u32
-    ensures { λ r. ⌜ r ≡ tileOf h ⌝ }
+    ensures { λ r. ⌜ r ≡ tileTaken h ⌝ }
 {
     match h {
         Hop::Shut => 0,

@@ -12,7 +12,7 @@ use Rattle.circuits.specs.declared.Peer.{Peer}
 use Rattle.circuits.specs.declared.Peer.the-variants as Peers
 use Rattle.cells.specs.View.{Net}
 use Rattle.cells.specs.World.{World}
-use Rattle.acts.specs.Acts.{pushed, pushedAll, widthAt, networked, still, claimedBy, handed, sendsTo}
+use Rattle.acts.specs.Acts.{pushed, pushedAll, widthAt, networked, untilClosed, claimedBy, handed, sendsTo}
 use Rattle.acts.specs.Needs.{Room}
 use Rattle.acts.proofs.Pushes.{less, room-left}
 use Rattle.ends.specs.Output.{goesBy, opensBy, goesBehind, goesStraight}
@@ -74,12 +74,12 @@ opens-gives w s y z m n c p t v g h a b e d f =
 
 pub straight-gives : (s y z v : Net) (n c d t : ℕ) (a b : Peer)
     → y ≡ handed s n d t
-    → a ≡ still t (Peers.End c)
+    → a ≡ untilClosed t (Peers.End c)
     → z ≡ claimedBy y n d a
-    → b ≡ still t (Peers.End d)
+    → b ≡ untilClosed t (Peers.End d)
     → v ≡ sendsTo z n c b
     → v ≡ goesStraight s n c d t
 straight-gives s y z v n c d t a b hy ha hz hb hv =
-    let q : z ≡ claimedBy (handed s n d t) n d (still t (Peers.End c)) =
-    hz ∙ ap (claimedBy y n d) ha ∙ ap (λ (x : Net). claimedBy x n d (still t (Peers.End c))) hy in
-    hv ∙ ap (sendsTo z n c) hb ∙ ap (λ (x : Net). sendsTo x n c (still t (Peers.End d))) q
+    let q : z ≡ claimedBy (handed s n d t) n d (untilClosed t (Peers.End c)) =
+    hz ∙ ap (claimedBy y n d) ha ∙ ap (λ (x : Net). claimedBy x n d (untilClosed t (Peers.End c))) hy in
+    hv ∙ ap (sendsTo z n c) hb ∙ ap (λ (x : Net). sendsTo x n c (untilClosed t (Peers.End d))) q

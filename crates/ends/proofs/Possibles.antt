@@ -35,9 +35,9 @@ use Rattle.acts.proofs.Doors.{given-room}
 use Rattle.sound.specs.Sound.{sound}
 use Rattle.sound.proofs.Facts.{end-facts, open-facts, fair, reaches}
 use Rattle.ends.specs.Ends.{endAt}
-use Rattle.ends.specs.Plan.{targetOf, freePort, lowestFree, portPlan, straightPlan, channelPlan, byWay, targetPlan}
-use Rattle.ends.specs.Plan.{openPlan, behindPlan, byPeer, planOf}
-use Rattle.ends.specs.Needs.{AimFits, Fits, Possible, Sends}
+use Rattle.ends.specs.Plan.{targetOf, freePort, lowestFree, portPlan, straightPlan, localPlan, outputByWay, targetPlan}
+use Rattle.ends.specs.Plan.{openPlan, behindPlan, byPeer, outputPlan}
+use Rattle.ends.specs.Needs.{AimFits, Fits, OutputPossible, Sends}
 use Rattle.ends.proofs.There.{is-there}
 
 one-not-two : {a : ℕ} → a ≡ 1 → a ≡ 2 → ⊥
@@ -68,39 +68,39 @@ module _ (w : World) (n c t : ℕ) (g : Target) (s : Sends w n c g) where
       let z = also (as-is (tilePort p)) (also (equal (k .leg .circuit .kind) 0) (equal (k .counters .held) 0)) .sure e in
       roomy p 4 (tile-there p (z .0)) (omega (arith, z .1 .1))
 
-  port-possible : Possible w n t (portPlan (w .net) n)
+  port-possible : OutputPossible w n t (portPlan (w .net) n)
   port-possible =
       let f = freePort (w .net) n in
       by-test (eqb (lowestFree (w .net) n) replyPort)
       (λ e. rw e tt)
       (λ e. rw e (free-room (first replyPort f) (first-passes f replyPort (first-found f replyPort (eqb-false _ _ e)))))
 
-  straight-possible : (d : ℕ) → Door d → Possible w n t (straightPlan (w .net) n d t)
+  straight-possible : (d : ℕ) → Door d → OutputPossible w n t (straightPlan (w .net) n d t)
   straight-possible d h =
       by-test (channelFull (w .net) n d t) (λ e. rw e tt) (λ e. rw e (given-room (w .net) n d t h e))
 
-  channel-possible : (d : ℕ) → Door d → Possible w n t (channelPlan (w .net) n d t)
+  channel-possible : (d : ℕ) → Door d → OutputPossible w n t (localPlan (w .net) n d t)
   channel-possible d h = by-test (channelClaimed (w .net) n d) (λ e. rw e tt) (λ e. rw e (straight-possible d h))
 
-  way-possible : (y : Way) (d : ℕ) → Door d → Possible w n t (byWay (w .net) n y d t)
+  way-possible : (y : Way) (d : ℕ) → Door d → OutputPossible w n t (outputByWay (w .net) n y d t)
   way-possible ThisNode d l = channel-possible d l
   way-possible (OtherNode b) d l = port-possible
 
-  target-possible : (x : Target) → legalTarget x ≡ true → Possible w n t (targetPlan (w .net) n x t)
+  target-possible : (x : Target) → legalTarget x ≡ true → OutputPossible w n t (targetPlan (w .net) n x t)
   target-possible (Channel m d) l = way-possible (wayTo (widthAt (w .net) n) m (numberAt (w .net) n)) d (legal-door d l)
   target-possible (Unit m) l = port-possible
 
-  open-possible : legalTarget g ≡ true → Possible w n t (openPlan (w .net) n g t)
+  open-possible : legalTarget g ≡ true → OutputPossible w n t (openPlan (w .net) n g t)
   open-possible l =
       by-test (isNarrow (headerOf g (widthAt (w .net) n))) (λ e. rw e tt) (λ e. rw e (target-possible g l))
 
-  behind-possible : (p : ℕ) → tilePort p ≡ true → Possible w n t (behindPlan (w .net) n p)
+  behind-possible : (p : ℕ) → tilePort p ≡ true → OutputPossible w n t (behindPlan (w .net) n p)
   behind-possible p h =
       by-test (leb capacity (w .net .ports .counters n p .held))
       (λ e. rw e tt)
       (λ e. rw e (roomy p 1 (tile-there p h) (omega (arith, leb-false capacity (w .net .ports .counters n p .held) e))))
 
-  peer-possible : (x : Peer) → openBy (w .net) n x ≡ true → legalTarget g ≡ true → Possible w n t (byPeer (w .net) n x g t)
+  peer-possible : (x : Peer) → openBy (w .net) n x ≡ true → legalTarget g ≡ true → OutputPossible w n t (byPeer (w .net) n x g t)
   peer-possible Peers.Nobody h l = open-possible l
   peer-possible (Peers.Port p) h l = behind-possible p (also (as-is (tilePort p)) (as-is (taken (w .net) n p)) .sure h .0)
   peer-possible (Peers.End d) h l = straight-possible d (either (equal d sink) (below d ends) .sure h)
@@ -123,8 +123,8 @@ module _ (w : World) (n c t : ℕ) (g : Target) (s : Sends w n c g) where
       (λ e. rw e (⊎-elim (λ z. absurd (one-not-two (eqb-true _ _ e) z)) (λ z. z .1) (aim-facts .place)))
       (λ e. rw e))
 
-  pub plan-possible : Possible w n t (planOf (w .net) n c g t)
-  unfolding planOf
+  pub plan-possible : OutputPossible w n t (outputPlan (w .net) n c g t)
+  unfolding outputPlan
   plan-possible = peer-possible (peerOf (w .net .ends .sendings n c)) opened legal
 
 -- a destination that is aimed fits its words

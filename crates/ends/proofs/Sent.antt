@@ -11,14 +11,14 @@ use Rattle.tokens.specs.Control.{outputNo, noOfClass, classOf, writec, readc}
 use Rattle.tokens.specs.declared.control.Class.{Class}
 use Rattle.tokens.specs.declared.control.Class.the-variants.{Application, Special, Privileged, Hardware}
 use Rattle.tokens.specs.declared.header.Target.{Target}
-use Rattle.answers.specs.Rows.{Row, row}
+use Rattle.answers.specs.Rows.{Row, refusedIf}
 use Rattle.answers.specs.Out.{Out, out, attempt}
 use Rattle.answers.specs.declared.Answer.the-variants.{No, Done}
 use Rattle.cells.specs.World.{World}
 use Rattle.cells.specs.declared.end.Aim.{Aim}
 use Rattle.ends.specs.Ends.{endAt}
-use Rattle.ends.specs.Plan.{targetOf, destinationOf, planOf}
-use Rattle.ends.specs.Output.{wordOf, isUnit, tokenNo, planRows, sendRows, sent, output}
+use Rattle.ends.specs.Plan.{targetOf, destinationOf, outputPlan}
+use Rattle.ends.specs.Output.{wordOf, isUnit, tokenNo, planRows, sendRows, tokenSent, output}
 use Rattle.ends.specs.declared.Token.{Token}
 use Rattle.ends.specs.declared.Token.the-variants.{Data, Control}
 use Rattle.ends.specs.declared.output.Destination.{Destination}
@@ -50,7 +50,7 @@ module _ (w : World) (n c : ℕ) (g : Target) (x : Token) where
   refused-by : {k : ℕ} → Refusing k → (k ≡ Names.passes → ⊥) → (rs : List Row) (done : Out World)
       → out (No k) w
       ≡ attempt
-      (row (eqb k (Names.number Names.Hardware)) Names.Hardware ∷ row (eqb k (Names.number Names.Privileged)) Names.Privileged ∷ rs)
+      (refusedIf (eqb k (Names.number Names.Hardware)) Names.Hardware ∷ refusedIf (eqb k (Names.number Names.Privileged)) Names.Privileged ∷ rs)
       w
       done
   refused-by none h rs done = absurd (h refl)
@@ -58,13 +58,13 @@ module _ (w : World) (n c : ℕ) (g : Target) (x : Token) where
   refused-by eight h rs done = refl
 
   pub token-refused : (k : ℕ) → k ≡ tokenNo x g → (k ≡ Names.passes → ⊥)
-      → out (No k) w ≡ attempt (sendRows (w .net) n c g x) w (out Done (sent w n c g x))
+      → out (No k) w ≡ attempt (sendRows (w .net) n c g x) w (out Done (tokenSent w n c g x))
   token-refused k e h =
-      rw e (refused-by (refusing x g) (λ z. h (e ∙ z)) (planRows (planOf (w .net) n c g (wordOf x))) (out Done (sent w n c g x)))
+      rw e (refused-by (refusing x g) (λ z. h (e ∙ z)) (planRows (outputPlan (w .net) n c g (wordOf x))) (out Done (tokenSent w n c g x)))
 
   pub token-passes : (k : ℕ) → k ≡ tokenNo x g → k ≡ Names.passes
-      → attempt (planRows (planOf (w .net) n c g (wordOf x))) w (out Done (sent w n c g x))
-      ≡ attempt (sendRows (w .net) n c g x) w (out Done (sent w n c g x))
+      → attempt (planRows (outputPlan (w .net) n c g (wordOf x))) w (out Done (tokenSent w n c g x))
+      ≡ attempt (sendRows (w .net) n c g x) w (out Done (tokenSent w n c g x))
   token-passes k e h = rw (sym e ∙ h)
 
 module _ (w : World) (n c : ℕ) (x : Token) where
@@ -79,11 +79,11 @@ module _ (w : World) (n c : ℕ) (x : Token) where
   pub sends-on : (g : Target) (o : Out World) → endAt (w .net) n c ≡ true
       → eqb (w .net .ends .aims n c .kind) 0 ≡ false
       → g ≡ targetOf (w .net .ends .aims n c)
-      → o ≡ attempt (sendRows (w .net) n c g x) w (out Done (sent w n c g x))
+      → o ≡ attempt (sendRows (w .net) n c g x) w (out Done (tokenSent w n c g x))
       → o ≡ output w n c x
   unfolding output
   sends-on g o e a q h =
-      h ∙ ap (λ (y : Target). attempt (sendRows (w .net) n c y x) w (out Done (sent w n c y x))) q ∙ rw (e, a)
+      h ∙ ap (λ (y : Target). attempt (sendRows (w .net) n c y x) w (out Done (tokenSent w n c y x))) q ∙ rw (e, a)
 
 -- what a destination says of the channel-end
 abbrev isAimed : Destination → Bool

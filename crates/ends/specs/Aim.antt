@@ -7,7 +7,7 @@ use Rattle.names.specs.Size.{networks}
 use Rattle.names.specs.Number.{isNumber}
 use Rattle.names.specs.No.{NoSuch, Value, Open}
 use Rattle.tokens.specs.Shape.{legalChannel}
-use Rattle.answers.specs.Rows.{Row, row}
+use Rattle.answers.specs.Rows.{Row, refusedIf}
 use Rattle.answers.specs.Out.{Out, out, attempt}
 use Rattle.answers.specs.declared.Answer.the-variants.{Done}
 use Rattle.cells.specs.View.{Net, withAim}
@@ -24,7 +24,7 @@ goalRanged (Unit m) = isNumber m
 -- "Open: Aim between its opening Output and that circuit's END or PAUSE"
 abbrev pub aimRows : Net → ℕ → ℕ → Goal → ℕ → List Row
 aimRows s n c g v =
-    row (not (endAt s n c)) NoSuch ∷ row (not (goalRanged g && ltb v networks)) Value ∷ row (isOpen s n c) Open ∷ []
+    refusedIf (not (endAt s n c)) NoSuch ∷ refusedIf (not (goalRanged g && ltb v networks)) Value ∷ refusedIf (isOpen s n c) Open ∷ []
 
 abbrev pub aimedAt : Goal → ℕ → Aim
 aimedAt (Channel m c) v = record { kind = 1; number = m; channel = c; network = v }

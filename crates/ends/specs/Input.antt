@@ -8,7 +8,7 @@ use Rattle.laws.specs.Row.{tab}
 use Rattle.names.specs.Size.{endBuffer}
 use Rattle.names.specs.No.{NoSuch, Empty, Trap}
 use Rattle.tokens.specs.Word.{valueOf, isControl}
-use Rattle.answers.specs.Rows.{Row, row}
+use Rattle.answers.specs.Rows.{Row, refusedIf}
 use Rattle.answers.specs.Out.{Out, out, attempt}
 use Rattle.answers.specs.declared.Answer.the-variants.{Token}
 use Rattle.cells.specs.View.{Net, withBuffer}
@@ -28,9 +28,9 @@ isWanted t Control = isControl t
 -- "Empty: Input with nothing held; Trap: Input of the wrong kind; the token stays"
 abbrev pub inputRows : Net → ℕ → ℕ → Wanted → List Row
 inputRows s n c k =
-    row (not (endAt s n c)) NoSuch
-    ∷ row (eqb (s .ends .buffers n c .held) 0) Empty
-    ∷ row (not (isWanted (firstHeld (s .ends .buffers n c)) k)) Trap
+    refusedIf (not (endAt s n c)) NoSuch
+    ∷ refusedIf (eqb (s .ends .buffers n c .held) 0) Empty
+    ∷ refusedIf (not (isWanted (firstHeld (s .ends .buffers n c)) k)) Trap
     ∷ []
 
 -- the others move up, and the word that the last one leaves is cleared

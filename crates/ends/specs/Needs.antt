@@ -23,12 +23,12 @@ abbrev pub Fits : Aim → Type 0
 Fits k = (k .kind ≡ 0 → ⊥) → AimFits k
 
 -- a plan that can be carried out
-abbrev pub Possible : World → ℕ → ℕ → Plan → Type 0
-Possible w n t Narrow = Unit
-Possible w n t Full = Unit
-Possible w n t (Opens p) = Room w n p 4
-Possible w n t (Behind p) = Room w n p 1
-Possible w n t (Straight d) = Given (w .net) n d t
+abbrev pub OutputPossible : World → ℕ → ℕ → Plan → Type 0
+OutputPossible w n t Narrow = Unit
+OutputPossible w n t Full = Unit
+OutputPossible w n t (Opens p) = Room w n p 4
+OutputPossible w n t (Behind p) = Room w n p 1
+OutputPossible w n t (Straight d) = Given (w .net) n d t
 
 -- a channel-end that is there and aimed at g, of a state that is sound
 pub record Sends (w : World) (n c : ℕ) (g : Target) : Type 0 where

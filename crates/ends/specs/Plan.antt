@@ -46,16 +46,16 @@ abbrev pub straightPlan : Net → ℕ → ℕ → ℕ → Plan
 straightPlan s n d t = pick (channelFull s n d t) Full (Straight d)
 
 -- "locally: another circuit claims the channel, or .."
-abbrev pub channelPlan : Net → ℕ → ℕ → ℕ → Plan
-channelPlan s n c t = pick (channelClaimed s n c) Full (straightPlan s n c t)
+abbrev pub localPlan : Net → ℕ → ℕ → ℕ → Plan
+localPlan s n c t = pick (channelClaimed s n c) Full (straightPlan s n c t)
 
 -- "If the destination matches this node at that width and is a channel, tokens go straight to that channel-end"
-abbrev pub byWay : Net → ℕ → Way → ℕ → ℕ → Plan
-byWay s n ThisNode c t = channelPlan s n c t
-byWay s n (OtherNode b) c t = portPlan s n
+abbrev pub outputByWay : Net → ℕ → Way → ℕ → ℕ → Plan
+outputByWay s n ThisNode c t = localPlan s n c t
+outputByWay s n (OtherNode b) c t = portPlan s n
 
 abbrev pub targetPlan : Net → ℕ → Target → ℕ → Plan
-targetPlan s n (Channel m c) t = byWay s n (wayTo (widthAt s n) m (numberAt s n)) c t
+targetPlan s n (Channel m c) t = outputByWay s n (wayTo (widthAt s n) m (numberAt s n)) c t
 targetPlan s n (Unit m) t = portPlan s n
 
 -- "opening at one-byte width towards channel 255 or a control unit"
@@ -72,5 +72,5 @@ byPeer s n Peers.Nobody g t = openPlan s n g t
 byPeer s n (Peers.Port p) g t = behindPlan s n p
 byPeer s n (Peers.End d) g t = straightPlan s n d t
 
-unfoldable pub planOf : Net → ℕ → ℕ → Target → ℕ → Plan
-planOf s n c g t = byPeer s n (peerOf (s .ends .sendings n c)) g t
+unfoldable pub outputPlan : Net → ℕ → ℕ → Target → ℕ → Plan
+outputPlan s n c g t = byPeer s n (peerOf (s .ends .sendings n c)) g t

@@ -41,9 +41,9 @@ ghost use Rattle.cells.specs.View.{view};
 ghost use Rattle.cells.specs.World.{world};
 ghost use Rattle.sound.specs.Sound.{sound};
 ghost use Rattle.ends.specs.Plan.{targetOf, destinationOf};
-ghost use Rattle.ends.specs.Needs.{AimFits, Fits, Possible, Sends};
+ghost use Rattle.ends.specs.Needs.{AimFits, Fits, OutputPossible, Sends};
 ghost use Rattle.ends.specs.Output.{wordOf, isUnit, tokenNo, goesBy, opensBy, goesBehind};
-ghost use Rattle.ends.specs.Output.{goesStraight, performed, planRows, sendRows, sent, output};
+ghost use Rattle.ends.specs.Output.{goesStraight, outputPerformed, planRows, sendRows, tokenSent, output};
 
 // A channel-end's destination.
 pub enum Destination {
@@ -162,10 +162,10 @@ fn carry(
     word: u16,
     plan: Plan,
 ) -> Answer
-    requires { ⌜ (slot .0 < view (now st) .nodes) × (c < ends) × Possible (world (now st) (now mem)) (slot .0) word plan ⌝ }
+    requires { ⌜ (slot .0 < view (now st) .nodes) × (c < ends) × OutputPossible (world (now st) (now mem)) (slot .0) word plan ⌝ }
     ensures { λ r. ⌜ out r (world (now (st .exit)) (now (mem .exit)))
         ≡ attempt (planRows plan) (world (now (st .entry)) (now (mem .entry)))
-        (out Done (performed (world (now (st .entry)) (now (mem .entry))) (slot .0) c g word plan)) ⌝ }
+        (out Done (outputPerformed (world (now (st .entry)) (now (mem .entry))) (slot .0) c g word plan)) ⌝ }
 {
     match plan {
         Plan::Narrow => return Answer::No(NARROW),
@@ -182,7 +182,7 @@ fn send(st: &mut [u32], mem: &mut [u16], slot: Slot, c: usize, g: Target, x: Tok
     requires { ⌜ Sends (world (now st) (now mem)) (slot .0) c g ⌝ }
     ensures { λ r. ⌜ out r (world (now (st .exit)) (now (mem .exit)))
         ≡ attempt (sendRows (view (now (st .entry))) (slot .0) c g x) (world (now (st .entry)) (now (mem .entry)))
-        (out Done (sent (world (now (st .entry)) (now (mem .entry))) (slot .0) c g x)) ⌝ }
+        (out Done (tokenSent (world (now (st .entry)) (now (mem .entry))) (slot .0) c g x)) ⌝ }
 {
     let no = token_no(x, g);
     if no != 0 {

@@ -20,7 +20,7 @@ use tokens::header::make_header;
 ghost use mathlib.Core.Path.{_≡_};
 ghost use Rattle.acts.specs.Needs.{NumberFits};
 ghost use Rattle.cells.specs.View.{view};
-ghost use Rattle.ends.specs.Plan.{lowestFree, straightPlan, channelPlan, portPlan, targetPlan, openPlan, behindPlan, planOf};
+ghost use Rattle.ends.specs.Plan.{lowestFree, straightPlan, localPlan, portPlan, targetPlan, openPlan, behindPlan, outputPlan};
 
 pub enum Plan {
     // one byte can't carry the destination
@@ -69,7 +69,7 @@ fn straight_plan(st: &[u32], slot: Slot, d: usize, word: u16) -> Plan
 
 // A circuit opens to a channel of the same node.
 fn channel_plan(st: &[u32], slot: Slot, channel: u8, word: u16) -> Plan
-    ensures { λ r. ⌜ r ≡ channelPlan (view (now (st .entry))) (slot .0) channel word ⌝ }
+    ensures { λ r. ⌜ r ≡ localPlan (view (now (st .entry))) (slot .0) channel word ⌝ }
 {
     let d = channel as usize;
     if channel_claimed(st, slot, d) {
@@ -117,7 +117,7 @@ fn behind_plan(st: &[u32], slot: Slot, p: usize) -> Plan
 // What putting this word out does, for a channel-end that is aimed at g.
 pub fn plan_of(st: &[u32], slot: Slot, c: usize, g: Target, word: u16) -> Plan
     requires { ⌜ NumberFits (view (now st)) (slot .0) ⌝ }
-    ensures { λ r. ⌜ r ≡ planOf (view (now (st .entry))) (slot .0) c g word ⌝ }
+    ensures { λ r. ⌜ r ≡ outputPlan (view (now (st .entry))) (slot .0) c g word ⌝ }
 {
     let k = end::at(st, slot, c);
     match peer_of(k.sending) {

@@ -6,7 +6,7 @@ use mathlib.Core.List.{List, [], _∷_}
 use lib.Dec.{eqb, leb}
 use Rattle.names.specs.Size.{nodes}
 use Rattle.names.specs.No.{Unsound, NoSuch}
-use Rattle.answers.specs.Rows.{Row, row}
+use Rattle.answers.specs.Rows.{Row, refusedIf}
 use Rattle.answers.specs.Out.{Out, out, attempt}
 use Rattle.answers.specs.declared.Answer.the-variants.{Done}
 use Rattle.cells.specs.World.{World, shaped}
@@ -22,7 +22,7 @@ fits w n = shaped w && eqb (w .net .nodes) n
 
 -- the count goes before the lengths, against "the lowest number wins"; the old state is not looked at
 abbrev pub freshRows : World → ℕ → List Row
-freshRows w n = row (not (counted n)) NoSuch ∷ row (not (fits w n)) Unsound ∷ []
+freshRows w n = refusedIf (not (counted n)) NoSuch ∷ refusedIf (not (fits w n)) Unsound ∷ []
 
 unfoldable pub fresh : World → ℕ → Out World
 fresh w n = attempt (freshRows w n) w (out Done (freshWorld n))

@@ -14,7 +14,7 @@ use Rattle.tokens.specs.Shape.{Shape, legalChannel, threeShape, shapeOf}
 use Rattle.tokens.specs.Shape as S
 use Rattle.tokens.proofs.Channels.{legal-channel, illegal-channel}
 use Rattle.tokens.proofs.Words.{open-word, closing-word}
-use Rattle.grammar.specs.Stage.{isLast, step}
+use Rattle.grammar.specs.Stage.{isLast, nextStage}
 use Rattle.grammar.specs.declared.stage.Stage.the-variants.{Bad, Fresh, Body}
 
 -- below the marks of a header
@@ -99,21 +99,21 @@ unfolding shapeOf threeShape legalChannel closes
 unit-last = refl
 
 -- past a header: a token that closes nothing, END or PAUSE, a token of a header or none
-pub stays : (w : ℕ) → closes w ≡ false → w < 0x1C2 → Body ≡ step Body (shapeOf w)
+pub stays : (w : ℕ) → closes w ≡ false → w < 0x1C2 → Body ≡ nextStage Body (shapeOf w)
 unfolding shapeOf
 stays w e h = rw (e, lt-ltb w 0x1C2 h)
 
-pub closed : (w : ℕ) → 0x101 ≤ w → w ≤ 0x102 → Fresh ≡ step Body (shapeOf w)
+pub closed : (w : ℕ) → 0x101 ≤ w → w ≤ 0x102 → Fresh ≡ nextStage Body (shapeOf w)
 unfolding shapeOf
 closed w h k = rw (closing-word w h k)
 
-three-bad : (m : ℕ) → Bad ≡ step Body (threeShape m)
+three-bad : (m : ℕ) → Bad ≡ nextStage Body (threeShape m)
 unfolding threeShape
 three-bad m =
     by-test (legalChannel m) (λ e. rw e)
     (λ e. rw e (by-test (ltb m 0x100) (λ f. rw f) (λ f. rw f (by-test (eqb m (controlWord ssctrl)) (λ g. rw g) (λ g. rw g)))))
 
-pub breaks : (w : ℕ) → 0x1C2 ≤ w → Bad ≡ step Body (shapeOf w)
+pub breaks : (w : ℕ) → 0x1C2 ≤ w → Bad ≡ nextStage Body (shapeOf w)
 unfolding shapeOf
 breaks w h =
     rw (open-word w (inr (omega arith)), le-ltb w 0x1C2 h)

@@ -39,14 +39,14 @@ ofThree c = isByte c || isLast c
 -- Where the next token leads; one that may not stand there breaks the rule, for good. "a port with no circuit is empty or starts with a
 -- header, and so does what follows an END or PAUSE; .. header tokens stand elsewhere only at the front of a circuit still sending its
 -- header outward or being dropped"
-abbrev pub step : Stage → Shape → Stage
-step Bad c = Bad
-step Fresh c = pick (ofOne c) Body (pick (isByte c) TwoDue Bad)
-step Body c = pick (sameShape c S.Body) Body (pick (sameShape c S.Closing) Fresh Bad)
-step OneDue c = pick (ofOne c) Body Bad
-step ThreeDue c = pick (isByte c) TwoDue Bad
-step TwoDue c = pick (isByte c) LastDue Bad
-step LastDue c = pick (isLast c) Body Bad
+abbrev pub nextStage : Stage → Shape → Stage
+nextStage Bad c = Bad
+nextStage Fresh c = pick (ofOne c) Body (pick (isByte c) TwoDue Bad)
+nextStage Body c = pick (sameShape c S.Body) Body (pick (sameShape c S.Closing) Fresh Bad)
+nextStage OneDue c = pick (ofOne c) Body Bad
+nextStage ThreeDue c = pick (isByte c) TwoDue Bad
+nextStage TwoDue c = pick (isByte c) LastDue Bad
+nextStage LastDue c = pick (isLast c) Body Bad
 
 -- where a circuit is with so many tokens of a three-byte header at its front; one tells whether it begins with a one-byte header
 abbrev pub due : ℕ → Bool → Stage

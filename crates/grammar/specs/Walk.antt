@@ -6,14 +6,14 @@ use Rattle.laws.specs.Pick.{pick}
 use Rattle.circuits.specs.declared.Hop.{Hop}
 use Rattle.circuits.specs.declared.Hop.the-variants.{Shut, Out, Channel, Unit, Dropped}
 use Rattle.tokens.specs.Shape.{shapeOf}
-use Rattle.grammar.specs.Stage.{step, ofThree, ofOne, due}
+use Rattle.grammar.specs.Stage.{nextStage, ofThree, ofOne, due}
 use Rattle.grammar.specs.declared.port.Stages.{Stages}
 use Rattle.grammar.specs.declared.stage.Stage.{Stage}
 use Rattle.grammar.specs.declared.stage.Stage.the-variants.{Fresh, Body}
 
 abbrev pub walk : Stage → List ℕ → Stage
 walk s [] = s
-walk s (w ∷ q) = walk (step s (shapeOf w)) q
+walk s (w ∷ q) = walk (nextStage s (shapeOf w)) q
 
 -- how many tokens of a three-byte header stand at the front
 abbrev pub threes : List ℕ → ℕ

@@ -3,7 +3,7 @@ ghost use mathlib.Core.Path.{_≡_};
 ghost use Rattle.laws.specs.Pick.{pick};
 ghost use Rattle.tokens.specs.Shape.{shapeOf};
 ghost use Rattle.tokens.specs.Shape as S;
-ghost use Rattle.grammar.specs.Stage.{ofOne, isByte, isLast, ofThree, step, due, isBad, stageNumber, sameStage, crossed};
+ghost use Rattle.grammar.specs.Stage.{ofOne, isByte, isLast, ofThree, nextStage, due, isBad, stageNumber, sameStage, crossed};
 ghost use Rattle.grammar.specs.declared.stage.Stage.the-variants.{Bad, Fresh, Body};
 
 pub enum Stage {
@@ -71,7 +71,7 @@ pub fn of_three(word: u16) -> bool
 
 // Plain data stands past a header and nowhere else.
 fn plain_next(s: Stage) -> Stage
-    ensures { λ r. ⌜ r ≡ step s S.Body ⌝ }
+    ensures { λ r. ⌜ r ≡ nextStage s S.Body ⌝ }
 {
     match s {
         Stage::Bad => Stage::Bad,
@@ -85,7 +85,7 @@ fn plain_next(s: Stage) -> Stage
 }
 
 fn body_next(word: u16) -> Stage
-    ensures { λ r. ⌜ r ≡ step Body (shapeOf word) ⌝ }
+    ensures { λ r. ⌜ r ≡ nextStage Body (shapeOf word) ⌝ }
 {
     match word {
         0x0000..=0x0100 => Stage::Body,
@@ -96,7 +96,7 @@ fn body_next(word: u16) -> Stage
 }
 
 fn fresh_next(word: u16) -> Stage
-    ensures { λ r. ⌜ r ≡ step Fresh (shapeOf word) ⌝ }
+    ensures { λ r. ⌜ r ≡ nextStage Fresh (shapeOf word) ⌝ }
 {
     if of_one(word) {
         return Stage::Body;
@@ -116,7 +116,7 @@ fn only(comes: bool, to: Stage) -> Stage
 
 // Where the next word takes a walk: it need not be given a shape first. Most words are plain data.
 pub fn next(s: Stage, word: u16) -> Stage
-    ensures { λ r. ⌜ r ≡ step s (shapeOf word) ⌝ }
+    ensures { λ r. ⌜ r ≡ nextStage s (shapeOf word) ⌝ }
 {
     if word <= 0x0100 {
         return plain_next(s);

@@ -8,7 +8,7 @@ use Rattle.laws.specs.Pick.{pick}
 use Rattle.names.specs.declared.Slot.{Slot}
 use Rattle.answers.specs.Out.{Out}
 use Rattle.answers.specs.declared.Answer.{Answer}
-use Rattle.answers.specs.Answer.{caseOf, valueOf}
+use Rattle.answers.specs.Answer.{caseOf, answerValue}
 use Rattle.cells.specs.World.{World}
 use Rattle.looks.specs.declared.Seen.{Seen}
 use Rattle.looks.specs.declared.Seen.the-variants.{Token, Nothing}
@@ -19,7 +19,7 @@ packed case value = case * 4294967296 + value
 
 -- what a call answers: its case, and the number that the case bears
 abbrev pub answerNumber : Answer → ℕ
-answerNumber a = packed (caseOf a) (valueOf a)
+answerNumber a = packed (caseOf a) (answerValue a)
 
 -- a slot is a plain number on the other side
 abbrev pub slot : ℕ → Slot

@@ -8,9 +8,7 @@ use native.Mathlib.Omega.{arith}
 use native.Mathlib.Numerals.{add-one}
 use lib.Dec.{eqb, ltb, leb}
 use borrow.Author.Tests.{eqb-true, eq-eqb, ltb-true, lt-ltb, leb-true, le-leb, not-true, not-false}
-use mathlib.Core.List.{List, [], _∷_}
-use lib.ListN.{length, getD}
-use Rattle.laws.specs.All.{all, first, NoneBelow, failing, every, Means, Each}
+use Rattle.laws.specs.All.{all, first, NoneBelow, every, Means}
 use Rattle.laws.proofs.Order.{by-test, order, clash}
 
 and-left : (a b : Bool) → (a && b) ≡ true → a ≡ true
@@ -161,40 +159,3 @@ first-here f zero i l h e = absurd (omega arith)
 first-here f (suc n) zero l h e = rw e
 first-here f (suc n) (suc i) l h e =
     rw (h 0 (omega arith)) (ap suc (first-here (λ j. f (suc j)) n i (omega arith) (λ j k. h (suc j) (omega arith)) e))
-
--- The first test that fails, as a loop seeks it, with k tests passed: where one fails it is that one, and where none does, all hold
-pub failing-start : (f : ℕ → Bool) (n : ℕ) → failing (n - 0) 0 f ≡ failing n 0 f
-failing-start f n = let q : n - 0 ≡ n = omega arith in rw q
-
-pub failing-here : (f : ℕ → Bool) (n k : ℕ) → k < n → f k ≡ false → failing (n - k) k f ≡ k
-unfolding failing
-failing-here f n k l e = let q : n - k ≡ suc (n - (k + 1)) = omega arith in rw (q, e)
-
-pub failing-next : (f : ℕ → Bool) (n k : ℕ) → k < n → f k ≡ true → failing (n - k) k f ≡ failing (n - (k + 1)) (k + 1) f
-unfolding failing
-failing-next f n k l e = let q : n - k ≡ suc (n - (k + 1)) = omega arith in rw (q, e, add-one)
-
-pub failing-none : (f : ℕ → Bool) (n k : ℕ) → n ≤ k → failing (n - k) k f ≡ k
-unfolding failing
-failing-none f n k l = let q : n - k ≡ 0 = omega arith in rw q
-
--- a seek that ends at a test that fails, or at the bound with all tests passed
-pub data Sought (f : ℕ → Bool) (m k : ℕ) : Type 0 where
-  fails : failing m k f < k + m → f (failing m k f) ≡ false → Sought f m k
-  passes : failing m k f ≡ k + m → ((i : ℕ) → k ≤ i → i < k + m → f i ≡ true) → Sought f m k
-
-pub seek : (f : ℕ → Bool) (m k : ℕ) → Sought f m k
-unfolding failing
-seek f zero k = passes (omega arith) (λ i l h. absurd (omega arith))
-seek f (suc m) k = by-test (f k) (λ e. on e (seek f m (suc k))) (λ e. fails (rw e (omega arith)) (rw e e))
-  where
-    on : f k ≡ true → Sought f m (suc k) → Sought f (suc m) k
-    on e (fails l h) = fails (rw e (omega arith)) (rw e h)
-    on e (passes q h) =
-        passes (rw e (omega arith)) (λ i l b. elim (ℕ-discrete i k) [ yes d ↦ rw d e | no d ↦ h i (omega arith) (omega arith) ])
-
--- what holds of each element of a list holds of the one at an index
-pub each-at : {A : Type 0} (P : A → Type 0) (l : List A) (d : A) → Each P l → (k : ℕ) → k < length l → P (getD l k d)
-each-at P [] d e k h = absurd (omega arith)
-each-at P (x ∷ l) d e zero h = e .0
-each-at P (x ∷ l) d e (suc k) h = each-at P l d (e .1) k (omega arith)

@@ -20,11 +20,6 @@ first (suc n) f = pick (f 0) 0 (suc (first n (λ i. f (suc i))))
 abbrev pub NoneBelow : (ℕ → Bool) → ℕ → Type 0
 NoneBelow f i = (j : ℕ) → j < i → f j ≡ false
 
--- the first index from k on at which f fails, among m; k + m where none does
-unfoldable pub failing : ℕ → ℕ → (ℕ → Bool) → ℕ
-failing zero k f = k
-failing (suc m) k f = pick (f k) (failing m (suc k) f) k
-
 -- `all` over two indices, a node and a place of it
 unfoldable pub every : ℕ → ℕ → (ℕ → ℕ → Bool) → Bool
 every a b f = all a (λ n. all b (λ i. f n i))

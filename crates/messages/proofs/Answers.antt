@@ -11,14 +11,14 @@ use Rattle.acts.specs.Acts.{withNet, widthAt}
 use Rattle.messages.specs.Register.{fieldsOf, readOf}
 use Rattle.messages.specs.Heard.{messageOf}
 use Rattle.messages.specs.Write.{accepted, written}
-use Rattle.messages.specs.Ended.{sent, obeyed, ended}
+use Rattle.messages.specs.Ended.{replySent, obeyed, ended}
 use Rattle.messages.specs.declared.heard.Message.{Message}
 use Rattle.messages.specs.declared.heard.Message.the-variants.{Malformed, Wrong, Read, Write}
 use Rattle.messages.specs.declared.reply.Reply.{Reply}
 use Rattle.messages.specs.declared.reply.Reply.the-variants.{Nack, Ack, Value}
 
 module _ (P : Answer → Type 0) (moved : P Answers.Moved) (malformed : P Answers.Malformed) (unheard : P Answers.Unheard) where
-  of-sent : (w : World) (n : ℕ) (g : Target) (x : Reply) → P (sent w n g x .answer)
+  of-sent : (w : World) (n : ℕ) (g : Target) (x : Reply) → P (replySent w n g x .answer)
   of-sent w n g x =
       by-test (isNarrow (headerOf g (widthAt (w .net) n))) (λ e. rw e unheard) (λ e. rw e moved)
 

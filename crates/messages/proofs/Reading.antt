@@ -21,10 +21,10 @@ use Rattle.cells.specs.View.{Net}
 use Rattle.cells.specs.declared.node.Node.{Node}
 use Rattle.cells.specs.declared.link.Setup.{Setup}
 use Rattle.grants.specs.Grants.{helloed, considered}
-use Rattle.settings.specs.Set.{setMade, set}
+use Rattle.settings.specs.Set.{setMade, setCall}
 use Rattle.settings.specs.declared.Setting.{Setting}
 use Rattle.settings.specs.declared.Setting.the-variants.{Number, Width, Direction, LinkDirection, Network, Enable, Hello}
-use Rattle.messages.specs.Register.{bits, entriesOf, fieldsOf, readOf}
+use Rattle.messages.specs.Register.{bitsFrom, entriesOf, fieldsOf, readOf}
 use Rattle.messages.specs.declared.register.Register.{Register}
 use Rattle.messages.specs.declared.register.Register.the-variants as R
 use Rattle.messages.specs.Write.{passesSet, accepted, madeAll, written}
@@ -59,11 +59,11 @@ first-of a b e = also (as-is a) (as-is b) .sure e .0
 
 module _ (s : Net) (n : ℕ) where
   -- the node after a field of its own, the link after one of its own
-  own-after : (x : Setting) (k : Node) → passesSet s n x ≡ true → setMade s n x .own n 0 ≡ k → set s n x .next .own n 0 ≡ k
+  own-after : (x : Setting) (k : Node) → passesSet s n x ≡ true → setMade s n x .own n 0 ≡ k → setCall s n x .next .own n 0 ≡ k
   own-after x k e h = rw (made-next s n x e) h
 
   link-after : (l : ℕ) (x : Setting) (k : Setup) → passesSet s n x ≡ true → setMade s n x .links .setups n l ≡ k
-      → set s n x .next .links .setups n l ≡ k
+      → setCall s n x .next .links .setups n l ≡ k
   link-after l x k e h = rw (made-next s n x e) h
 
 -- short headers
@@ -116,7 +116,7 @@ route-back d v h k = (omega arith, omega arith)
 module _ (s : Net) (n l d v : ℕ) (e : accepted s n (LinkDirection l d ∷ Network l v ∷ []) ≡ true) where
   route-link : let k = madeAll s n (LinkDirection l d ∷ Network l v ∷ []) .links .setups n l in (k .direction ≡ d) × (k .network ≡ v)
   route-link =
-      let y = set s n (LinkDirection l d) .next in
+      let y = setCall s n (LinkDirection l d) .next in
       let a = first-of (passesSet s n (LinkDirection l d)) _ e in
       let b = first-of (passesSet y n (Network l v)) true (rw a at e) in
       let p = link-after s n l (LinkDirection l d) _ a (upd-same (s .links .setups) n l _) in
@@ -144,7 +144,7 @@ module _ (s : Net) (n l b : ℕ) (hb : b < 2) where
 
   greeted-link : accepted s n (Enable l b ∷ Hello l ∷ []) ≡ true → madeAll s n (Enable l b ∷ Hello l ∷ []) .links .setups n l .enabled ≡ b
   greeted-link e =
-      let y = set s n (Enable l b) .next in
+      let y = setCall s n (Enable l b) .next in
       let a = first-of (passesSet s n (Enable l b)) _ e in
       let c = first-of (passesSet y n (Hello l)) true (rw a at e) in
       rw (made-next y n (Hello l) c) (hello-keeps y n l ∙ rw (made-next s n (Enable l b) a) (enable-link s n l b hb))
@@ -156,10 +156,10 @@ bit-in : (v a : ℕ) → v / 2 ^ a % 2 < 2
 bit-in v a = omega arith
 
 module _ (s : Net) (n : ℕ) (hn : n < s .nodes) where
-  state-reads : (l v : ℕ) (xs : List Setting) → lasting xs ≡ Enable l (bits 31 1 v) ∷ [] → madeAll s n xs .links .setups n l .enabled ≡ bits 31 1 v
+  state-reads : (l v : ℕ) (xs : List Setting) → lasting xs ≡ Enable l (bitsFrom 31 1 v) ∷ [] → madeAll s n xs .links .setups n l .enabled ≡ bitsFrom 31 1 v
       → fieldsOf (R.State l) (readOf (madeAll s n xs) n (R.State l)) ≡ lasting xs
   state-reads l v xs e h =
-      let z = state-back (bits 31 1 v) (bit-in v 31) in
+      let z = state-back (bitsFrom 31 1 v) (bit-in v 31) in
       rw (h, z .0, z .1) (sym e)
 
   -- the fields that are read back are those that were written
@@ -179,13 +179,13 @@ module _ (s : Net) (n : ℕ) (hn : n < s .nodes) where
       let t = madeAll s n (entriesOf 8 v) .own n 0 .directions in
       taken-apart s n hn 8 v (omega arith) (t .second) (λ i l. sym (high-entry t i l) ∙ entries-back s n hn 8 v (omega arith) 8 (omega arith) i l)
   reads-back (R.Route l) v e =
-      let z = route-link s n l (bits 8 4 v) (bits 4 2 v) e in
-      let q = route-back (bits 8 4 v) (bits 4 2 v) (omega arith) (omega arith) in
+      let z = route-link s n l (bitsFrom 8 4 v) (bitsFrom 4 2 v) e in
+      let q = route-back (bitsFrom 8 4 v) (bitsFrom 4 2 v) (omega arith) (omega arith) in
       rw (z .0, z .1, q .0, q .1)
   reads-back (R.State l) v e =
-      by-test (eqb (bits 24 1 v) 1)
-      (λ h. rw h (state-reads l v (Enable l (bits 31 1 v) ∷ Hello l ∷ []) refl (greeted-link s n l (bits 31 1 v) (bit-in v 31) (rw h at e))))
-      (λ h. rw h (state-reads l v (Enable l (bits 31 1 v) ∷ []) refl (enabled-link s n l (bits 31 1 v) (bit-in v 31) (rw h at e))))
+      by-test (eqb (bitsFrom 24 1 v) 1)
+      (λ h. rw h (state-reads l v (Enable l (bitsFrom 31 1 v) ∷ Hello l ∷ []) refl (greeted-link s n l (bitsFrom 31 1 v) (bit-in v 31) (rw h at e))))
+      (λ h. rw h (state-reads l v (Enable l (bitsFrom 31 1 v) ∷ []) refl (enabled-link s n l (bitsFrom 31 1 v) (bit-in v 31) (rw h at e))))
 
 -- "Reading back what an accepted write wrote gives its fields"
 pub written-reads-back : (s : Net) (n : ℕ) → n < s .nodes → (r : Register) (v : ℕ) → accepted s n (fieldsOf r v) ≡ true

@@ -24,7 +24,7 @@ use Rattle.cells.specs.declared.link.Far.{Far}
 use Rattle.cells.specs.declared.link.Far.the-variants.{Nowhere, At}
 use Rattle.clauses.specs.Cables.{enabled}
 use Rattle.grants.specs.Grants.{silenced, farSilenced, disabled}
-use Rattle.settings.specs.Set.{setRows, setAnswer, setMade, set}
+use Rattle.settings.specs.Set.{setRows, setAnswer, setMade, setCall}
 use Rattle.settings.specs.declared.Setting.{Setting}
 use Rattle.settings.specs.declared.Setting.the-variants.{Number, Width, Direction, LinkDirection, Network, Enable, Hello}
 use Rattle.settings.proofs.Leaves.{Leaves, leaves-all, and-then, set-leaves}
@@ -43,7 +43,7 @@ unrefused s n (Hello l) = refl
 
 module _ (s : Net) (n : ℕ) (x : Setting) where
   pub by-rows : passesSet s n x ≡ eqb (refusal (setRows s n x)) passes
-  unfolding set
+  unfolding setCall
   by-rows =
       by-test (eqb (refusal (setRows s n x)) passes)
       (λ e. rw e (ap (λ (k : ℕ). eqb k passes) (unrefused s n x)))
@@ -52,12 +52,12 @@ module _ (s : Net) (n : ℕ) (x : Setting) where
   pub set-passes : Means (passesSet s n x) (Passes (setRows s n x))
   set-passes = rw by-rows (passed (setRows s n x))
 
-  pub made-next : passesSet s n x ≡ true → set s n x .next ≡ setMade s n x
-  unfolding set
+  pub made-next : passesSet s n x ≡ true → setCall s n x .next ≡ setMade s n x
+  unfolding setCall
   made-next h = rw (sym by-rows ∙ h)
 
-  pub kept-next : passesSet s n x ≡ false → set s n x .next ≡ s
-  unfolding set
+  pub kept-next : passesSet s n x ≡ false → setCall s n x .next ≡ s
+  unfolding setCall
   kept-next h = rw (sym by-rows ∙ h)
 
 -- .. by the number that the rows give
@@ -95,7 +95,7 @@ module _ (s : Net) (n : ℕ) (xs : List Setting) where
   none e = (sym e, rw e)
 
 -- one field
-pub one : (s : Net) (n : ℕ) (x : Setting) {b : Bool} {z : Net} → b ≡ passesSet s n x → z ≡ set s n x .next → Written s n (x ∷ []) b z
+pub one : (s : Net) (n : ℕ) (x : Setting) {b : Bool} {z : Net} → b ≡ passesSet s n x → z ≡ setCall s n x .next → Written s n (x ∷ []) b z
 one s n x e h =
     by-test (passesSet s n x)
     (λ q. whole s n (x ∷ []) (rw q) (e ∙ q) h)
@@ -104,22 +104,22 @@ one s n x e h =
 -- several: the cables of a write's states
 pub made-leaves : (xs : List Setting) (s : Net) (n : ℕ) → Leaves s (madeAll s n xs)
 made-leaves [] s n = leaves-all s
-made-leaves (x ∷ xs) s n = and-then (set-leaves s n x) (made-leaves xs (set s n x .next) n)
+made-leaves (x ∷ xs) s n = and-then (set-leaves s n x) (made-leaves xs (setCall s n x .next) n)
 
 pub write-leaves : (s : Net) (n : ℕ) (xs : List Setting) → Leaves s (written s n xs)
 unfolding written
 write-leaves s n xs = by-test (accepted s n xs) (λ e. rw e (made-leaves xs s n)) (λ e. rw e (leaves-all s))
 
 -- one more, made after the others
-pub made-more : (k : ℕ) (f : ℕ → Setting) (s : Net) (n : ℕ) → set (madeAll s n (tab k f)) n (f k) .next ≡ madeAll s n (tab (suc k) f)
+pub made-more : (k : ℕ) (f : ℕ → Setting) (s : Net) (n : ℕ) → setCall (madeAll s n (tab k f)) n (f k) .next ≡ madeAll s n (tab (suc k) f)
 made-more zero f s n = refl
-made-more (suc k) f s n = made-more k (λ i. f (suc i)) (set s n (f zero) .next) n
+made-more (suc k) f s n = made-more k (λ i. f (suc i)) (setCall s n (f zero) .next) n
 
 -- fields that no state refuses
 pub never-refused : (k : ℕ) (f : ℕ → Setting) (s : Net) (n : ℕ) → ((i : ℕ) → i < k → (z : Net) → n < z .nodes → passesSet z n (f i) ≡ true) → n < s .nodes → accepted s n (tab k f) ≡ true
 never-refused zero f s n h hn = refl
 never-refused (suc k) f s n h hn =
-    let z = set s n (f zero) .next in
+    let z = setCall s n (f zero) .next in
     let e = h zero (omega arith) s hn in
     rw e (never-refused k (λ i. f (suc i)) z n (λ i l y hy. h (suc i) (omega arith) y hy) (rw (set-leaves s n (f zero) .nodes) hn))
 
@@ -140,12 +140,12 @@ module _ (s : Net) (n l d v : ℕ) (hd : d < 16) where
       let z = set-passes s n (Network l v) .sure e in
       set-passes s n (LinkDirection l d) .back (z .0, (rw (lt-ltb d 16 hd), (refl, tt)))
 
-  network-passes : passesSet s n (Network l v) ≡ true → passesSet (set s n (LinkDirection l d) .next) n (Network l v) ≡ true
+  network-passes : passesSet s n (Network l v) ≡ true → passesSet (setCall s n (LinkDirection l d) .next) n (Network l v) ≡ true
   network-passes e =
       let z = set-passes s n (Network l v) .sure e in
       rw (made-next s n (LinkDirection l d) (direction-passes e)) (set-passes (setMade s n (LinkDirection l d)) n (Network l v) .back (z .0, (z .1 .0, (rw (upd-same (s .links .setups) n l _) (z .1 .1 .0), tt))))
 
-  passed-before : passesSet s n (LinkDirection l d) ≡ true → passesSet (set s n (LinkDirection l d) .next) n (Network l v) ≡ true → passesSet s n (Network l v) ≡ true
+  passed-before : passesSet s n (LinkDirection l d) ≡ true → passesSet (setCall s n (LinkDirection l d) .next) n (Network l v) ≡ true → passesSet s n (Network l v) ≡ true
   passed-before q r =
       let z = set-passes (setMade s n (LinkDirection l d)) n (Network l v) .sure (rw (made-next s n (LinkDirection l d) q) at r) in
       set-passes s n (Network l v) .back (z .0, (z .1 .0, (rw (upd-same (s .links .setups) n l _) at (z .1 .1 .0), tt)))
@@ -154,10 +154,10 @@ module _ (s : Net) (n l d v : ℕ) (hd : d < 16) where
   route-refused e =
       none s n (LinkDirection l d ∷ Network l v ∷ [])
       (by-test (passesSet s n (LinkDirection l d))
-      (λ q. rw q (by-test (passesSet (set s n (LinkDirection l d) .next) n (Network l v)) (λ r. clash (sym (passed-before q r) ∙ e)) (λ r. rw r)))
+      (λ q. rw q (by-test (passesSet (setCall s n (LinkDirection l d) .next) n (Network l v)) (λ r. clash (sym (passed-before q r) ∙ e)) (λ r. rw r)))
       (λ q. rw q))
 
-  pub route-made : (y : Net) {z : Net} {b : Bool} → passesSet s n (Network l v) ≡ true → y ≡ set s n (LinkDirection l d) .next → b ≡ passesSet y n (Network l v) → z ≡ set y n (Network l v) .next
+  pub route-made : (y : Net) {z : Net} {b : Bool} → passesSet s n (Network l v) ≡ true → y ≡ setCall s n (LinkDirection l d) .next → b ≡ passesSet y n (Network l v) → z ≡ setCall y n (Network l v) .next
       → Written s n (LinkDirection l d ∷ Network l v ∷ []) b z
   route-made y e q f h =
       whole s n (LinkDirection l d ∷ Network l v ∷ []) (rw (direction-passes e, network-passes e)) (f ∙ rw q (network-passes e)) (h ∙ rw q)
@@ -179,29 +179,29 @@ module _ (s : Net) (n l : ℕ) where
   hello-refused =
       none s n (Enable l 0 ∷ Hello l ∷ [])
       (by-test (passesSet s n (Enable l 0))
-      (λ q. rw q (by-test (passesSet (set s n (Enable l 0) .next) n (Hello l)) (λ r. clash (busy q r)) (λ r. rw r)))
+      (λ q. rw q (by-test (passesSet (setCall s n (Enable l 0) .next) n (Hello l)) (λ r. clash (busy q r)) (λ r. rw r)))
       (λ q. rw q))
     where
-      busy : passesSet s n (Enable l 0) ≡ true → passesSet (set s n (Enable l 0) .next) n (Hello l) ≡ true → true ≡ false
+      busy : passesSet s n (Enable l 0) ≡ true → passesSet (setCall s n (Enable l 0) .next) n (Hello l) ≡ true → true ≡ false
       busy q r =
           let z = set-passes (setMade s n (Enable l 0)) n (Hello l) .sure (rw (made-next s n (Enable l 0) q) at r) in
           rw (off) at (z .1 .1 .0)
 
   -- HELLO on one that was just enabled is refused only where that was
-  hello-follows : passesSet (set s n (Enable l 1) .next) n (Hello l) ≡ passesSet s n (Enable l 1)
+  hello-follows : passesSet (setCall s n (Enable l 1) .next) n (Hello l) ≡ passesSet s n (Enable l 1)
   hello-follows = by-test (passesSet s n (Enable l 1)) yes no
     where
-      yes : passesSet s n (Enable l 1) ≡ true → passesSet (set s n (Enable l 1) .next) n (Hello l) ≡ passesSet s n (Enable l 1)
+      yes : passesSet s n (Enable l 1) ≡ true → passesSet (setCall s n (Enable l 1) .next) n (Hello l) ≡ passesSet s n (Enable l 1)
       yes q =
           let z = set-passes s n (Enable l 1) .sure q in
           rw (made-next s n (Enable l 1) q, q) (set-passes (setMade s n (Enable l 1)) n (Hello l) .back (z .0, (refl, (rw (upd-same (s .links .setups) n l _), tt))))
 
-      no : passesSet s n (Enable l 1) ≡ false → passesSet (set s n (Enable l 1) .next) n (Hello l) ≡ passesSet s n (Enable l 1)
+      no : passesSet s n (Enable l 1) ≡ false → passesSet (setCall s n (Enable l 1) .next) n (Hello l) ≡ passesSet s n (Enable l 1)
       no q =
           rw (kept-next s n (Enable l 1) q)
           (by-test (passesSet s n (Hello l)) (λ r. clash (sym (set-passes s n (Enable l 1) .back (set-passes s n (Hello l) .sure r .0, (refl, (refl, tt)))) ∙ q)) (λ r. r ∙ sym q))
 
-  pub hello-made : (y : Net) {z : Net} {a b : Bool} → a ≡ passesSet s n (Enable l 1) → y ≡ set s n (Enable l 1) .next → b ≡ passesSet y n (Hello l) → z ≡ set y n (Hello l) .next
+  pub hello-made : (y : Net) {z : Net} {a b : Bool} → a ≡ passesSet s n (Enable l 1) → y ≡ setCall s n (Enable l 1) .next → b ≡ passesSet y n (Hello l) → z ≡ setCall y n (Hello l) .next
       → Written s n (Enable l 1 ∷ Hello l ∷ []) (a && b) z
   hello-made y e q f h =
       let same : passesSet y n (Hello l) ≡ passesSet s n (Enable l 1) = rw q hello-follows in

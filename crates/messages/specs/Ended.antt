@@ -1,4 +1,4 @@
--- What becomes of a message at its end, the hop being closed: it is obeyed and replied to (document 01, "Switch messages").
+-- What becomes of a message at its end, the hop being closed: it is obeyed and replyPut to (document 01, "Switch messages").
 use Prim.Native.Nat.{ℕ, _/_, _%_}
 use mathlib.Core.List.{List, [], _∷_}
 use Rattle.laws.specs.Pick.{pick}
@@ -34,26 +34,26 @@ said Ack = controlWord ack ∷ []
 said (Value v) = controlWord ack ∷ bytes v
 
 -- a reply in port 12
-abbrev pub replied : World → ℕ → Header → Reply → World
-replied w n h x =
+abbrev pub replyPut : World → ℕ → Header → Reply → World
+replyPut w n h x =
     pushed (pushedAll (pushedAll w n replyPort (words h)) n replyPort (said x)) n replyPort (controlWord end)
 
 -- "The reply's header has the width the node has after the write; if that width cannot carry the reply channel there is no reply and the
 -- answer says Unheard."
 abbrev pub headed : World → ℕ → Header → Reply → Out World
-headed w n h x = pick (isNarrow h) (out Answers.Unheard w) (out Answers.Moved (replied w n h x))
+headed w n h x = pick (isNarrow h) (out Answers.Unheard w) (out Answers.Moved (replyPut w n h x))
 
-abbrev pub sent : World → ℕ → Target → Reply → Out World
-sent w n g x = headed w n (headerOf g (widthAt (w .net) n)) x
+abbrev pub replySent : World → ℕ → Target → Reply → Out World
+replySent w n g x = headed w n (headerOf g (widthAt (w .net) n)) x
 
 -- "A known reply address .. with anything else wrong, an unknown address, or a write that Set would refuse: NACK 0x04, END, nothing
 -- changed."
 abbrev pub obeyed : World → ℕ → Message → Out World
 obeyed w n Malformed = out Answers.Malformed w
-obeyed w n (Wrong g) = sent w n g Nack
-obeyed w n (Read g r) = sent w n g (Value (readOf (w .net) n r))
+obeyed w n (Wrong g) = replySent w n g Nack
+obeyed w n (Read g r) = replySent w n g (Value (readOf (w .net) n r))
 obeyed w n (Write g r v) =
-    sent (withNet w (written (w .net) n (fieldsOf r v))) n g (pick (accepted (w .net) n (fieldsOf r v)) Ack Nack)
+    replySent (withNet w (written (w .net) n (fieldsOf r v))) n g (pick (accepted (w .net) n (fieldsOf r v)) Ack Nack)
 
 -- node n's control unit, at END or PAUSE
 unfoldable pub ended : World → ℕ → ℕ → Out World

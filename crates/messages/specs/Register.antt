@@ -39,9 +39,9 @@ isKnown HighDirections = true
 isKnown (Route l) = true
 isKnown (State l) = true
 
--- the k bits of a value from bit a on, and a number put there
-abbrev pub bits : ℕ → ℕ → ℕ → ℕ
-bits a k v = v / 2 ^ a % 2 ^ k
+-- the k bitsFrom of a value from bit a on, and a number put there
+abbrev pub bitsFrom : ℕ → ℕ → ℕ → ℕ
+bitsFrom a k v = v / 2 ^ a % 2 ^ k
 
 abbrev pub placed : ℕ → ℕ → ℕ → ℕ
 placed a k v = v % 2 ^ k * 2 ^ a
@@ -58,8 +58,8 @@ fieldsOf Width v = Set.Width (pick (eqb (v % 2) 1) 1 3) ∷ []
 fieldsOf Number v = Set.Number (v % 2 ^ 16) ∷ []
 fieldsOf LowDirections v = entriesOf 0 v
 fieldsOf HighDirections v = entriesOf 8 v
-fieldsOf (Route l) v = Set.LinkDirection l (bits 8 4 v) ∷ Set.Network l (bits 4 2 v) ∷ []
-fieldsOf (State l) v = Set.Enable l (bits 31 1 v) ∷ pick (eqb (bits 24 1 v) 1) (Set.Hello l ∷ []) []
+fieldsOf (Route l) v = Set.LinkDirection l (bitsFrom 8 4 v) ∷ Set.Network l (bitsFrom 4 2 v) ∷ []
+fieldsOf (State l) v = Set.Enable l (bitsFrom 31 1 v) ∷ pick (eqb (bitsFrom 24 1 v) 1) (Set.Hello l ∷ []) []
 
 -- what a register reads: ".. and read 0, as does HELLO"
 abbrev pub readOf : Net → ℕ → Register → ℕ

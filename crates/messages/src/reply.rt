@@ -21,7 +21,7 @@ ghost use Rattle.answers.specs.Out.{out};
 ghost use Rattle.cells.specs.World.{world};
 ghost use Rattle.acts.specs.Acts.{pushedAll};
 ghost use Rattle.acts.specs.Needs.{Room};
-ghost use Rattle.messages.specs.Ended.{byte, bytes, said, replied, sent};
+ghost use Rattle.messages.specs.Ended.{byte, bytes, said, replyPut, replySent};
 ghost use Rattle.messages.specs.Needs.{longest};
 
 // What follows a reply's header.
@@ -70,7 +70,7 @@ fn say(st: &mut [u32], mem: &mut [u16], slot: Slot, x: Reply)
 
 fn put_reply(st: &mut [u32], mem: &mut [u16], slot: Slot, h: Header, x: Reply)
     requires { ⌜ Room (world (now st) (now mem)) (slot .0) replyPort longest ⌝ }
-    ensures { λ r. ⌜ world (now (st .exit)) (now (mem .exit)) ≡ replied (world (now (st .entry)) (now (mem .entry))) (slot .0) h x ⌝ }
+    ensures { λ r. ⌜ world (now (st .exit)) (now (mem .exit)) ≡ replyPut (world (now (st .entry)) (now (mem .entry))) (slot .0) h x ⌝ }
 {
     push_header(st, mem, slot, REPLY_PORT, h);
     say(st, mem, slot, x);
@@ -80,7 +80,7 @@ fn put_reply(st: &mut [u32], mem: &mut [u16], slot: Slot, h: Header, x: Reply)
 // A reply is sent, if the node's width at this moment can carry where it is to go.
 pub fn send(st: &mut [u32], mem: &mut [u16], slot: Slot, g: Target, x: Reply) -> Answer
     requires { ⌜ Room (world (now st) (now mem)) (slot .0) replyPort longest ⌝ }
-    ensures { λ r. ⌜ out r (world (now (st .exit)) (now (mem .exit))) ≡ sent (world (now (st .entry)) (now (mem .entry))) (slot .0) g x ⌝ }
+    ensures { λ r. ⌜ out r (world (now (st .exit)) (now (mem .exit))) ≡ replySent (world (now (st .entry)) (now (mem .entry))) (slot .0) g x ⌝ }
 {
     let h = make_header(g, width_at(st, slot));
     if is_narrow(h) {

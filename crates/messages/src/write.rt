@@ -13,7 +13,7 @@ ghost use Prim.Native.Nat.{_%_, _<_, _≤_};
 ghost use lib.Dec.{eqb};
 ghost use Rattle.laws.specs.Pick.{pick};
 ghost use Rattle.cells.specs.View.{view};
-ghost use Rattle.settings.specs.Set.{AllCabled, set};
+ghost use Rattle.settings.specs.Set.{AllCabled, setCall};
 ghost use Rattle.messages.specs.Register.{entriesOf, fieldsOf};
 ghost use Rattle.messages.specs.declared.register.Register.the-variants.{Route, State};
 ghost use Rattle.messages.specs.Write.{passesSet, accepted, written};
@@ -21,7 +21,7 @@ ghost use Rattle.messages.specs.Write.{passesSet, accepted, written};
 // One Set: whether it was made.
 fn tried(st: &mut [u32], slot: Slot, x: Setting) -> bool
     requires { ⌜ AllCabled (view (now st)) ⌝ }
-    ensures { λ r. ⌜ (r ≡ passesSet (view (now (st .entry))) (slot .0) x) × (view (now (st .exit)) ≡ set (view (now (st .entry))) (slot .0) x .next) ⌝ }
+    ensures { λ r. ⌜ (r ≡ passesSet (view (now (st .entry))) (slot .0) x) × (view (now (st .exit)) ≡ setCall (view (now (st .entry))) (slot .0) x .next) ⌝ }
 {
     number(set(st, slot, x)) == 0
 }

@@ -95,12 +95,12 @@ numberIn (Channel m c) = m
 numberIn (Unit m) = m
 
 -- "Compare the header's number with the node's own .. none means this node. Otherwise look the bit up in the direction table."
-abbrev pub byWay : Net → ℕ → ℕ → Target → Way → Plan
-byWay s n p g ThisNode = herePlan s n g
-byWay s n p g (OtherNode b) = routePlan s n (entryOf (s .own n 0 .directions) b) (networkAt s n p)
+abbrev pub stepByWay : Net → ℕ → ℕ → Target → Way → Plan
+stepByWay s n p g ThisNode = herePlan s n g
+stepByWay s n p g (OtherNode b) = routePlan s n (entryOf (s .own n 0 .directions) b) (networkAt s n p)
 
 abbrev pub wayPlan : Net → ℕ → ℕ → Target → Plan
-wayPlan s n p g = byWay s n p g (wayTo (widthAt s n) (numberIn g) (numberAt s n))
+wayPlan s n p g = stepByWay s n p g (wayTo (widthAt s n) (numberIn g) (numberAt s n))
 
 -- "With no circuit and a header short of its tokens: Waiting. With a whole header the switch reads it, anew at each such Step, in this
 -- order: width differs from the switch: Refused, Split. .."
@@ -125,5 +125,5 @@ byHop w n p Hops.Unit = Hear
 byHop w n p (Hops.Dropped x) = Drop x
 
 -- "Empty: Idle."
-unfoldable pub planOf : World → ℕ → ℕ → Plan
-planOf w n p = pick (eqb (w .net .ports .counters n p .held) 0) Idle (byHop w n p (hop (w .net) n p))
+unfoldable pub stepPlan : World → ℕ → ℕ → Plan
+stepPlan w n p = pick (eqb (w .net .ports .counters n p .held) 0) Idle (byHop w n p (hop (w .net) n p))

@@ -34,8 +34,8 @@ ghost use Rattle.acts.specs.Needs.{NumberFits};
 ghost use Rattle.cells.specs.View.{view};
 ghost use Rattle.cells.specs.World.{world};
 ghost use Rattle.plans.specs.Needs.{Reads};
-ghost use Rattle.plans.specs.Plan.{routePlan, channelPlan, unitPlan, herePlan, byWay, wayPlan};
-ghost use Rattle.plans.specs.Plan.{headerPlan, outPlan, handPlan, byHop, planOf};
+ghost use Rattle.plans.specs.Plan.{routePlan, channelPlan, unitPlan, herePlan, stepByWay, wayPlan};
+ghost use Rattle.plans.specs.Plan.{headerPlan, outPlan, handPlan, byHop, stepPlan};
 
 pub enum Plan {
     // nothing is held
@@ -111,7 +111,7 @@ fn here_plan(st: &[u32], slot: Slot, g: Target) -> Plan
 }
 
 fn by_way(st: &[u32], slot: Slot, p: usize, g: Target, way: Way) -> Plan
-    ensures { λ r. ⌜ r ≡ byWay (view (now (st .entry))) (slot .0) p g way ⌝ }
+    ensures { λ r. ⌜ r ≡ stepByWay (view (now (st .entry))) (slot .0) p g way ⌝ }
 {
     match way {
         Way::ThisNode => here_plan(st, slot, g),
@@ -187,7 +187,7 @@ fn by_hop(st: &[u32], mem: &[u16], slot: Slot, p: usize, h: Hop) -> Plan
 // What a Step of a port does.
 pub fn plan_of(st: &[u32], mem: &[u16], slot: Slot, p: usize) -> Plan
     requires { ⌜ Reads (world (now st) (now mem)) (slot .0) p 0 ⌝ }
-    ensures { λ r. ⌜ r ≡ planOf (world (now (st .entry)) (now (mem .entry))) (slot .0) p ⌝ }
+    ensures { λ r. ⌜ r ≡ stepPlan (world (now (st .entry)) (now (mem .entry))) (slot .0) p ⌝ }
 {
     let k = port::at(st, slot, p);
     if k.counters.held == 0 {

@@ -11,7 +11,7 @@ use Rattle.cells.specs.Changes.{enabledAs}
 use Rattle.cells.specs.declared.link.Far.{Far}
 use Rattle.cells.specs.declared.link.Far.the-variants.{Nowhere, At}
 use Rattle.grants.specs.Grants.{considered, helloed, silenced, farSilenced, disabled}
-use Rattle.settings.specs.Set.{AllCabled, setRows, setMade, set}
+use Rattle.settings.specs.Set.{AllCabled, setRows, setMade, setCall}
 use Rattle.settings.specs.declared.Setting.{Setting}
 use Rattle.settings.specs.declared.Setting.the-variants.{Number, Width, Direction, LinkDirection, Network, Enable, Hello}
 
@@ -48,8 +48,8 @@ module _ (s : Net) (n : ℕ) where
       by-test (eqb v 0) (λ e. rw e (of-disabled l)) (λ e. rw e (record { nodes = refl; ports = refl; cables = refl }))
   of-made (Hello l) = record { nodes = refl; ports = refl; cables = refl }
 
-  pub set-leaves : (x : Setting) → Leaves s (set s n x .next)
-  unfolding set
+  pub set-leaves : (x : Setting) → Leaves s (setCall s n x .next)
+  unfolding setCall
   set-leaves x =
       by-test (eqb (refusal (setRows s n x)) passes) (λ e. rw e (of-made x)) (λ e. rw e (leaves-all s))
 

@@ -12,7 +12,7 @@ use Rattle.answers.specs.Out.{Out, out}
 use Rattle.answers.specs.declared.Answer.the-variants.{No, Done}
 use Rattle.answers.proofs.Refusals.{passed, refuses, goes-on}
 use Rattle.cells.specs.View.{Net}
-use Rattle.settings.specs.Set.{setRows, linkThere, LinkThere, setAnswer, setMade, set}
+use Rattle.settings.specs.Set.{setRows, linkThere, LinkThere, setAnswer, setMade, setCall}
 use Rattle.settings.specs.Wire.{wireRows, wired, wire}
 use Rattle.settings.specs.declared.Setting.{Setting}
 use Rattle.settings.specs.declared.Setting.the-variants.{Number, Width, Direction, LinkDirection, Network, Enable, Hello}
@@ -45,12 +45,12 @@ wire-there s n l m k e =
 
 -- Refused, or gone on with, by the number that the rows give
 module _ (s : Net) (n : ℕ) (x : Setting) (k : ℕ) (e : k ≡ refusal (setRows s n x)) where
-  pub set-refuses : (k ≡ passes → ⊥) → out (No k) s ≡ set s n x
-  unfolding set
+  pub set-refuses : (k ≡ passes → ⊥) → out (No k) s ≡ setCall s n x
+  unfolding setCall
   set-refuses h = refuses (setRows s n x) s (out (setAnswer s n x) (setMade s n x)) k e h
 
-  pub set-goes-on : (o : Out Net) → k ≡ passes → o ≡ out (setAnswer s n x) (setMade s n x) → o ≡ set s n x
-  unfolding set
+  pub set-goes-on : (o : Out Net) → k ≡ passes → o ≡ out (setAnswer s n x) (setMade s n x) → o ≡ setCall s n x
+  unfolding setCall
   set-goes-on o h q = goes-on (setRows s n x) s (out (setAnswer s n x) (setMade s n x)) k e h q
 
 module _ (s : Net) (n l m j : ℕ) (k : ℕ) (e : k ≡ refusal (wireRows s n l m j)) where

@@ -9,7 +9,7 @@ use Rattle.names.specs.Size.{links, networks, directions, bits}
 use Rattle.names.specs.No.{NoSuch, Value, Busy}
 use Rattle.names.specs.Number.{isNumber}
 use Rattle.routing.specs.Direction.{withEntry}
-use Rattle.answers.specs.Rows.{Row, row}
+use Rattle.answers.specs.Rows.{Row, refusedIf}
 use Rattle.answers.specs.Out.{Out, out, attempt}
 use Rattle.answers.specs.declared.Answer.{Answer}
 use Rattle.answers.specs.declared.Answer.the-variants.{Done, Granted}
@@ -23,7 +23,7 @@ use Rattle.grants.specs.Grants.{Cabled, helloed, helloGrant, disabled}
 use Rattle.settings.specs.declared.Setting.{Setting}
 use Rattle.settings.specs.declared.Setting.the-variants.{Number, Width, Direction, LinkDirection, Network, Enable, Hello}
 
--- the link that is set is present, if a link is
+-- the link that is setCall is present, if a link is
 abbrev pub linkThere : Setting → Bool
 linkThere (Number v) = true
 linkThere (Width v) = true
@@ -76,9 +76,9 @@ setBusy s n (Hello l) = helloBusy s n l
 
 abbrev pub setRows : Net → ℕ → Setting → List Row
 setRows s n x =
-    row (not (ltb n (s .nodes) && linkThere x)) NoSuch ∷ row (not (inRange x)) Value ∷ row (setBusy s n x) Busy ∷ []
+    refusedIf (not (ltb n (s .nodes) && linkThere x)) NoSuch ∷ refusedIf (not (inRange x)) Value ∷ refusedIf (setBusy s n x) Busy ∷ []
 
--- what is set; "Disabling zeroes and un-greets both ends"
+-- what is setCall; "Disabling zeroes and un-greets both ends"
 abbrev pub setMade : Net → ℕ → Setting → Net
 setMade s n (Number v) = withNode s n (numberedAs (s .own n 0) v)
 setMade s n (Width v) = withNode s n (widthAs (s .own n 0) v)
@@ -98,8 +98,8 @@ setAnswer s n (Network l v) = Done
 setAnswer s n (Enable l v) = Done
 setAnswer s n (Hello l) = Granted (helloGrant s n l)
 
-unfoldable pub set : Net → ℕ → Setting → Out Net
-set s n x = attempt (setRows s n x) s (out (setAnswer s n x) (setMade s n x))
+unfoldable pub setCall : Net → ℕ → Setting → Out Net
+setCall s n x = attempt (setRows s n x) s (out (setAnswer s n x) (setMade s n x))
 
 -- What the code has on its way: the link is present, and cables lead to links that are present (a sound state's do)
 abbrev pub LinkThere : Setting → Type 0

@@ -5,7 +5,7 @@ use mathlib.Core.List.{List, [], _∷_}
 use lib.Dec.{eqb, ltb}
 use Rattle.names.specs.Size.{links}
 use Rattle.names.specs.No.{NoSuch, Value, Busy}
-use Rattle.answers.specs.Rows.{Row, row}
+use Rattle.answers.specs.Rows.{Row, refusedIf}
 use Rattle.answers.specs.Out.{Out, out, attempt}
 use Rattle.answers.specs.declared.Answer.the-variants.{Done}
 use Rattle.cells.specs.View.{Net, withCable}
@@ -22,9 +22,9 @@ endTaken s n l = eqb (s .links .cables n l .wired) 1 || eqb (s .links .setups n 
 -- "NoSuch: slot, link not present; Value: a link joined to itself; Busy: Wire on a wired or enabled end"
 abbrev pub wireRows : Net → ℕ → ℕ → ℕ → ℕ → List Row
 wireRows s n l m k =
-    row (not (linkAt s n l && linkAt s m k)) NoSuch
-    ∷ row (eqb n m && eqb l k) Value
-    ∷ row (endTaken s n l || endTaken s m k) Busy
+    refusedIf (not (linkAt s n l && linkAt s m k)) NoSuch
+    ∷ refusedIf (eqb n m && eqb l k) Value
+    ∷ refusedIf (endTaken s n l || endTaken s m k) Busy
     ∷ []
 
 abbrev pub cableTo : ℕ → ℕ → Cable

@@ -11,7 +11,7 @@ use names::Slot;
 ghost use mathlib.Core.Path.{_≡_};
 ghost use Rattle.answers.specs.Out.{out};
 ghost use Rattle.cells.specs.View.{view};
-ghost use Rattle.settings.specs.Set.{AllCabled, set};
+ghost use Rattle.settings.specs.Set.{AllCabled, setCall};
 
 // What is to be set. Values are as wide as they are asked for: those out of range are refused.
 pub enum Setting {
@@ -34,7 +34,7 @@ pub enum Setting {
 // Set, whole: refused by its number with nothing changed, or made.
 pub fn set(st: &mut [u32], slot: Slot, x: Setting) -> Answer
     requires { ⌜ AllCabled (view (now st)) ⌝ }
-    ensures { λ r. ⌜ out r (view (now (st .exit))) ≡ set (view (now (st .entry))) (slot .0) x ⌝ }
+    ensures { λ r. ⌜ out r (view (now (st .exit))) ≡ setCall (view (now (st .entry))) (slot .0) x ⌝ }
 {
     let no = set_no(st, slot, x);
     if no != 0 {

@@ -24,7 +24,7 @@ use Rattle.tokens.proofs.Channels.{legal-channel}
 use Rattle.ports.specs.Queue.{capacity, ring}
 use Rattle.ports.specs.Memory.{place, stretch}
 use Rattle.ports.proofs.Ports.{ring-start, ring-next}
-use Rattle.grammar.specs.Stage.{step, isBad}
+use Rattle.grammar.specs.Stage.{nextStage, isBad}
 use Rattle.grammar.specs.Walk.{walk}
 use Rattle.grammar.specs.declared.stage.Stage.{Stage}
 use Rattle.grammar.specs.declared.stage.Stage.the-variants.{Bad, Fresh, Body, OneDue, ThreeDue, TwoDue, LastDue}
@@ -71,11 +71,11 @@ good-before TwoDue q e = refl
 good-before LastDue q e = refl
 
 -- the first of three bytes, the second, the last
-two-due : (w : ℕ) → isThree w ≡ true → isBad (step Fresh (shapeOf w)) ≡ false → step Fresh (shapeOf w) ≡ TwoDue
+two-due : (w : ℕ) → isThree w ≡ true → isBad (nextStage Fresh (shapeOf w)) ≡ false → nextStage Fresh (shapeOf w) ≡ TwoDue
 two-due w t =
-    by-shape (λ x. isBad (step Fresh x) ≡ false → step Fresh x ≡ TwoDue) w (λ b. clash b) (λ b. clash b) (λ b. clash b)
+    by-shape (λ x. isBad (nextStage Fresh x) ≡ false → nextStage Fresh x ≡ TwoDue) w (λ b. clash b) (λ b. clash b) (λ b. clash b)
     (λ l b. absurd (small l (eqb-true (w / 1024 % 2) 1 t)))
-    (λ g. by-three (λ x. isBad (step Fresh x) ≡ false → step Fresh x ≡ TwoDue) (w - 0x600)
+    (λ g. by-three (λ x. isBad (nextStage Fresh x) ≡ false → nextStage Fresh x ≡ TwoDue) (w - 0x600)
     (λ l b. refl)
     (λ b. refl)
     (λ l b. clash b)
@@ -84,7 +84,7 @@ two-due w t =
     small : {w : ℕ} → w < 0x300 → w / 1024 % 2 ≡ 1 → ⊥
     small l e = omega arith
 
-last-due : (x : Shape) → isBad (step TwoDue x) ≡ false → step TwoDue x ≡ LastDue
+last-due : (x : Shape) → isBad (nextStage TwoDue x) ≡ false → nextStage TwoDue x ≡ LastDue
 last-due S.Wrong b = clash b
 last-due S.Body b = clash b
 last-due S.Closing b = clash b
@@ -94,10 +94,10 @@ last-due S.Channel b = refl
 last-due S.Unit b = clash b
 
 -- a last byte that is no control is a channel that is there
-last-legal : (w : ℕ) → isControl w ≡ false → isBad (step LastDue (shapeOf w)) ≡ false → Door (valueOf w)
+last-legal : (w : ℕ) → isControl w ≡ false → isBad (nextStage LastDue (shapeOf w)) ≡ false → Door (valueOf w)
 last-legal w n =
-    by-shape (λ x. isBad (step LastDue x) ≡ false → Door (valueOf w)) w (λ b. clash b) (λ b. clash b) (λ b. clash b) (λ l b. clash b)
-    (λ g. by-three (λ x. isBad (step LastDue x) ≡ false → Door (valueOf w)) (w - 0x600)
+    by-shape (λ x. isBad (nextStage LastDue x) ≡ false → Door (valueOf w)) w (λ b. clash b) (λ b. clash b) (λ b. clash b) (λ l b. clash b)
+    (λ g. by-three (λ x. isBad (nextStage LastDue x) ≡ false → Door (valueOf w)) (w - 0x600)
     (λ l b. named g (legal-channel (w - 0x600) .sure l))
     (λ b. clash b)
     (λ e b. clash (sym (unit g e) ∙ n))
@@ -111,9 +111,9 @@ last-legal w n =
 
 third : (a b c : ℕ) (q : List ℕ) → isBad (walk Fresh (a ∷ b ∷ c ∷ q)) ≡ false → isThree a ≡ true → isControl c ≡ false → Door (valueOf c)
 third a b c q e t n =
-    let z = good-before (step (step (step Fresh (shapeOf a)) (shapeOf b)) (shapeOf c)) q e in
-    let y = good-before (step (step Fresh (shapeOf a)) (shapeOf b)) (c ∷ q) e in
-    let x = good-before (step Fresh (shapeOf a)) (b ∷ c ∷ q) e in
+    let z = good-before (nextStage (nextStage (nextStage Fresh (shapeOf a)) (shapeOf b)) (shapeOf c)) q e in
+    let y = good-before (nextStage (nextStage Fresh (shapeOf a)) (shapeOf b)) (c ∷ q) e in
+    let x = good-before (nextStage Fresh (shapeOf a)) (b ∷ c ∷ q) e in
     let p = two-due a t x in
     let l = last-due (shapeOf b) (rw p at y) in
     last-legal c n (rw (p, l) at z)

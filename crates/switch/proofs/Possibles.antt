@@ -39,8 +39,8 @@ use Rattle.messages.specs.Needs.{Ready}
 use Rattle.sound.specs.Sound.{sound}
 use Rattle.sound.proofs.Facts.{fair, reaches, cable-facts, room-facts, pair-facts, silent-facts}
 use Rattle.plans.specs.Plan.{markedWidth, sizeOf, sameWidth, targetAt, networkAt, candidate, lowestLink, routePlan, lowestTile, tileFree}
-use Rattle.plans.specs.Plan.{channelPlan, unitPlan, herePlan, numberIn, byWay, wayPlan, headerPlan, outPlan, handPlan, byHop, planOf}
-use Rattle.switch.specs.Needs.{Takes, FarRoom, Possible}
+use Rattle.plans.specs.Plan.{channelPlan, unitPlan, herePlan, numberIn, stepByWay, wayPlan, headerPlan, outPlan, handPlan, byHop, stepPlan}
+use Rattle.switch.specs.Needs.{Takes, FarRoom, StepPossible}
 use Rattle.switch.proofs.Legal.{LegalDoor, legal-target}
 use Rattle.switch.proofs.Cabled.{cabled}
 
@@ -57,13 +57,13 @@ module _ (w : World) (s : sound w ≡ true) (n p : ℕ) (hn : n < w .net .nodes)
   takes : (k : ℕ) → k ≤ w .net .ports .counters n p .held → Takes w n p k
   takes k h = record { holds = holds k h; up = λ l. cabled w s n p hn l }
 
-  route-possible : (d v : ℕ) → Possible w n p (routePlan (w .net) n d v)
+  route-possible : (d v : ℕ) → StepPossible w n p (routePlan (w .net) n d v)
   route-possible d v =
       by-test (ltb (lowestLink (w .net) n d v) links)
       (λ e. rw e (ltb-true _ _ e))
       (λ e. rw e (by-test (ltb (first links (candidate (w .net) n d v)) links) (λ f. rw f tt) (λ f. rw f tt)))
 
-  channel-possible : (c : ℕ) → Door c → Takes w n p (sizeOf (widthAt (w .net) n)) → Possible w n p (channelPlan (w .net) n c)
+  channel-possible : (c : ℕ) → Door c → Takes w n p (sizeOf (widthAt (w .net) n)) → StepPossible w n p (channelPlan (w .net) n c)
   channel-possible c d t =
       by-test (eqb (lowestTile (w .net) n) tileLinks)
       (λ e. rw e tt)
@@ -71,21 +71,21 @@ module _ (w : World) (s : sound w ≡ true) (n p : ℕ) (hn : n < w .net .nodes)
       (λ f. rw f tt)
       (λ f. rw f (first-found (tileFree (w .net) n) tileLinks (eqb-false _ _ e), d, t))))
 
-  unit-possible : Takes w n p (sizeOf (widthAt (w .net) n)) → Possible w n p (unitPlan (w .net) n)
+  unit-possible : Takes w n p (sizeOf (widthAt (w .net) n)) → StepPossible w n p (unitPlan (w .net) n)
   unit-possible t =
       by-test (not (eqb (w .net .units .serving n 0 .kind) 0) || not (eqb (w .net .ports .counters n replyPort .held) 0))
       (λ e. rw e tt)
       (λ e. rw e t)
 
-  here-possible : (g : Target) → LegalDoor g → Takes w n p (sizeOf (widthAt (w .net) n)) → Possible w n p (herePlan (w .net) n g)
+  here-possible : (g : Target) → LegalDoor g → Takes w n p (sizeOf (widthAt (w .net) n)) → StepPossible w n p (herePlan (w .net) n g)
   here-possible (Channel m c) d t = channel-possible c d t
   here-possible (Unit m) d t = unit-possible t
 
-  way-possible : (g : Target) (y : Way) → LegalDoor g → Takes w n p (sizeOf (widthAt (w .net) n)) → Possible w n p (byWay (w .net) n p g y)
+  way-possible : (g : Target) (y : Way) → LegalDoor g → Takes w n p (sizeOf (widthAt (w .net) n)) → StepPossible w n p (stepByWay (w .net) n p g y)
   way-possible g ThisNode d t = here-possible g d t
   way-possible g (OtherNode b) d t = route-possible (entryOf (w .net .own n 0 .directions) b) (networkAt (w .net) n p)
 
-  header-possible : hop (w .net) n p ≡ Hops.Shut → Possible w n p (headerPlan w n p)
+  header-possible : hop (w .net) n p ≡ Hops.Shut → StepPossible w n p (headerPlan w n p)
   header-possible e =
       by-test (ltb (w .net .ports .counters n p .held) (sizeOf (markedWidth (wordAt w n p 0))))
       (λ f. rw f tt)
@@ -94,7 +94,7 @@ module _ (w : World) (s : sound w ≡ true) (n p : ℕ) (hn : n < w .net .nodes)
       (λ g. rw g tt)))
     where
       whole : sizeOf (markedWidth (wordAt w n p 0)) ≤ w .net .ports .counters n p .held → markedWidth (wordAt w n p 0) ≡ widthAt (w .net) n
-          → Possible w n p (wayPlan (w .net) n p (targetAt w n p))
+          → StepPossible w n p (wayPlan (w .net) n p (targetAt w n p))
       whole h q =
           way-possible (targetAt w n p) (wayTo (widthAt (w .net) n) (numberIn (targetAt w n p)) (numberAt (w .net) n))
           (legal-target w s n p hn hp e (λ t. rw t at h))
@@ -117,7 +117,7 @@ module _ (w : World) (s : sound w ≡ true) (n p : ℕ) (hn : n < w .net .nodes)
       some : (a b : ℕ) → (a ≡ 0 → ⊥) → a + b ≤ capacity → b + 1 ≤ capacity
       some a b ne h = omega arith
 
-  out-possible : (l : ℕ) → 1 ≤ w .net .ports .counters n p .held → hop (w .net) n p ≡ Hops.Out l → Possible w n p (outPlan (w .net) n l)
+  out-possible : (l : ℕ) → 1 ≤ w .net .ports .counters n p .held → hop (w .net) n p ≡ Hops.Out l → StepPossible w n p (outPlan (w .net) n l)
   out-possible l h e =
       let there = pair-facts w s n hn PortLink p hp l (rw e) .0 in
       by-test (eqb (w .net .links .flows n l .credit) 0)
@@ -131,7 +131,7 @@ module _ (w : World) (s : sound w ≡ true) (n p : ℕ) (hn : n < w .net .nodes)
       ap (λ (i : ℕ). getD (w .memory) (place n p + i) 0) e
 
   hand-possible : (c t : ℕ) → 1 ≤ w .net .ports .counters n p .held → hop (w .net) n p ≡ Hops.Channel c t
-      → Possible w n p (handPlan (w .net) n c t (wordAt w n p 0))
+      → StepPossible w n p (handPlan (w .net) n c t (wordAt w n p 0))
   hand-possible c t h e =
       let tile = pair-facts w s n hn PortTile p hp t (rw e) .0 in
       let x = oldest (fair w s n hn p hp .head-in) in
@@ -165,15 +165,15 @@ module _ (w : World) (s : sound w ≡ true) (n p : ℕ) (hn : n < w .net .nodes)
         cabled = cabled w s;
       }
 
-  hop-possible : (h : Hop) → hop (w .net) n p ≡ h → 1 ≤ w .net .ports .counters n p .held → Possible w n p (byHop w n p h)
+  hop-possible : (h : Hop) → hop (w .net) n p ≡ h → 1 ≤ w .net .ports .counters n p .held → StepPossible w n p (byHop w n p h)
   hop-possible Hops.Shut e k = header-possible e
   hop-possible (Hops.Out l) e k = out-possible l k e
   hop-possible (Hops.Channel c t) e k = hand-possible c t k e
   hop-possible Hops.Unit e k = (takes 1 k, message-ready e)
   hop-possible (Hops.Dropped x) e k = takes 1 k
 
-  pub plan-possible : Possible w n p (planOf w n p)
-  unfolding planOf
+  pub plan-possible : StepPossible w n p (stepPlan w n p)
+  unfolding stepPlan
   plan-possible =
       by-test (eqb (w .net .ports .counters n p .held) 0)
       (λ e. rw e tt)

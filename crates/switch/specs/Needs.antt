@@ -29,14 +29,14 @@ FarRoom w Nowhere = Unit
 FarRoom w (At m j) = Room w (m .0) j 1
 
 -- a plan that can be carried out
-abbrev pub Possible : World → ℕ → ℕ → Plan → Type 0
-Possible w n p Idle = Unit
-Possible w n p Wait = Unit
-Possible w n p (OpenOut l) = l < links
-Possible w n p (OpenChannel c t) = (t < tileLinks) × Door c × Takes w n p (sizeOf (widthAt (w .net) n))
-Possible w n p OpenUnit = Takes w n p (sizeOf (widthAt (w .net) n))
-Possible w n p (Refuse x) = Unit
-Possible w n p (MoveOut l) = (l < links) × Takes w n p 1 × FarRoom w (farOf (w .net .links .cables n l))
-Possible w n p (Hand c t) = (t < tileLinks) × Given (w .net) n c (firstAt w n p) × Takes w n p 1
-Possible w n p Hear = Takes w n p 1 × Ready w n
-Possible w n p (Drop x) = Takes w n p 1
+abbrev pub StepPossible : World → ℕ → ℕ → Plan → Type 0
+StepPossible w n p Idle = Unit
+StepPossible w n p Wait = Unit
+StepPossible w n p (OpenOut l) = l < links
+StepPossible w n p (OpenChannel c t) = (t < tileLinks) × Door c × Takes w n p (sizeOf (widthAt (w .net) n))
+StepPossible w n p OpenUnit = Takes w n p (sizeOf (widthAt (w .net) n))
+StepPossible w n p (Refuse x) = Unit
+StepPossible w n p (MoveOut l) = (l < links) × Takes w n p 1 × FarRoom w (farOf (w .net .links .cables n l))
+StepPossible w n p (Hand c t) = (t < tileLinks) × Given (w .net) n c (firstAt w n p) × Takes w n p 1
+StepPossible w n p Hear = Takes w n p 1 × Ready w n
+StepPossible w n p (Drop x) = Takes w n p 1

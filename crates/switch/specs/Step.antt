@@ -21,10 +21,10 @@ use Rattle.grants.specs.Grants.{considered}
 use Rattle.messages.specs.Heard.{listens}
 use Rattle.messages.specs.Ended.{ended}
 use Rattle.names.specs.No.{NoSuch}
-use Rattle.answers.specs.Rows.{Row, row}
+use Rattle.answers.specs.Rows.{Row, refusedIf}
 use Rattle.answers.specs.Out.{Out, out, attempt}
 use Rattle.answers.specs.declared.Answer.the-variants as Answers
-use Rattle.plans.specs.Plan.{planOf}
+use Rattle.plans.specs.Plan.{stepPlan}
 use Rattle.plans.specs.declared.Plan.{Plan}
 use Rattle.plans.specs.declared.Plan.the-variants.{Idle, Wait, OpenOut, OpenChannel, OpenUnit, Refuse, MoveOut, Hand, Hear, Drop}
 
@@ -69,11 +69,11 @@ closesOut s n p l x = pick (closes x) (linkedTo (shut s n p) n l Peers.Nobody) s
 abbrev pub closesChannel : Net → ℕ → ℕ → ℕ → ℕ → ℕ → Net
 closesChannel s n p c t x = pick (closes x) (claimedBy (tiledTo (shut s n p) n t Peers.Nobody) n c Peers.Nobody) s
 
-abbrev pub idle : Net → ℕ → Net
-idle s n = withServing s n (ofPeer Peers.Nobody)
+abbrev pub servesNobody : Net → ℕ → Net
+servesNobody s n = withServing s n (ofPeer Peers.Nobody)
 
 abbrev pub closesUnit : Net → ℕ → ℕ → Net
-closesUnit s n p = idle (shut s n p) n
+closesUnit s n p = servesNobody (shut s n p) n
 
 abbrev pub closesDropped : Net → ℕ → ℕ → ℕ → Net
 closesDropped s n p x = pick (closes x) (shut s n p) s
@@ -115,30 +115,30 @@ abbrev pub drops : World → ℕ → ℕ → World
 drops w n p = withNet (took w n p) (closesDropped (took w n p .net) n p (firstAt w n p))
 
 -- a plan carried out, and its answer: "answering Opened with the link, Waiting, or Refused, NoRoute .. Moved .. Dropped, with the cause"
-abbrev pub performed : World → ℕ → ℕ → Plan → Out World
-performed w n p Idle = out Answers.Idle w
-performed w n p Wait = out Answers.Waiting w
-performed w n p (OpenOut l) = out (Answers.OpenedLink l) (withNet w (opensOut (w .net) n p l))
-performed w n p (OpenChannel c t) =
+abbrev pub stepPerformed : World → ℕ → ℕ → Plan → Out World
+stepPerformed w n p Idle = out Answers.Idle w
+stepPerformed w n p Wait = out Answers.Waiting w
+stepPerformed w n p (OpenOut l) = out (Answers.OpenedLink l) (withNet w (opensOut (w .net) n p l))
+stepPerformed w n p (OpenChannel c t) =
     out Answers.OpenedChannel (stripped (withNet w (opensChannel (w .net) n p c t)) n p (widthAt (w .net) n))
-performed w n p OpenUnit =
+stepPerformed w n p OpenUnit =
     out Answers.OpenedUnit (stripped (withNet w (opensUnit (w .net) n p)) n p (widthAt (w .net) n))
-performed w n p (Refuse x) = out (Answers.Refused x) (withNet w (hopped (w .net) n p (Hops.Dropped x)))
-performed w n p (MoveOut l) = out Answers.Moved (movesOut w n p l)
-performed w n p (Hand c t) = out Answers.Moved (hands w n p c t)
-performed w n p Hear = hears w n p
-performed w n p (Drop x) = out (Answers.Dropped x) (drops w n p)
+stepPerformed w n p (Refuse x) = out (Answers.Refused x) (withNet w (hopped (w .net) n p (Hops.Dropped x)))
+stepPerformed w n p (MoveOut l) = out Answers.Moved (movesOut w n p l)
+stepPerformed w n p (Hand c t) = out Answers.Moved (hands w n p c t)
+stepPerformed w n p Hear = hears w n p
+stepPerformed w n p (Drop x) = out (Answers.Dropped x) (drops w n p)
 
 -- "port not present" is NoSuch
 abbrev pub portAt : Net → ℕ → ℕ → Bool
 portAt s n p = ltb n (s .nodes) && ltb p ports
 
 abbrev pub stepRows : Net → ℕ → ℕ → List Row
-stepRows s n p = row (not (portAt s n p)) NoSuch ∷ []
+stepRows s n p = refusedIf (not (portAt s n p)) NoSuch ∷ []
 
 -- what a Step makes: its plan, carried out
 abbrev pub stepMade : World → ℕ → ℕ → Out World
-stepMade w n p = performed w n p (planOf w n p)
+stepMade w n p = stepPerformed w n p (stepPlan w n p)
 
 unfoldable pub step : World → ℕ → ℕ → Out World
 step w n p = attempt (stepRows (w .net) n p) w (stepMade w n p)

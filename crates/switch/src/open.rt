@@ -16,7 +16,7 @@ ghost use Rattle.names.specs.Size.{links, ports, tileLinks};
 ghost use Rattle.acts.specs.Needs.{Door};
 ghost use Rattle.cells.specs.View.{view};
 ghost use Rattle.switch.specs.Step.{opensOut, opensChannel, serves, opensUnit, closesOut};
-ghost use Rattle.switch.specs.Step.{closesChannel, idle, closesUnit, closesDropped};
+ghost use Rattle.switch.specs.Step.{closesChannel, servesNobody, closesUnit, closesDropped};
 
 // Outward by a link.
 pub fn open_out(st: &mut [u32], slot: Slot, p: usize, l: usize)
@@ -83,7 +83,7 @@ pub fn close_channel(st: &mut [u32], slot: Slot, p: usize, c: usize, t: usize, w
 
 fn idle(st: &mut [u32], slot: Slot)
     requires { ⌜ slot .0 < view (now st) .nodes ⌝ }
-    ensures { λ r. ⌜ view (now (st .exit)) ≡ idle (view (now (st .entry))) (slot .0) ⌝ }
+    ensures { λ r. ⌜ view (now (st .exit)) ≡ servesNobody (view (now (st .entry))) (slot .0) ⌝ }
 {
     unit::put_serves(st, slot, of_peer(Peer::Nobody));
 }

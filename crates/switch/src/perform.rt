@@ -22,8 +22,8 @@ ghost use Rattle.acts.specs.Needs.{Door};
 ghost use Rattle.cells.specs.View.{view};
 ghost use Rattle.cells.specs.World.{world};
 ghost use Rattle.plans.specs.Plan.{sizeOf};
-ghost use Rattle.switch.specs.Step.{opensChannel, opensUnit, stripped, performed};
-ghost use Rattle.switch.specs.Needs.{Takes, Possible};
+ghost use Rattle.switch.specs.Step.{opensChannel, opensUnit, stripped, stepPerformed};
+ghost use Rattle.switch.specs.Needs.{Takes, StepPossible};
 
 // "this node's channel: .. Opened and the header is removed"
 fn land_channel(st: &mut [u32], mem: &mut [u16], slot: Slot, p: usize, c: usize, t: usize)
@@ -50,9 +50,9 @@ fn land_unit(st: &mut [u32], mem: &mut [u16], slot: Slot, p: usize)
 }
 
 pub fn perform(st: &mut [u32], mem: &mut [u16], slot: Slot, p: usize, plan: Plan) -> Answer
-    requires { ⌜ (slot .0 < view (now st) .nodes) × (p < ports) × Possible (world (now st) (now mem)) (slot .0) p plan ⌝ }
+    requires { ⌜ (slot .0 < view (now st) .nodes) × (p < ports) × StepPossible (world (now st) (now mem)) (slot .0) p plan ⌝ }
     ensures { λ r. ⌜ out r (world (now (st .exit)) (now (mem .exit)))
-        ≡ performed (world (now (st .entry)) (now (mem .entry))) (slot .0) p plan ⌝ }
+        ≡ stepPerformed (world (now (st .entry)) (now (mem .entry))) (slot .0) p plan ⌝ }
 {
     match plan {
         Plan::Idle => Answer::Idle,

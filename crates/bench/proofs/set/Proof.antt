@@ -1,11 +1,11 @@
--- `bench::set` meets its contract. Assumes nothing.
+-- `bench::setCall` meets its contract. Assumes nothing.
 use mathlib.Core.Path.{refl, sym, _∙_}
 use borrow.Author.Needs.{needs}
 use borrow.Author.Tests.{not-true, not-false}
 use Rattle.answers.specs.Out.{out}
 use Rattle.cells.specs.View.{view}
 use Rattle.cells.specs.World.{world}
-use Rattle.settings.specs.Set.{setRows, setAnswer, setMade, set}
+use Rattle.settings.specs.Set.{setRows, setAnswer, setMade, setCall}
 use Rattle.bench.specs.Calls.{Set}
 use Rattle.bench.proofs.Cabled.{all-cabled}
 use Rattle.bench.proofs.Lifted.{refused-unsound, on-net}
@@ -21,7 +21,7 @@ set-requires : tie.Need-set-requires
 set-requires c κs = let a = c .before .before .before .before .before .before .args in all-cabled (world (a .st .now) (a .mem .now)) (sym (c .before .before .is-sound .ensures) ∙ not-false _ (c .before .if1 .left))
 
 returns-2 : tie.Need-returns-2
-unfolding set
+unfolding setCall
 returns-2 c =
     let a = c .before .before .before .before .before .before .before .before .before .args in
     on-net (world (a .st .now) (a .mem .now)) (Set (a .slot) (a .x)) (setRows (view (a .st .now)) (a .slot .0) (a .x)) refl (sym (c .before .before .before .before .before .is-sound .ensures) ∙ not-false _ (c .before .before .before .before .if1 .left)) (out (setAnswer (view (a .st .now)) (a .slot .0) (a .x)) (setMade (view (a .st .now)) (a .slot .0) (a .x))) refl _ (c .before .before .set .ensures)

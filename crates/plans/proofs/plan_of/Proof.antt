@@ -2,20 +2,20 @@
 use mathlib.Core.Path.{_∙_}
 use borrow.Author.Needs.{needs}
 use borrow.Author.Tests.{eq-eqb, ne-eqb}
-use Rattle.plans.specs.Plan.{planOf}
+use Rattle.plans.specs.Plan.{stepPlan}
 use Rattle.plans.proofs.Held.{holds-some}
 use Rattle.plans.proofs.plan_of.Statement.{statement}
 use Rattle.plans.proofs.plan_of.Tie as tie
 
 returns : tie.Need-returns
-unfolding planOf
+unfolding stepPlan
 returns c = rw (eq-eqb _ _ (rw (c .before .before .at .ensures) at (c .if1 .taken)))
 
 by-hop-requires : tie.Need-by-hop-requires
 by-hop-requires c κs = (c .before .before .before .before .before .before .pre .0, holds-some _ _ _ (rw (c .before .before .before .at .ensures) at (c .before .if1 .left)) (c .before .before .before .before .before .before .pre .1))
 
 returns-2 : tie.Need-returns-2
-unfolding planOf
+unfolding stepPlan
 returns-2 c = rw (ne-eqb _ _ (rw (c .before .before .before .before .at .ensures) at (c .before .before .if1 .left))) (c .by-hop .ensures ∙ rw (c .before .hop-of .ensures, c .before .before .before .before .at .ensures))
 
 pub plan-of-spec : {M : Type 1} → statement M
