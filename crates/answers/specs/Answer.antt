@@ -1,10 +1,12 @@
--- "If an answer is an enum, a definition gives this paper's number and values for each of its cases." (document 01, "Where each form belongs")
+-- "If an answer is an enum, a definition gives this paper's number and values for each of its cases." (document 01, "Where each form
+-- belongs")
 use Prim.Native.Nat.{ℕ}
 use Rattle.names.specs.No.{passes}
 use Rattle.circuits.specs.declared.Cause.{Cause}
 use Rattle.circuits.specs.declared.Cause.the-variants.{Split, NoRoute}
 use Rattle.answers.specs.declared.Answer.{Answer}
-use Rattle.answers.specs.declared.Answer.the-variants.{No, Done, Granted, Token, Idle, Waiting, Moved, OpenedLink, OpenedChannel, OpenedUnit, Refused, Dropped, Malformed, Unheard}
+use Rattle.answers.specs.declared.Answer.the-variants.{No, Done, Granted, Token, Idle, Waiting, Moved, OpenedLink, OpenedChannel}
+use Rattle.answers.specs.declared.Answer.the-variants.{OpenedUnit, Refused, Dropped, Malformed, Unheard}
 
 -- "A refused call returns its number": the number for no, and none for every other answer
 abbrev pub numberOf : Answer → ℕ
@@ -45,8 +47,8 @@ abbrev pub causeOf : Cause → ℕ
 causeOf Split = 0
 causeOf NoRoute = 1
 
--- the number that its case bears: a refusal's, "The answer to HELLO gives the grant", the token that Input took, the link that a circuit opened
--- by, a circuit's cause
+-- the number that its case bears: a refusal's, "The answer to HELLO gives the grant", the token that Input took, the link that a circuit
+-- opened by, a circuit's cause
 abbrev pub answerValue : Answer → ℕ
 answerValue (No n) = n
 answerValue Done = 0

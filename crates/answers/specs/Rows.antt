@@ -1,5 +1,5 @@
--- "Numbers for no .. Given exactly when .. The lowest number wins." (document 01): the refusals of a call are rows, each a test and its number,
--- and the first whose test holds is given.
+-- "Numbers for no .. Given exactly when .. The lowest number wins." (document 01): the refusals of a call are rows, each a test and its
+-- number, and the first whose test holds is given.
 use Prim.{Unit}
 use Prim.Native.Nat.{ℕ}
 use mathlib.Core.Path.{_≡_}

@@ -27,8 +27,11 @@ pub one-result : (w : World) (c : Call) (r q : Answer) (st zt mem nem : List ℕ
     → out q (world zt nem) ≡ apply w c
     → (r ≡ q) × (st ≡ zt) × (mem ≡ nem)
 one-result w c r q st zt mem nem a b =
-    let e : out r (world st mem) ≡ out q (world zt nem) = a ∙ sym b in
-    (ap (λ (o : Out World). o .answer) e, whole-state st zt (ap (λ (o : Out World). o .next .net) e), ap (λ (o : Out World). o .next .memory) e)
+    let e : out r (world st mem) ≡ out q (world zt nem) = a ∙ sym b in (
+      ap (λ (o : Out World). o .answer) e,
+      whole-state st zt (ap (λ (o : Out World). o .next .net) e),
+      ap (λ (o : Out World). o .next .memory) e,
+    )
 
 -- a Step's answer is no refusal of the call
 no-refusal : (w : World) (n p : ℕ) (x : Plan) → numberOf (stepPerformed w n p x .answer) ≡ Names.passes

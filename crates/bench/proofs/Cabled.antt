@@ -2,7 +2,7 @@
 use mathlib.Core.Path.{_≡_}
 use mathlib.Core.Bool.{true}
 use Rattle.cells.specs.World.{World}
-use Rattle.settings.specs.Set.{AllCabled}
+use Rattle.settings.specs.Needs.{AllCabled}
 use Rattle.sound.specs.Sound.{sound}
 use Rattle.switch.proofs.Cabled.{cabled}
 

@@ -1,5 +1,5 @@
--- The published statement of every call: which rows refuse it, what it makes where none does, and `apply`, which is both. A contract of the bench
--- is one equation with `apply`, for all arguments and any two memories lent.
+-- The published statement of every call: which rows refuse it, what it makes where none does, and `apply`, which is both. A contract of
+-- the bench is one equation with `apply`, for all arguments and any two memories lent.
 use Prim.Native.Nat.{ℕ}
 use mathlib.Core.Bool.{not}
 use mathlib.Core.List.{List, _∷_}

@@ -43,7 +43,8 @@ module _ (s : Net) (n p : ℕ) where
   counters-alone x = rw (upd-own (s .ports .legs) n p, upd-own (s .ports .networks) n p, upd-own (s .ports .senders) n p)
 
   pub leg-alone : (x : Leg)
-      → withPort s n p (record { counters = s .ports .counters n p; leg = x; network = s .ports .networks n p; sender = s .ports .senders n p })
+      → withPort s n p
+      (record { counters = s .ports .counters n p; leg = x; network = s .ports .networks n p; sender = s .ports .senders n p })
       ≡ withLeg s n p x
   leg-alone x = rw (upd-own (s .ports .counters) n p, upd-own (s .ports .networks) n p, upd-own (s .ports .senders) n p)
 
@@ -53,7 +54,8 @@ module _ (s : Net) (n p : ℕ) where
   network-alone x = rw (upd-own (s .ports .counters) n p, upd-own (s .ports .legs) n p, upd-own (s .ports .senders) n p)
 
   pub sender-alone : (x : Circuit)
-      → withPort s n p (record { counters = s .ports .counters n p; leg = s .ports .legs n p; network = s .ports .networks n p; sender = x })
+      → withPort s n p
+      (record { counters = s .ports .counters n p; leg = s .ports .legs n p; network = s .ports .networks n p; sender = x })
       ≡ withSender s n p x
   sender-alone x = rw (upd-own (s .ports .counters) n p, upd-own (s .ports .legs) n p, upd-own (s .ports .networks) n p)
 

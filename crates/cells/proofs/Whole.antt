@@ -27,7 +27,8 @@ port-table xs ys e =
     λ j. λ n i. record { counters = e j .counters n i; leg = e j .legs n i; network = e j .networks n i; sender = e j .senders n i }
 
 end-table : (xs ys : List ℕ) → endTables xs ≡ endTables ys → table end toEnd xs ≡ table end toEnd ys
-end-table xs ys e = λ j. λ n i. record { aim = e j .aims n i; sending = e j .sendings n i; claim = e j .claims n i; buffer = e j .buffers n i }
+end-table xs ys e =
+    λ j. λ n i. record { aim = e j .aims n i; sending = e j .sendings n i; claim = e j .claims n i; buffer = e j .buffers n i }
 
 unit-table : (xs ys : List ℕ) → unitTables xs ≡ unitTables ys → table unit toUnit xs ≡ table unit toUnit ys
 unit-table xs ys e = λ j. λ n i. record { serves = e j .serving n i; hearing = e j .hearings n i }

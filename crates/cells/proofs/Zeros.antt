@@ -37,7 +37,8 @@ module _ (n : ℕ) where
   zero-nodes = ap (λ (l : ℕ). l / stride) (zeros-long (n * stride)) ∙ omega arith
 
   -- every record of a kind that reads zeros as it reads nothing
-  zero-table : {A : Type 0} (k : Kind) → Within k → (f : List ℕ → A) → f (zeros (k .size)) ≡ f [] → (m i : ℕ) → table k f (zeros (n * stride)) m i ≡ f []
+  zero-table : {A : Type 0} (k : Kind) → Within k → (f : List ℕ → A) → f (zeros (k .size)) ≡ f [] → (m i : ℕ)
+      → table k f (zeros (n * stride)) m i ≡ f []
   zero-table k w f z m i =
       by-test (inside k (zeros (n * stride)) m i)
       (λ e.

@@ -1,5 +1,5 @@
--- "Fresh: all nodes number 0, width three, directions 0, links unwired, disabled, network 0; channel-ends unaimed; every token word 0." (document
--- 01, "Calls"): every record is all zeros, but for the width.
+-- "Fresh: all nodes number 0, width three, directions 0, links unwired, disabled, network 0; channel-ends unaimed; every token word 0."
+-- (document 01, "Calls"): every record is all zeros, but for the width.
 use Prim.Native.Nat.{ℕ, _*_}
 use mathlib.Core.Bool.{_&&_}
 use mathlib.Core.List.{[]}

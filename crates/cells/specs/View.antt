@@ -128,27 +128,81 @@ wholeUnit s n = record { serves = s .units .serving n 0; hearing = s .units .hea
 
 abbrev pub withNode : Net → ℕ → Node → Net
 withNode s n k =
-    record { nodes = s .nodes; own = upd (s .own) n 0 k; links = s .links; ports = s .ports; tiles = s .tiles; ends = s .ends; units = s .units; rest = s .rest }
+    record {
+      nodes = s .nodes;
+      own = upd (s .own) n 0 k;
+      links = s .links;
+      ports = s .ports;
+      tiles = s .tiles;
+      ends = s .ends;
+      units = s .units;
+      rest = s .rest;
+    }
 
 abbrev pub withLinks : Net → LinkTables → Net
 withLinks s x =
-    record { nodes = s .nodes; own = s .own; links = x; ports = s .ports; tiles = s .tiles; ends = s .ends; units = s .units; rest = s .rest }
+    record {
+      nodes = s .nodes;
+      own = s .own;
+      links = x;
+      ports = s .ports;
+      tiles = s .tiles;
+      ends = s .ends;
+      units = s .units;
+      rest = s .rest;
+    }
 
 abbrev pub withPorts : Net → PortTables → Net
 withPorts s x =
-    record { nodes = s .nodes; own = s .own; links = s .links; ports = x; tiles = s .tiles; ends = s .ends; units = s .units; rest = s .rest }
+    record {
+      nodes = s .nodes;
+      own = s .own;
+      links = s .links;
+      ports = x;
+      tiles = s .tiles;
+      ends = s .ends;
+      units = s .units;
+      rest = s .rest;
+    }
 
 abbrev pub withTile : Net → ℕ → ℕ → Tile → Net
 withTile s n i k =
-    record { nodes = s .nodes; own = s .own; links = s .links; ports = s .ports; tiles = upd (s .tiles) n i k; ends = s .ends; units = s .units; rest = s .rest }
+    record {
+      nodes = s .nodes;
+      own = s .own;
+      links = s .links;
+      ports = s .ports;
+      tiles = upd (s .tiles) n i k;
+      ends = s .ends;
+      units = s .units;
+      rest = s .rest;
+    }
 
 abbrev pub withEnds : Net → EndTables → Net
 withEnds s x =
-    record { nodes = s .nodes; own = s .own; links = s .links; ports = s .ports; tiles = s .tiles; ends = x; units = s .units; rest = s .rest }
+    record {
+      nodes = s .nodes;
+      own = s .own;
+      links = s .links;
+      ports = s .ports;
+      tiles = s .tiles;
+      ends = x;
+      units = s .units;
+      rest = s .rest;
+    }
 
 abbrev pub withUnits : Net → UnitTables → Net
 withUnits s x =
-    record { nodes = s .nodes; own = s .own; links = s .links; ports = s .ports; tiles = s .tiles; ends = s .ends; units = x; rest = s .rest }
+    record {
+      nodes = s .nodes;
+      own = s .own;
+      links = s .links;
+      ports = s .ports;
+      tiles = s .tiles;
+      ends = s .ends;
+      units = x;
+      rest = s .rest;
+    }
 
 -- A whole record of a group written: its entry of each table
 

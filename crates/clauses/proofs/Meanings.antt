@@ -1,5 +1,5 @@
--- What each test of the Sound list means, both ways: what a sound state hands to a call, and what a call has to show to leave it sound. Assumes
--- nothing.
+-- What each test of the Sound list means, both ways: what a sound state hands to a call, and what a call has to show to leave it sound.
+-- Assumes nothing.
 use Prim.Native.Nat.{ℕ, _+_, _<_, _≤_}
 use mathlib.Core.Bool.{Bool, true, false, not}
 use mathlib.Core.List.{List}
@@ -152,7 +152,8 @@ credits s n l = either (equal _ _) (equal _ _)
 
 pub rooms : (s : Net) (n l : ℕ)
     → Means (room s n l)
-    ((m : Slot) (k : ℕ) → farOf (s .links .cables n l) ≡ At m k → s .links .flows n l .credit + s .ports .counters (m .0) k .held ≤ capacity)
+    ((m : Slot) (k : ℕ) → farOf (s .links .cables n l) ≡ At m k
+    → s .links .flows n l .credit + s .ports .counters (m .0) k .held ≤ capacity)
 rooms s n l =
     on-far {P = λ m k. s .links .flows n l .credit + s .ports .counters (m .0) k .held ≤ capacity}
     (farOf (s .links .cables n l)) _ (λ m k. at-most _ _)
@@ -180,7 +181,8 @@ far-enabled s k (At m j) e =
     }
 
 pub greetings : (s : Net) (n l : ℕ)
-    → Means (greeted s n l) ((s .links .flows n l .greeted ≡ 1 → ⊥) ⊎ ((s .links .setups n l .enabled ≡ 1) × Hears s (s .links .cables n l)))
+    → Means (greeted s n l)
+    ((s .links .flows n l .greeted ≡ 1 → ⊥) ⊎ ((s .links .setups n l .enabled ≡ 1) × Hears s (s .links .cables n l)))
 greetings s n l = either (denied (equal _ _)) (also (equal _ _) (far-enabled s (s .links .cables n l) (farOf (s .links .cables n l)) refl))
 
 -- What names something is named back by it

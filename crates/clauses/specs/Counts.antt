@@ -1,6 +1,6 @@
--- "counts within their limits" (document 01, "Sound"), record by record: numbers, widths, directions, networks, credits, what is held, and
--- codes that mean something. What nothing reads now is not looked at: a destination while unaimed, a far end while unwired, the network of a
--- port that no circuit of a channel-end has taken, what an idle control unit heard last.
+-- "counts within their limits" (document 01, "Sound"), record by record: numbers, widths, directions, networks, credits, what is held,
+-- and codes that mean something. What nothing reads now is not looked at: a destination while unaimed, a far end while unwired, the
+-- network of a port that no circuit of a channel-end has taken, what an idle control unit heard last.
 use Prim.Native.Nat.{ℕ}
 use mathlib.Core.Bool.{Bool, not, _&&_, _||_}
 use lib.Dec.{eqb, ltb, leb}

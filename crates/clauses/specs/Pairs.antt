@@ -1,6 +1,6 @@
--- "a port's output names that port back and no other; .. each claim and open channel-end names one circuit that exists" (document 01, "Sound"):
--- what names something is named back by it. One clause, in both directions for each pair: ports and links, tile links, the control unit,
--- claims; channel-ends and the claims that they have; channel-ends and the ports that they send by.
+-- "a port's output names that port back and no other; .. each claim and open channel-end names one circuit that exists" (document 01,
+-- "Sound"): what names something is named back by it. One clause, in both directions for each pair: ports and links, tile links, the
+-- control unit, claims; channel-ends and the claims that they have; channel-ends and the ports that they send by.
 use Prim.Native.Nat.{ℕ}
 use mathlib.Core.Bool.{Bool, true, false, not, _&&_, _||_}
 use lib.Dec.{eqb, ltb}
@@ -17,7 +17,8 @@ use Rattle.clauses.specs.Counts.{tilePort, isFree}
 use Rattle.clauses.specs.declared.pairs.Named.{Named}
 use Rattle.clauses.specs.declared.pairs.Named.the-variants.{Nothing, One}
 use Rattle.clauses.specs.declared.pairs.Role.{Role}
-use Rattle.clauses.specs.declared.pairs.Role.the-variants.{PortLink, LinkPort, PortTile, TilePort, PortUnit, UnitPort, PortClaim, ClaimPort, EndClaim, ClaimEnd, EndPort, PortEnd}
+use Rattle.clauses.specs.declared.pairs.Role.the-variants.{PortLink, LinkPort, PortTile, TilePort, PortUnit, UnitPort, PortClaim}
+use Rattle.clauses.specs.declared.pairs.Role.the-variants.{ClaimPort, EndClaim, ClaimEnd, EndPort, PortEnd}
 
 -- what a peer names: a port, a channel-end, or a channel-end that can be claimed (the sink cannot)
 abbrev pub portOf : Peer → Named

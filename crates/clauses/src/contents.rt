@@ -15,7 +15,8 @@ ghost use mathlib.Core.Path.{_≡_};
 ghost use lib.ListN.{length};
 ghost use Rattle.cells.specs.View.{view};
 ghost use Rattle.cells.specs.World.{world};
-ghost use Rattle.clauses.specs.Contents.{ready, stages, front, back, contents, legalWord, filled, legalWords, heldTokens, heardTokens};
+ghost use Rattle.clauses.specs.Contents.{ready, stages, front, back, contents, legalWord, filled, legalWords, heldTokens};
+ghost use Rattle.clauses.specs.Contents.{heardTokens};
 
 // The memory has this port's stretch, and its counters are those of a ring.
 fn ready(st: &[u32], mem: &[u16], slot: Slot, p: usize) -> bool

@@ -20,7 +20,8 @@ ghost use mathlib.Core.Path.{_≡_};
 ghost use Rattle.cells.specs.View.{view};
 ghost use Rattle.cells.specs.World.{hop};
 ghost use Rattle.circuits.specs.Circuit.{peerOf};
-ghost use Rattle.clauses.specs.Pairs.{portOf, endOf, claimable, straightTo, linkOf, tileOf, unitOf, claimOf, namedBy, backward, players, isNamed, namesBack, agrees, taken, openBy, openEnd, silent};
+ghost use Rattle.clauses.specs.Pairs.{portOf, endOf, claimable, straightTo, linkOf, tileOf, unitOf, claimOf, namedBy, backward};
+ghost use Rattle.clauses.specs.Pairs.{players, isNamed, namesBack, agrees, taken, openBy, openEnd, silent};
 
 // What is named.
 pub enum Named {

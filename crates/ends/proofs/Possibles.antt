@@ -112,7 +112,8 @@ module _ (w : World) (n c t : ℕ) (g : Target) (s : Sends w n c g) where
       (λ e. rw (eqb-true (w .net .ends .sendings n c .kind) 0 e))
       (λ e.
       let o = rw e at (open-facts w (s .all) n (s .node) c (s .end)) in
-      also (as-is (not (eqb (w .net .ends .aims n c .kind) 0))) (as-is (openBy (w .net) n (peerOf (w .net .ends .sendings n c)))) .sure o .1)
+      also (as-is (not (eqb (w .net .ends .aims n c .kind) 0)))
+      (as-is (openBy (w .net) n (peerOf (w .net .ends .sendings n c)))) .sure o .1)
 
   aim-facts : AimFacts (w .net .ends .aims n c)
   aim-facts = ⊎-elim (λ z. absurd (s .aimed z)) (λ f. f) (end-facts w (s .all) n (s .node) c (s .end) .aim)

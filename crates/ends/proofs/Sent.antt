@@ -50,7 +50,8 @@ module _ (w : World) (n c : ℕ) (g : Target) (x : Token) where
   refused-by : {k : ℕ} → Refusing k → (k ≡ Names.passes → ⊥) → (rs : List Row) (done : Out World)
       → out (No k) w
       ≡ attempt
-      (refusedIf (eqb k (Names.number Names.Hardware)) Names.Hardware ∷ refusedIf (eqb k (Names.number Names.Privileged)) Names.Privileged ∷ rs)
+      (refusedIf (eqb k (Names.number Names.Hardware)) Names.Hardware ∷ refusedIf (eqb k (Names.number Names.Privileged)) Names.Privileged
+      ∷ rs)
       w
       done
   refused-by none h rs done = absurd (h refl)
@@ -72,7 +73,8 @@ module _ (w : World) (n c : ℕ) (x : Token) where
   unfolding output
   not-there e = rw e
 
-  pub unaimed : endAt (w .net) n c ≡ true → eqb (w .net .ends .aims n c .kind) 0 ≡ true → out (No (Names.number Names.Unaimed)) w ≡ output w n c x
+  pub unaimed : endAt (w .net) n c ≡ true → eqb (w .net .ends .aims n c .kind) 0 ≡ true
+      → out (No (Names.number Names.Unaimed)) w ≡ output w n c x
   unfolding output
   unaimed e a = rw (e, a)
 

@@ -1,5 +1,5 @@
--- "Fresh: all nodes number 0, width three, directions 0, links unwired, disabled, network 0; channel-ends unaimed; every token word 0. A node
--- count outside 1..16 is NoSuch at any memory length." (document 01, "Calls")
+-- "Fresh: all nodes number 0, width three, directions 0, links unwired, disabled, network 0; channel-ends unaimed; every token word 0. A
+-- node count outside 1..16 is NoSuch at any memory length." (document 01, "Calls")
 use Prim.Native.Nat.{ℕ}
 use mathlib.Core.Bool.{Bool, not, _&&_}
 use mathlib.Core.List.{List, [], _∷_}

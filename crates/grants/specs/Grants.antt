@@ -1,9 +1,7 @@
 -- Document 01, "Credits", on a link of the state.
-use Prim.Native.Nat.{ℕ, _+_, _<_}
-use Prim.{Unit}
+use Prim.Native.Nat.{ℕ, _+_}
 use lib.Dec.{eqb}
 use Rattle.laws.specs.Pick.{pick}
-use Rattle.names.specs.Size.{links}
 use Rattle.credits.specs.Grant.{grantOf}
 use Rattle.cells.specs.View.{Net, withFlow, withSetup}
 use Rattle.cells.specs.World.{farOf}
@@ -47,15 +45,6 @@ helloed s n l = considered (greets s n l) n l
 -- "The answer to HELLO gives the grant."
 unfoldable pub helloGrant : Net → ℕ → ℕ → ℕ
 helloGrant s n l = granted (greets s n l) n l
-
--- among so many nodes, a cable leads nowhere or to a link that is there
-abbrev pub Leads : ℕ → Far → Type 0
-Leads nodes Nowhere = Unit
-Leads nodes (At m j) = (m .0 < nodes) × (j < links)
-
--- .. at link l of node n: a sound state has it for every link
-abbrev pub Cabled : Net → ℕ → ℕ → Type 0
-Cabled s n l = Leads (s .nodes) (farOf (s .links .cables n l))
 
 -- "Disabling zeroes and un-greets both ends": the far end stays enabled
 abbrev pub silenced : Flow

@@ -13,7 +13,9 @@ ghost use mathlib.Core.Path.{_≡_};
 ghost use Prim.Native.Nat.{_<_};
 ghost use Rattle.names.specs.Size.{links};
 ghost use Rattle.cells.specs.View.{view};
-ghost use Rattle.grants.specs.Grants.{farHeld, grantTo, granted, considered, silenced, greeting, helloed, helloGrant, Leads, Cabled, farSilenced, disabled};
+ghost use Rattle.grants.specs.Grants.{farHeld, grantTo, granted, considered, silenced, greeting, helloed, helloGrant};
+ghost use Rattle.grants.specs.Needs.{Leads, Cabled};
+ghost use Rattle.grants.specs.Grants.{farSilenced, disabled};
 
 // The tokens held at the far end; none where the cable leads nowhere.
 fn far_held(st: &[u32], k: Cable) -> u32
@@ -41,7 +43,8 @@ fn grant_to(st: &[u32], k: Cable, f: Flow) -> u32
 // A grant is considered on a link, and given: the answer is the grant.
 pub fn consider(st: &mut [u32], slot: Slot, l: usize) -> u32
     requires { ⌜ (slot .0 < view (now st) .nodes) × (l < links) ⌝ }
-    ensures { λ r. ⌜ (r ≡ granted (view (now (st .entry))) (slot .0) l) × (view (now (st .exit)) ≡ considered (view (now (st .entry))) (slot .0) l) ⌝ }
+    ensures { λ r. ⌜ (r ≡ granted (view (now (st .entry))) (slot .0) l)
+        × (view (now (st .exit)) ≡ considered (view (now (st .entry))) (slot .0) l) ⌝ }
 {
     let k = link::at(st, slot, l);
     let mut f = k.flow;
@@ -67,7 +70,8 @@ fn greeting(st: &[u32], k: Cable) -> Flow
 // HELLO on an enabled link: the answer is the grant.
 pub fn hello(st: &mut [u32], slot: Slot, l: usize) -> u32
     requires { ⌜ (slot .0 < view (now st) .nodes) × (l < links) ⌝ }
-    ensures { λ r. ⌜ (r ≡ helloGrant (view (now (st .entry))) (slot .0) l) × (view (now (st .exit)) ≡ helloed (view (now (st .entry))) (slot .0) l) ⌝ }
+    ensures { λ r. ⌜ (r ≡ helloGrant (view (now (st .entry))) (slot .0) l)
+        × (view (now (st .exit)) ≡ helloed (view (now (st .entry))) (slot .0) l) ⌝ }
 {
     let k = link::at(st, slot, l);
     let f = greeting(st, k.cable);

@@ -83,7 +83,8 @@ module _ (s : Net) (n : ℕ) (hn : n < s .nodes) (bit v : ℕ) (hb : bit ≤ 8) 
   unfolding field
   small i = omega arith
 
-  entries-back : (k : ℕ) → k ≤ 8 → (i : ℕ) → i < k → entryOf (madeAll s n (tab k (λ j. Direction (bit + j) (field v j))) .own n 0 .directions) (bit + i) ≡ field v i
+  entries-back : (k : ℕ) → k ≤ 8 → (i : ℕ) → i < k
+      → entryOf (madeAll s n (tab k (λ j. Direction (bit + j) (field v j))) .own n 0 .directions) (bit + i) ≡ field v i
   entries-back zero h i l = absurd (omega arith)
   entries-back (suc k) h i l =
       let f : ℕ → Setting = λ j. Direction (bit + j) (field v j) in
@@ -92,12 +93,14 @@ module _ (s : Net) (n : ℕ) (hn : n < s .nodes) (bit v : ℕ) (hb : bit ≤ 8) 
       rw (← made-more k f s n, made-next z n (f k) (entry-passes s n hn bit v hb k (omega arith) z there), upd-same (z .own) n 0 _)
       (elim (ℕ-discrete i k) [
         | yes d ↦ rw d (entry-same (z .own n 0 .directions) (bit + k) (field v k) ∙ small k)
-        | no d ↦ entry-other (z .own n 0 .directions) (bit + k) (bit + i) (field v k) (omega arith) (omega arith) (λ q. d (omega arith)) ∙ entries-back k (omega arith) i (omega arith)
+        | no d ↦ entry-other (z .own n 0 .directions) (bit + k) (bit + i) (field v k) (omega arith) (omega arith) (λ q. d (omega arith))
+            ∙ entries-back k (omega arith) i (omega arith)
       ])
 
   -- a register that has those entries
   taken-apart : (r : ℕ) → ((i : ℕ) → i < 8 → field r i ≡ field v i) → entriesOf bit r ≡ entriesOf bit v
-  taken-apart r h = tab-ext 8 (λ i. Direction (bit + i) (field r i)) (λ i. Direction (bit + i) (field v i)) (λ i l. ap (Direction (bit + i)) (h i l))
+  taken-apart r h =
+      tab-ext 8 (λ i. Direction (bit + i) (field r i)) (λ i. Direction (bit + i) (field v i)) (λ i l. ap (Direction (bit + i)) (h i l))
 
 low-entry : (t : Directions) (i : ℕ) → i < 8 → entryOf t (0 + i) ≡ field (t .first) i
 unfolding entryOf
@@ -156,14 +159,16 @@ bit-in : (v a : ℕ) → v / 2 ^ a % 2 < 2
 bit-in v a = omega arith
 
 module _ (s : Net) (n : ℕ) (hn : n < s .nodes) where
-  state-reads : (l v : ℕ) (xs : List Setting) → lasting xs ≡ Enable l (bitsFrom 31 1 v) ∷ [] → madeAll s n xs .links .setups n l .enabled ≡ bitsFrom 31 1 v
+  state-reads : (l v : ℕ) (xs : List Setting) → lasting xs ≡ Enable l (bitsFrom 31 1 v) ∷ []
+      → madeAll s n xs .links .setups n l .enabled ≡ bitsFrom 31 1 v
       → fieldsOf (R.State l) (readOf (madeAll s n xs) n (R.State l)) ≡ lasting xs
   state-reads l v xs e h =
       let z = state-back (bitsFrom 31 1 v) (bit-in v 31) in
       rw (h, z .0, z .1) (sym e)
 
   -- the fields that are read back are those that were written
-  pub reads-back : (r : Register) (v : ℕ) → accepted s n (fieldsOf r v) ≡ true → fieldsOf r (readOf (madeAll s n (fieldsOf r v)) n r) ≡ lasting (fieldsOf r v)
+  pub reads-back : (r : Register) (v : ℕ) → accepted s n (fieldsOf r v) ≡ true
+      → fieldsOf r (readOf (madeAll s n (fieldsOf r v)) n r) ≡ lasting (fieldsOf r v)
   reads-back R.Unknown v e = refl
   reads-back R.Width v e =
       let x = Width (pick (eqb (v % 2) 1) 1 3) in
@@ -174,17 +179,20 @@ module _ (s : Net) (n : ℕ) (hn : n < s .nodes) where
       ap number-field (ap (λ (m : ℕ). m % 65536) k ∙ number-back v)
   reads-back R.LowDirections v e =
       let t = madeAll s n (entriesOf 0 v) .own n 0 .directions in
-      taken-apart s n hn 0 v (omega arith) (t .first) (λ i l. sym (low-entry t i l) ∙ entries-back s n hn 0 v (omega arith) 8 (omega arith) i l)
+      taken-apart s n hn 0 v (omega arith) (t .first)
+      (λ i l. sym (low-entry t i l) ∙ entries-back s n hn 0 v (omega arith) 8 (omega arith) i l)
   reads-back R.HighDirections v e =
       let t = madeAll s n (entriesOf 8 v) .own n 0 .directions in
-      taken-apart s n hn 8 v (omega arith) (t .second) (λ i l. sym (high-entry t i l) ∙ entries-back s n hn 8 v (omega arith) 8 (omega arith) i l)
+      taken-apart s n hn 8 v (omega arith) (t .second)
+      (λ i l. sym (high-entry t i l) ∙ entries-back s n hn 8 v (omega arith) 8 (omega arith) i l)
   reads-back (R.Route l) v e =
       let z = route-link s n l (bitsFrom 8 4 v) (bitsFrom 4 2 v) e in
       let q = route-back (bitsFrom 8 4 v) (bitsFrom 4 2 v) (omega arith) (omega arith) in
       rw (z .0, z .1, q .0, q .1)
   reads-back (R.State l) v e =
       by-test (eqb (bitsFrom 24 1 v) 1)
-      (λ h. rw h (state-reads l v (Enable l (bitsFrom 31 1 v) ∷ Hello l ∷ []) refl (greeted-link s n l (bitsFrom 31 1 v) (bit-in v 31) (rw h at e))))
+      (λ h. rw h (state-reads l v (Enable l (bitsFrom 31 1 v) ∷ Hello l ∷ []) refl
+      (greeted-link s n l (bitsFrom 31 1 v) (bit-in v 31) (rw h at e))))
       (λ h. rw h (state-reads l v (Enable l (bitsFrom 31 1 v) ∷ []) refl (enabled-link s n l (bitsFrom 31 1 v) (bit-in v 31) (rw h at e))))
 
 -- "Reading back what an accepted write wrote gives its fields"

@@ -116,7 +116,8 @@ made-more zero f s n = refl
 made-more (suc k) f s n = made-more k (λ i. f (suc i)) (setCall s n (f zero) .next) n
 
 -- fields that no state refuses
-pub never-refused : (k : ℕ) (f : ℕ → Setting) (s : Net) (n : ℕ) → ((i : ℕ) → i < k → (z : Net) → n < z .nodes → passesSet z n (f i) ≡ true) → n < s .nodes → accepted s n (tab k f) ≡ true
+pub never-refused : (k : ℕ) (f : ℕ → Setting) (s : Net) (n : ℕ) → ((i : ℕ) → i < k → (z : Net) → n < z .nodes → passesSet z n (f i) ≡ true)
+    → n < s .nodes → accepted s n (tab k f) ≡ true
 never-refused zero f s n h hn = refl
 never-refused (suc k) f s n h hn =
     let z = setCall s n (f zero) .next in
@@ -143,9 +144,12 @@ module _ (s : Net) (n l d v : ℕ) (hd : d < 16) where
   network-passes : passesSet s n (Network l v) ≡ true → passesSet (setCall s n (LinkDirection l d) .next) n (Network l v) ≡ true
   network-passes e =
       let z = set-passes s n (Network l v) .sure e in
-      rw (made-next s n (LinkDirection l d) (direction-passes e)) (set-passes (setMade s n (LinkDirection l d)) n (Network l v) .back (z .0, (z .1 .0, (rw (upd-same (s .links .setups) n l _) (z .1 .1 .0), tt))))
+      rw (made-next s n (LinkDirection l d) (direction-passes e))
+      (set-passes (setMade s n (LinkDirection l d)) n (Network l v) .back
+      (z .0, (z .1 .0, (rw (upd-same (s .links .setups) n l _) (z .1 .1 .0), tt))))
 
-  passed-before : passesSet s n (LinkDirection l d) ≡ true → passesSet (setCall s n (LinkDirection l d) .next) n (Network l v) ≡ true → passesSet s n (Network l v) ≡ true
+  passed-before : passesSet s n (LinkDirection l d) ≡ true → passesSet (setCall s n (LinkDirection l d) .next) n (Network l v) ≡ true
+      → passesSet s n (Network l v) ≡ true
   passed-before q r =
       let z = set-passes (setMade s n (LinkDirection l d)) n (Network l v) .sure (rw (made-next s n (LinkDirection l d) q) at r) in
       set-passes s n (Network l v) .back (z .0, (z .1 .0, (rw (upd-same (s .links .setups) n l _) at (z .1 .1 .0), tt)))
@@ -154,10 +158,12 @@ module _ (s : Net) (n l d v : ℕ) (hd : d < 16) where
   route-refused e =
       none s n (LinkDirection l d ∷ Network l v ∷ [])
       (by-test (passesSet s n (LinkDirection l d))
-      (λ q. rw q (by-test (passesSet (setCall s n (LinkDirection l d) .next) n (Network l v)) (λ r. clash (sym (passed-before q r) ∙ e)) (λ r. rw r)))
+      (λ q. rw q (by-test (passesSet (setCall s n (LinkDirection l d) .next) n (Network l v)) (λ r. clash (sym (passed-before q r) ∙ e))
+      (λ r. rw r)))
       (λ q. rw q))
 
-  pub route-made : (y : Net) {z : Net} {b : Bool} → passesSet s n (Network l v) ≡ true → y ≡ setCall s n (LinkDirection l d) .next → b ≡ passesSet y n (Network l v) → z ≡ setCall y n (Network l v) .next
+  pub route-made : (y : Net) {z : Net} {b : Bool} → passesSet s n (Network l v) ≡ true → y ≡ setCall s n (LinkDirection l d) .next
+      → b ≡ passesSet y n (Network l v) → z ≡ setCall y n (Network l v) .next
       → Written s n (LinkDirection l d ∷ Network l v ∷ []) b z
   route-made y e q f h =
       whole s n (LinkDirection l d ∷ Network l v ∷ []) (rw (direction-passes e, network-passes e)) (f ∙ rw q (network-passes e)) (h ∙ rw q)
@@ -194,17 +200,22 @@ module _ (s : Net) (n l : ℕ) where
       yes : passesSet s n (Enable l 1) ≡ true → passesSet (setCall s n (Enable l 1) .next) n (Hello l) ≡ passesSet s n (Enable l 1)
       yes q =
           let z = set-passes s n (Enable l 1) .sure q in
-          rw (made-next s n (Enable l 1) q, q) (set-passes (setMade s n (Enable l 1)) n (Hello l) .back (z .0, (refl, (rw (upd-same (s .links .setups) n l _), tt))))
+          rw (made-next s n (Enable l 1) q, q)
+          (set-passes (setMade s n (Enable l 1)) n (Hello l) .back (z .0, (refl, (rw (upd-same (s .links .setups) n l _), tt))))
 
       no : passesSet s n (Enable l 1) ≡ false → passesSet (setCall s n (Enable l 1) .next) n (Hello l) ≡ passesSet s n (Enable l 1)
       no q =
           rw (kept-next s n (Enable l 1) q)
-          (by-test (passesSet s n (Hello l)) (λ r. clash (sym (set-passes s n (Enable l 1) .back (set-passes s n (Hello l) .sure r .0, (refl, (refl, tt)))) ∙ q)) (λ r. r ∙ sym q))
+          (by-test (passesSet s n (Hello l))
+          (λ r. clash (sym (set-passes s n (Enable l 1) .back (set-passes s n (Hello l) .sure r .0, (refl, (refl, tt)))) ∙ q))
+          (λ r. r ∙ sym q))
 
-  pub hello-made : (y : Net) {z : Net} {a b : Bool} → a ≡ passesSet s n (Enable l 1) → y ≡ setCall s n (Enable l 1) .next → b ≡ passesSet y n (Hello l) → z ≡ setCall y n (Hello l) .next
+  pub hello-made : (y : Net) {z : Net} {a b : Bool} → a ≡ passesSet s n (Enable l 1) → y ≡ setCall s n (Enable l 1) .next
+      → b ≡ passesSet y n (Hello l) → z ≡ setCall y n (Hello l) .next
       → Written s n (Enable l 1 ∷ Hello l ∷ []) (a && b) z
   hello-made y e q f h =
       let same : passesSet y n (Hello l) ≡ passesSet s n (Enable l 1) = rw q hello-follows in
       by-test (passesSet s n (Enable l 1))
       (λ r. whole s n (Enable l 1 ∷ Hello l ∷ []) (rw (hello-follows, r)) (rw (e ∙ r, f ∙ same ∙ r)) (h ∙ rw q))
-      (λ r. rw (e ∙ r, h ∙ kept-next y n (Hello l) (same ∙ r) ∙ q ∙ kept-next s n (Enable l 1) r) (none s n (Enable l 1 ∷ Hello l ∷ []) (rw r)))
+      (λ r. rw (e ∙ r, h ∙ kept-next y n (Hello l) (same ∙ r) ∙ q ∙ kept-next s n (Enable l 1) r)
+      (none s n (Enable l 1 ∷ Hello l ∷ []) (rw r)))

@@ -4,7 +4,7 @@ use Prim.Native.Nat.{ℕ}
 use Rattle.names.specs.Size.{replyPort}
 use Rattle.cells.specs.World.{World}
 use Rattle.acts.specs.Needs.{Room}
-use Rattle.settings.specs.Set.{AllCabled}
+use Rattle.settings.specs.Needs.{AllCabled}
 
 -- the longest reply: a header of three bytes, ACK, four bytes, END
 abbrev pub longest : ℕ

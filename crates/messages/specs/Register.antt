@@ -1,4 +1,5 @@
--- "Known addresses are those where 9.3 places at least one setting of Set." (document 01, "Switch messages"; source document 000, 9.3 and 9.4)
+-- "Known addresses are those where 9.3 places at least one setting of Set." (document 01, "Switch messages"; source document 000, 9.3 and
+-- 9.4)
 use Prim.Native.Nat.{ℕ, _+_, _-_, _*_, _/_, _%_, _^_}
 use mathlib.Core.Bool.{Bool, true, false, _&&_}
 use mathlib.Core.List.{List, [], _∷_}
@@ -12,7 +13,8 @@ use Rattle.cells.specs.View.{Net}
 use Rattle.settings.specs.declared.Setting.{Setting}
 use Rattle.settings.specs.declared.Setting.the-variants as Set
 use Rattle.messages.specs.declared.register.Register.{Register}
-use Rattle.messages.specs.declared.register.Register.the-variants.{Unknown, Width, Number, LowDirections, HighDirections, Route, State}
+use Rattle.messages.specs.declared.register.Register.the-variants.{Unknown, Width, Number, LowDirections, HighDirections, Route}
+use Rattle.messages.specs.declared.register.Register.the-variants.{State}
 
 -- links C D A B G H E F, in the order of their registers
 abbrev pub linkIn : ℕ → ℕ

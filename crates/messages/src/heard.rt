@@ -17,7 +17,8 @@ ghost use Prim.Native.Nat.{_+_, _<_};
 ghost use Rattle.names.specs.Size.{unitBuffer};
 ghost use Rattle.tokens.specs.Word.{valueOf};
 ghost use Rattle.cells.specs.View.{view};
-ghost use Rattle.messages.specs.Heard.{hearsWord, listens, token, twoData, two, four, isCommand, hasReply, replyTo, isWrite, isRead, orderOf, messageOf};
+ghost use Rattle.messages.specs.Heard.{hearsWord, listens, token, twoData, two, four, isCommand, hasReply, replyTo, isWrite, isRead};
+ghost use Rattle.messages.specs.Heard.{orderOf, messageOf};
 
 // The first token of a message that writes, and of one that reads, beside words of 32 bits.
 const WRITE: u32 = WRITEC as u32;

@@ -80,7 +80,8 @@ fn put_reply(st: &mut [u32], mem: &mut [u16], slot: Slot, h: Header, x: Reply)
 // A reply is sent, if the node's width at this moment can carry where it is to go.
 pub fn send(st: &mut [u32], mem: &mut [u16], slot: Slot, g: Target, x: Reply) -> Answer
     requires { ⌜ Room (world (now st) (now mem)) (slot .0) replyPort longest ⌝ }
-    ensures { λ r. ⌜ out r (world (now (st .exit)) (now (mem .exit))) ≡ replySent (world (now (st .entry)) (now (mem .entry))) (slot .0) g x ⌝ }
+    ensures { λ r. ⌜ out r (world (now (st .exit)) (now (mem .exit)))
+        ≡ replySent (world (now (st .entry)) (now (mem .entry))) (slot .0) g x ⌝ }
 {
     let h = make_header(g, width_at(st, slot));
     if is_narrow(h) {

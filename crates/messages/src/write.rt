@@ -13,7 +13,8 @@ ghost use Prim.Native.Nat.{_%_, _<_, _≤_};
 ghost use lib.Dec.{eqb};
 ghost use Rattle.laws.specs.Pick.{pick};
 ghost use Rattle.cells.specs.View.{view};
-ghost use Rattle.settings.specs.Set.{AllCabled, setCall};
+ghost use Rattle.settings.specs.Set.{setCall};
+ghost use Rattle.settings.specs.Needs.{AllCabled};
 ghost use Rattle.messages.specs.Register.{entriesOf, fieldsOf};
 ghost use Rattle.messages.specs.declared.register.Register.the-variants.{Route, State};
 ghost use Rattle.messages.specs.Write.{passesSet, accepted, written};
@@ -21,7 +22,8 @@ ghost use Rattle.messages.specs.Write.{passesSet, accepted, written};
 // One Set: whether it was made.
 fn tried(st: &mut [u32], slot: Slot, x: Setting) -> bool
     requires { ⌜ AllCabled (view (now st)) ⌝ }
-    ensures { λ r. ⌜ (r ≡ passesSet (view (now (st .entry))) (slot .0) x) × (view (now (st .exit)) ≡ setCall (view (now (st .entry))) (slot .0) x .next) ⌝ }
+    ensures { λ r. ⌜ (r ≡ passesSet (view (now (st .entry))) (slot .0) x)
+        × (view (now (st .exit)) ≡ setCall (view (now (st .entry))) (slot .0) x .next) ⌝ }
 {
     number(set(st, slot, x)) == 0
 }
@@ -29,7 +31,8 @@ fn tried(st: &mut [u32], slot: Slot, x: Setting) -> bool
 // A register with one field.
 fn write_one(st: &mut [u32], slot: Slot, x: Setting) -> bool
     requires { ⌜ AllCabled (view (now st)) ⌝ }
-    ensures { λ r. ⌜ (r ≡ accepted (view (now (st .entry))) (slot .0) (x ∷ [])) × (view (now (st .exit)) ≡ written (view (now (st .entry))) (slot .0) (x ∷ [])) ⌝ }
+    ensures { λ r. ⌜ (r ≡ accepted (view (now (st .entry))) (slot .0) (x ∷ []))
+        × (view (now (st .exit)) ≡ written (view (now (st .entry))) (slot .0) (x ∷ [])) ⌝ }
 {
     tried(st, slot, x)
 }
@@ -37,7 +40,8 @@ fn write_one(st: &mut [u32], slot: Slot, x: Setting) -> bool
 // Eight direction entries, from this bit on: none of these Sets is refused.
 fn write_directions(st: &mut [u32], slot: Slot, bit: u32, v: u32) -> bool
     requires { ⌜ (slot .0 < view (now st) .nodes) × (bit ≤ 8) × AllCabled (view (now st)) ⌝ }
-    ensures { λ r. ⌜ (r ≡ accepted (view (now (st .entry))) (slot .0) (entriesOf bit v)) × (view (now (st .exit)) ≡ written (view (now (st .entry))) (slot .0) (entriesOf bit v)) ⌝ }
+    ensures { λ r. ⌜ (r ≡ accepted (view (now (st .entry))) (slot .0) (entriesOf bit v))
+        × (view (now (st .exit)) ≡ written (view (now (st .entry))) (slot .0) (entriesOf bit v)) ⌝ }
 {
     for i in 0..8 {
         tried(st, slot, Setting::Direction(bit + i, field(v, i)));
@@ -48,7 +52,8 @@ fn write_directions(st: &mut [u32], slot: Slot, bit: u32, v: u32) -> bool
 // A link's direction, which stays as it was where its network is refused.
 fn write_route(st: &mut [u32], slot: Slot, l: usize, v: u32) -> bool
     requires { ⌜ AllCabled (view (now st)) ⌝ }
-    ensures { λ r. ⌜ (r ≡ accepted (view (now (st .entry))) (slot .0) (fieldsOf (Route l) v)) × (view (now (st .exit)) ≡ written (view (now (st .entry))) (slot .0) (fieldsOf (Route l) v)) ⌝ }
+    ensures { λ r. ⌜ (r ≡ accepted (view (now (st .entry))) (slot .0) (fieldsOf (Route l) v))
+        × (view (now (st .exit)) ≡ written (view (now (st .entry))) (slot .0) (fieldsOf (Route l) v)) ⌝ }
 {
     let network = Setting::Network(l, v / 0x0010 % 4);
     if set_no(st, slot, network) != 0 {
@@ -61,7 +66,8 @@ fn write_route(st: &mut [u32], slot: Slot, l: usize, v: u32) -> bool
 // A link enabled or disabled, and HELLO, which is refused on a link that the same write disables.
 fn write_state(st: &mut [u32], slot: Slot, l: usize, v: u32) -> bool
     requires { ⌜ AllCabled (view (now st)) ⌝ }
-    ensures { λ r. ⌜ (r ≡ accepted (view (now (st .entry))) (slot .0) (fieldsOf (State l) v)) × (view (now (st .exit)) ≡ written (view (now (st .entry))) (slot .0) (fieldsOf (State l) v)) ⌝ }
+    ensures { λ r. ⌜ (r ≡ accepted (view (now (st .entry))) (slot .0) (fieldsOf (State l) v))
+        × (view (now (st .exit)) ≡ written (view (now (st .entry))) (slot .0) (fieldsOf (State l) v)) ⌝ }
 {
     let enable = v / 0x8000_0000 % 2;
     let hello = v / 0x0100_0000 % 2;
@@ -89,7 +95,8 @@ fn width_in(v: u32) -> u32
 // A write, whole or not at all: whether it was accepted.
 pub fn write(st: &mut [u32], slot: Slot, r: Register, v: u32) -> bool
     requires { ⌜ (slot .0 < view (now st) .nodes) × AllCabled (view (now st)) ⌝ }
-    ensures { λ b. ⌜ (b ≡ accepted (view (now (st .entry))) (slot .0) (fieldsOf r v)) × (view (now (st .exit)) ≡ written (view (now (st .entry))) (slot .0) (fieldsOf r v)) ⌝ }
+    ensures { λ b. ⌜ (b ≡ accepted (view (now (st .entry))) (slot .0) (fieldsOf r v))
+        × (view (now (st .exit)) ≡ written (view (now (st .entry))) (slot .0) (fieldsOf r v)) ⌝ }
 {
     match r {
         Register::Unknown => true,

@@ -11,7 +11,8 @@ use Rattle.cells.specs.Changes.{enabledAs}
 use Rattle.cells.specs.declared.link.Far.{Far}
 use Rattle.cells.specs.declared.link.Far.the-variants.{Nowhere, At}
 use Rattle.grants.specs.Grants.{considered, helloed, silenced, farSilenced, disabled}
-use Rattle.settings.specs.Set.{AllCabled, setRows, setMade, setCall}
+use Rattle.settings.specs.Set.{setRows, setMade, setCall}
+use Rattle.settings.specs.Needs.{AllCabled}
 use Rattle.settings.specs.declared.Setting.{Setting}
 use Rattle.settings.specs.declared.Setting.the-variants.{Number, Width, Direction, LinkDirection, Network, Enable, Hello}
 

@@ -12,7 +12,8 @@ use Rattle.answers.specs.Out.{Out, out}
 use Rattle.answers.specs.declared.Answer.the-variants.{No, Done}
 use Rattle.answers.proofs.Refusals.{passed, refuses, goes-on}
 use Rattle.cells.specs.View.{Net}
-use Rattle.settings.specs.Set.{setRows, linkThere, LinkThere, setAnswer, setMade, setCall}
+use Rattle.settings.specs.Set.{setRows, linkThere, setAnswer, setMade, setCall}
+use Rattle.settings.specs.Needs.{LinkThere}
 use Rattle.settings.specs.Wire.{wireRows, wired, wire}
 use Rattle.settings.specs.declared.Setting.{Setting}
 use Rattle.settings.specs.declared.Setting.the-variants.{Number, Width, Direction, LinkDirection, Network, Enable, Hello}

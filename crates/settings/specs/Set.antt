@@ -1,6 +1,5 @@
 -- "Set: a node's number, width, one direction entry; a link's direction, network, enable, HELLO." (document 01, "Calls")
-use Prim.{Unit}
-use Prim.Native.Nat.{ℕ, _<_}
+use Prim.Native.Nat.{ℕ}
 use mathlib.Core.Bool.{Bool, true, false, not, _&&_, _||_}
 use mathlib.Core.List.{List, [], _∷_}
 use lib.Dec.{eqb, ltb, leb}
@@ -19,7 +18,7 @@ use Rattle.cells.specs.Changes.{numberedAs, widthAs, directionsAs, directedTo, 
 use Rattle.cells.specs.declared.link.Far.{Far}
 use Rattle.clauses.specs.Cables.{enabled, onFar}
 use Rattle.clauses.specs.Counts.{isFree}
-use Rattle.grants.specs.Grants.{Cabled, helloed, helloGrant, disabled}
+use Rattle.grants.specs.Grants.{helloed, helloGrant, disabled}
 use Rattle.settings.specs.declared.Setting.{Setting}
 use Rattle.settings.specs.declared.Setting.the-variants.{Number, Width, Direction, LinkDirection, Network, Enable, Hello}
 
@@ -100,16 +99,3 @@ setAnswer s n (Hello l) = Granted (helloGrant s n l)
 
 unfoldable pub setCall : Net → ℕ → Setting → Out Net
 setCall s n x = attempt (setRows s n x) s (out (setAnswer s n x) (setMade s n x))
-
--- What the code has on its way: the link is present, and cables lead to links that are present (a sound state's do)
-abbrev pub LinkThere : Setting → Type 0
-LinkThere (Number v) = Unit
-LinkThere (Width v) = Unit
-LinkThere (Direction b v) = Unit
-LinkThere (LinkDirection l v) = l < links
-LinkThere (Network l v) = l < links
-LinkThere (Enable l v) = l < links
-LinkThere (Hello l) = l < links
-
-abbrev pub AllCabled : Net → Type 0
-AllCabled s = (n l : ℕ) → n < s .nodes → l < links → Cabled s n l

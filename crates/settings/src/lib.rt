@@ -11,7 +11,8 @@ use names::Slot;
 ghost use mathlib.Core.Path.{_≡_};
 ghost use Rattle.answers.specs.Out.{out};
 ghost use Rattle.cells.specs.View.{view};
-ghost use Rattle.settings.specs.Set.{AllCabled, setCall};
+ghost use Rattle.settings.specs.Set.{setCall};
+ghost use Rattle.settings.specs.Needs.{AllCabled};
 
 // What is to be set. Values are as wide as they are asked for: those out of range are refused.
 pub enum Setting {

@@ -10,10 +10,11 @@ ghost use mathlib.Core.Path.{_≡_};
 ghost use Prim.Native.Nat.{_<_};
 ghost use Rattle.names.specs.Size.{links};
 ghost use Rattle.answers.specs.Out.{out};
-ghost use Rattle.grants.specs.Grants.{Cabled};
+ghost use Rattle.grants.specs.Needs.{Cabled};
 ghost use Rattle.cells.specs.View.{view};
 ghost use Rattle.settings.specs.declared.Setting.the-variants.{Number, Width, Direction, LinkDirection, Network, Enable};
-ghost use Rattle.settings.specs.Set.{AllCabled, LinkThere, setAnswer, setMade};
+ghost use Rattle.settings.specs.Set.{setAnswer, setMade};
+ghost use Rattle.settings.specs.Needs.{AllCabled, LinkThere};
 
 fn set_number(st: &mut [u32], slot: Slot, v: u32)
     requires { ⌜ slot .0 < view (now st) .nodes ⌝ }
@@ -81,7 +82,8 @@ fn set_enable(st: &mut [u32], slot: Slot, l: usize, v: u32)
 // The Set itself, for a node and a link that are there.
 pub fn make(st: &mut [u32], slot: Slot, x: Setting) -> Answer
     requires { ⌜ (slot .0 < view (now st) .nodes) × LinkThere x × AllCabled (view (now st)) ⌝ }
-    ensures { λ r. ⌜ out r (view (now (st .exit))) ≡ out (setAnswer (view (now (st .entry))) (slot .0) x) (setMade (view (now (st .entry))) (slot .0) x) ⌝ }
+    ensures { λ r. ⌜ out r (view (now (st .exit)))
+        ≡ out (setAnswer (view (now (st .entry))) (slot .0) x) (setMade (view (now (st .entry))) (slot .0) x) ⌝ }
 {
     match x {
         Setting::Number(v) => set_number(st, slot, v),

@@ -17,7 +17,8 @@ use names::size::NETWORKS;
 ghost use mathlib.Core.Path.{_≡_};
 ghost use Rattle.answers.specs.Rows.{refusal};
 ghost use Rattle.cells.specs.View.{view};
-ghost use Rattle.settings.specs.Set.{linkThere, inRange, endInUse, farInUse, inUse, changesNetwork, disablesBusy, helloBusy, setBusy, setRows};
+ghost use Rattle.settings.specs.Set.{linkThere, inRange, endInUse, farInUse, inUse, changesNetwork, disablesBusy, helloBusy, setBusy};
+ghost use Rattle.settings.specs.Set.{setRows};
 
 // The link that is set is there, if a link is.
 fn link_there(x: Setting) -> bool

@@ -61,7 +61,8 @@ fn cable_to(m: Slot, j: usize) -> Cable
 }
 
 fn join(st: &mut [u32], a: Slot, l: usize, b: Slot, k: usize)
-    requires { ⌜ (a .0 < view (now st) .nodes) × (l < links) × (b .0 < view (now st) .nodes) × (k < links) × (view (now st) .nodes ≤ nodes) ⌝ }
+    requires { ⌜ (a .0 < view (now st) .nodes) × (l < links) × (b .0 < view (now st) .nodes) × (k < links)
+        × (view (now st) .nodes ≤ nodes) ⌝ }
     ensures { λ r. ⌜ view (now (st .exit)) ≡ wired (view (now (st .entry))) (a .0) l (b .0) k ⌝ }
 {
     link::put_cable(st, a, l, cable_to(b, k));

@@ -75,7 +75,8 @@ module _ (w : World) (s : sound w ≡ true) where
     credit-facts l h = credits (w .net) n l .sure (says Credited l h)
 
     pub greeting-facts : (l : ℕ) → l < links
-        → (w .net .links .flows n l .greeted ≡ 1 → ⊥) ⊎ ((w .net .links .setups n l .enabled ≡ 1) × Hears (w .net) (w .net .links .cables n l))
+        → (w .net .links .flows n l .greeted ≡ 1 → ⊥)
+        ⊎ ((w .net .links .setups n l .enabled ≡ 1) × Hears (w .net) (w .net .links .cables n l))
     greeting-facts l h = greetings (w .net) n l .sure (says Greeted l h)
 
     -- "A disabled link's credit is 0 and ungreeted."
@@ -111,7 +112,8 @@ module _ (w : World) (s : sound w ≡ true) where
     contents-facts p h = not-true _ (rw (is-ready p h) at (says Contents p h))
 
     -- every token that a channel-end holds is legal there
-    pub held-facts : (c : ℕ) → c < ends → (i : ℕ) → i < w .net .ends .buffers n c .held → legalWord true (getD (w .net .ends .buffers n c .tokens) i 0) ≡ true
+    pub held-facts : (c : ℕ) → c < ends → (i : ℕ) → i < w .net .ends .buffers n c .held
+        → legalWord true (getD (w .net .ends .buffers n c .tokens) i 0) ≡ true
     held-facts c h i l = helds (w .net) n c .sure (says Held c h) i (filled-all endBuffer _ i (end-facts c h .held) l)
 
     -- a control unit that serves has kept tokens that stand past a header and close nothing

@@ -214,8 +214,14 @@ channel-takes w n p k c t r =
     let z = hopped-takes w n p k (Hops.Channel c t) r in
     let h = z .holds in
     by-test (eqb c sink)
-    (λ e. rw e (record { holds = record { node = h .node; port = h .port; fair = h .fair; held = h .held; reaches = h .reaches }; up = z .up }))
-    (λ e. rw e (record { holds = record { node = h .node; port = h .port; fair = h .fair; held = h .held; reaches = h .reaches }; up = z .up }))
+    (λ e. rw e (record {
+      holds = record { node = h .node; port = h .port; fair = h .fair; held = h .held; reaches = h .reaches };
+      up = z .up;
+    }))
+    (λ e. rw e (record {
+      holds = record { node = h .node; port = h .port; fair = h .fair; held = h .held; reaches = h .reaches };
+      up = z .up;
+    }))
 
 pub unit-takes : (w : World) (n p k : ℕ) → Takes w n p k → Takes (withNet w (opensUnit (w .net) n p)) n p k
 unit-takes w n p k r =

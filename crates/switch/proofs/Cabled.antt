@@ -8,7 +8,7 @@ use Rattle.names.specs.declared.Slot.{Slot}
 use Rattle.cells.specs.World.{World, farOf}
 use Rattle.cells.specs.declared.link.Far.{Far}
 use Rattle.cells.specs.declared.link.Far.the-variants.{Nowhere, At}
-use Rattle.grants.specs.Grants.{Leads, Cabled}
+use Rattle.grants.specs.Needs.{Leads, Cabled}
 use Rattle.sound.specs.Sound.{sound}
 use Rattle.sound.proofs.Facts.{cable-facts}
 

@@ -81,7 +81,8 @@ module _ (w : World) (s : sound w ≡ true) (n p : ℕ) (hn : n < w .net .nodes)
   here-possible (Channel m c) d t = channel-possible c d t
   here-possible (Unit m) d t = unit-possible t
 
-  way-possible : (g : Target) (y : Way) → LegalDoor g → Takes w n p (sizeOf (widthAt (w .net) n)) → StepPossible w n p (stepByWay (w .net) n p g y)
+  way-possible : (g : Target) (y : Way) → LegalDoor g → Takes w n p (sizeOf (widthAt (w .net) n))
+      → StepPossible w n p (stepByWay (w .net) n p g y)
   way-possible g ThisNode d t = here-possible g d t
   way-possible g (OtherNode b) d t = route-possible (entryOf (w .net .own n 0 .directions) b) (networkAt (w .net) n p)
 
@@ -101,7 +102,8 @@ module _ (w : World) (s : sound w ≡ true) (n p : ℕ) (hn : n < w .net .nodes)
           (takes (sizeOf (widthAt (w .net) n)) (rw (← q) h))
 
   -- outward
-  far-room : (l : ℕ) (f : Far) → farOf (w .net .links .cables n l) ≡ f → l < links → (w .net .links .flows n l .credit ≡ 0 → ⊥) → FarRoom w f
+  far-room : (l : ℕ) (f : Far) → farOf (w .net .links .cables n l) ≡ f → l < links → (w .net .links .flows n l .credit ≡ 0 → ⊥)
+      → FarRoom w f
   far-room l Nowhere e h c = tt
   far-room l (At m k) e h c =
       let j = cable-facts w s n hn l h m k e in

@@ -8,7 +8,7 @@ use Rattle.cells.specs.declared.link.Far.{Far}
 use Rattle.cells.specs.declared.link.Far.the-variants.{Nowhere, At}
 use Rattle.acts.specs.Acts.{widthAt, firstAt}
 use Rattle.acts.specs.Needs.{Room, Holds, Door, Given}
-use Rattle.grants.specs.Grants.{Cabled}
+use Rattle.grants.specs.Needs.{Cabled}
 use Rattle.messages.specs.Needs.{Ready}
 use Rattle.plans.specs.Plan.{sizeOf}
 use Rattle.plans.specs.declared.Plan.{Plan}

@@ -10,7 +10,7 @@ use tokens::header::Width;
 ghost use mathlib.Core.Path.{_≡_};
 ghost use Prim.Native.Nat.{_<_};
 ghost use Rattle.acts.specs.Acts.{firstAt};
-ghost use Rattle.grants.specs.Grants.{Leads};
+ghost use Rattle.grants.specs.Needs.{Leads};
 ghost use Rattle.cells.specs.View.{view};
 ghost use Rattle.cells.specs.World.{world};
 ghost use Rattle.plans.specs.Plan.{sizeOf};

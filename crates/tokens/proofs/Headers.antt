@@ -15,7 +15,8 @@ use Rattle.names.specs.Number.{highByte, lowByte, ofBytes}
 use Rattle.names.proofs.Bytes.{of-bytes-back}
 use Rattle.tokens.specs.Shape.{legalChannel}
 use Rattle.tokens.specs.Word.{headerWord, valueOf, isHeader, isThree, wide}
-use Rattle.tokens.specs.Header.{headerOf, words, Reads, readOne, readThree, compared, comparedTarget, Carried, narrow, isNarrow, legalTarget}
+use Rattle.tokens.specs.Header.{headerOf, words, Reads, readOne, readThree, compared, comparedTarget, Carried, narrow, isNarrow}
+use Rattle.tokens.specs.Header.{legalTarget}
 use Rattle.tokens.specs.declared.header.Target.{Target}
 use Rattle.tokens.specs.declared.header.Target.the-variants.{Channel, Unit}
 use Rattle.tokens.specs.declared.header.Width.{Width}
@@ -30,7 +31,8 @@ module _ (n : NodeNumber) (fits : n .0 < numbers) where
   -- the two number bytes of a three-byte header, read
   read-bytes : ofBytes (valueOf (headerWord (highByte n) Three)) (valueOf (headerWord (lowByte n) Three)) ≡ compared Three n
   read-bytes =
-      rw (value-back (highByte n) false true true (omega arith), value-back (lowByte n) false true true (omega arith)) (of-bytes-back n ∙ whole)
+      rw (value-back (highByte n) false true true (omega arith), value-back (lowByte n) false true true (omega arith))
+      (of-bytes-back n ∙ whole)
 
 pub read-made : (w : Width) (t : Target) → Carried w t → Reads (headerOf t w) (comparedTarget w t)
 unfolding headerOf readOne readThree

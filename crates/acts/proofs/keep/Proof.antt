@@ -13,15 +13,16 @@ array-write-t c =
 
 add-t6 : tie.Need-add-t6
 add-t6 c =
-    let told = c .before .before .before .before in
+    let tested = c .before .before .before in
+    let told = tested .before in
     let entry = told .before in
-    omega (arith, holds (entry .args .k) (entry .args .word) _ (entry .pre) (told .is-pause .ensures) (c .before .before .before .if1 .left))
+    omega (arith, holds (entry .args .k) (entry .args .word) _ (entry .pre) (told .is-pause .ensures) (tested .if1 .left))
 
 returns : tie.Need-returns
 returns c = rw (← c .before .is-pause .ensures, c .if1 .taken)
 
 returns-2 : tie.Need-returns-2
-returns-2 c = rw (← c .before .before .before .before .is-pause .ensures, c .before .before .before .if1 .left)
+returns-2 c = let tested = c .before .before .before in rw (← tested .before .is-pause .ensures, tested .if1 .left)
 
 pub keep-spec : {M : Type 1} → statement M
 keep-spec =

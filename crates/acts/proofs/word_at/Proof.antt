@@ -10,18 +10,28 @@ use Rattle.acts.proofs.word_at.Statement.{statement}
 use Rattle.acts.proofs.word_at.Tie as tie
 
 add-at : tie.Need-add-at
-add-at c = rw (c .before .before .at .ensures) (omega (arith, c .before .before .before .before .before .pre .fair .head-in, c .before .before .before .before .before .pre .held, c .before .before .before .before .before .pre .fair .held-in))
+add-at c =
+    let read = c .before .before in
+    let asked = read .before .before .before .pre in
+    rw (read .at .ensures) (omega (arith, asked .fair .head-in, asked .held, asked .fair .held-in))
 
 shared-slice-read-result : tie.Need-shared-slice-read-result
 shared-slice-read-result c =
-    let a = c .before .before .before .before .before .before in
-    rw (c .before .before .stretch .ensures, row-long capacity (place (a .args .slot .0) (a .args .p)) (a .args .mem .now) (a .pre .reaches)) (omega arith)
+    let cut = c .before .before in
+    let entry = cut .before .before .before .before in
+    rw (
+      cut .stretch .ensures,
+      row-long capacity (place (entry .args .slot .0) (entry .args .p)) (entry .args .mem .now) (entry .pre .reaches),
+    ) (omega arith)
 
 returns : tie.Need-returns
 returns c =
-    let a = c .before .before .before .before .before .before .args in
+    let cut = c .before .before in
+    let read = cut .before in
+    let a = read .before .before .before .args in
     let k = view (a .st .now) .ports .counters (a .slot .0) (a .p) in
-    rw (c .before .before .stretch .ensures, c .before .before .before .at .ensures) (row-at capacity (place (a .slot .0) (a .p)) ((k .head + a .i) % capacity) (a .mem .now) 0 (omega arith))
+    rw (cut .stretch .ensures, read .at .ensures)
+    (row-at capacity (place (a .slot .0) (a .p)) ((k .head + a .i) % capacity) (a .mem .now) 0 (omega arith))
 
 pub word-at-spec : {M : Type 1} → statement M
 word-at-spec =

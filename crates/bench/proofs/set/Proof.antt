@@ -15,16 +15,25 @@ use Rattle.bench.proofs.set.Tie as tie
 returns : tie.Need-returns
 returns c =
     let a = c .before .before .before .before .before .args in
-    refused-unsound (world (a .st .now) (a .mem .now)) (Set (a .slot) (a .x)) (setRows (view (a .st .now)) (a .slot .0) (a .x)) refl (sym (c .before .is-sound .ensures) ∙ not-true _ (c .if1 .taken))
+    refused-unsound (world (a .st .now) (a .mem .now)) (Set (a .slot) (a .x)) (setRows (view (a .st .now)) (a .slot .0) (a .x)) refl
+    (sym (c .before .is-sound .ensures) ∙ not-true _ (c .if1 .taken))
 
 set-requires : tie.Need-set-requires
-set-requires c κs = let a = c .before .before .before .before .before .before .args in all-cabled (world (a .st .now) (a .mem .now)) (sym (c .before .before .is-sound .ensures) ∙ not-false _ (c .before .if1 .left))
+set-requires c κs =
+    let a = c .before .before .before .before .before .before .args in
+    all-cabled (world (a .st .now) (a .mem .now)) (sym (c .before .before .is-sound .ensures) ∙ not-false _ (c .before .if1 .left))
 
 returns-2 : tie.Need-returns-2
 unfolding setCall
 returns-2 c =
-    let a = c .before .before .before .before .before .before .before .before .before .args in
-    on-net (world (a .st .now) (a .mem .now)) (Set (a .slot) (a .x)) (setRows (view (a .st .now)) (a .slot .0) (a .x)) refl (sym (c .before .before .before .before .before .is-sound .ensures) ∙ not-false _ (c .before .before .before .before .if1 .left)) (out (setAnswer (view (a .st .now)) (a .slot .0) (a .x)) (setMade (view (a .st .now)) (a .slot .0) (a .x))) refl _ (c .before .before .set .ensures)
+    let made = c .before .before in
+    let tested = made .before .before in
+    let asked = tested .before in
+    let a = asked .before .before .before .before .args in
+    on-net (world (a .st .now) (a .mem .now)) (Set (a .slot) (a .x)) (setRows (view (a .st .now)) (a .slot .0) (a .x)) refl
+    (sym (asked .is-sound .ensures) ∙ not-false _ (tested .if1 .left))
+    (out (setAnswer (view (a .st .now)) (a .slot .0) (a .x)) (setMade (view (a .st .now)) (a .slot .0) (a .x))) refl _
+    (made .set .ensures)
 
 pub set-spec : {M : Type 1} → statement M
 set-spec =

@@ -52,15 +52,26 @@ returns-4 c =
 in-ring-requires : tie.Need-in-ring-requires
 in-ring-requires c κs =
     let a = c .before .before .before .before .before .before .before in
-    let s = start a in
-    (ap length (c .stretch .ensures) ∙ row-long capacity (place (s .args .slot .0) (s .args .p)) (s .args .mem .now) (omega arith), omega arith)
+    let s = start a in (
+      ap length (c .stretch .ensures)
+          ∙ row-long capacity (place (s .args .slot .0) (s .args .p)) (s .args .mem .now) (omega arith),
+      omega arith,
+    )
 
 returns-5 : tie.Need-returns-5
 unfolding portToken
 returns-5 c =
     let a = c .before .before .before .before .before .before .before .before in
     let s = start a in
-    rw (lt-ltb (s .args .slot .0) (nodes a) (omega arith), lt-ltb (s .args .p) ports (omega arith), lt-ltb (s .args .i) (held a) (omega (arith, count a)), lt-ltb (s .args .i) capacity (omega arith), c .in-ring .ensures, c .before .stretch .ensures, a .at .ensures)
+    rw (
+      lt-ltb (s .args .slot .0) (nodes a) (omega arith),
+      lt-ltb (s .args .p) ports (omega arith),
+      lt-ltb (s .args .i) (held a) (omega (arith, count a)),
+      lt-ltb (s .args .i) capacity (omega arith),
+      c .in-ring .ensures,
+      c .before .stretch .ensures,
+      a .at .ensures,
+    )
 
 pub port-token-spec : {M : Type 1} → statement M
 port-token-spec =

@@ -12,11 +12,17 @@ unfolding stepPlan
 returns c = rw (eq-eqb _ _ (rw (c .before .before .at .ensures) at (c .if1 .taken)))
 
 by-hop-requires : tie.Need-by-hop-requires
-by-hop-requires c κs = (c .before .before .before .before .before .before .pre .0, holds-some _ _ _ (rw (c .before .before .before .at .ensures) at (c .before .if1 .left)) (c .before .before .before .before .before .before .pre .1))
+by-hop-requires c κs =
+    let read = c .before .before .before in
+    let entry = read .before .before .before in
+    (entry .pre .0, holds-some _ _ _ (rw (read .at .ensures) at (c .before .if1 .left)) (entry .pre .1))
 
 returns-2 : tie.Need-returns-2
 unfolding stepPlan
-returns-2 c = rw (ne-eqb _ _ (rw (c .before .before .before .before .at .ensures) at (c .before .before .if1 .left))) (c .by-hop .ensures ∙ rw (c .before .hop-of .ensures, c .before .before .before .before .at .ensures))
+returns-2 c =
+    let read = c .before .before .before .before in
+    rw (ne-eqb _ _ (rw (read .at .ensures) at (c .before .before .if1 .left)))
+    (c .by-hop .ensures ∙ rw (c .before .hop-of .ensures, read .at .ensures))
 
 pub plan-of-spec : {M : Type 1} → statement M
 plan-of-spec = tie.close (tie.spec (λ c κs. search needs) returns (λ c κs. search needs) by-hop-requires returns-2)

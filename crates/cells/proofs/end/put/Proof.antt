@@ -14,7 +14,8 @@ returns c =
     let s = c .before .before .before .before .before .before .before in
     -- what the type of the array says of its length
     let tokens = s .good .1 .1 .1 .0 .1 .1 .1 .1 .1 .0 .1 .1 in
-    end-put (s .args .st .now) _ (s .args .slot .0) (s .args .c) (b .result) _ (s .args .k) (s .pre .0) (s .pre .1) (b .ensures) refl (search needs) w
+    end-put (s .args .st .now) _ (s .args .slot .0) (s .args .c) (b .result) _ (s .args .k) (s .pre .0) (s .pre .1) (b .ensures) refl
+    (search needs) w
 
 pub put-spec : {M : Type 1} → statement M
 unfolding view

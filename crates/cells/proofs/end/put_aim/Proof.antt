@@ -7,9 +7,10 @@ use Rattle.cells.proofs.end.put_aim.Tie as tie
 
 returns : tie.Need-returns
 returns c =
-    let s = c .before .before .before .before .before .before .before in
-    rw (c .before .before .put .ensures, c .before .before .before .before .at .ensures)
-    (aim-alone (view (s .args .st .now)) (s .args .slot .0) (s .args .c) (s .args .x))
+    let had = c .before .before .before .before in
+    let entry = had .before .before .before in
+    rw (c .before .before .put .ensures, had .at .ensures)
+    (aim-alone (view (entry .args .st .now)) (entry .args .slot .0) (entry .args .c) (entry .args .x))
 
 pub put-aim-spec : {M : Type 1} → statement M
 put-aim-spec = tie.close (tie.spec (λ c κs. search needs) (λ c κs. search needs) (λ c. search needs) returns)

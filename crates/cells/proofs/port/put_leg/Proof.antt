@@ -7,9 +7,10 @@ use Rattle.cells.proofs.port.put_leg.Tie as tie
 
 returns : tie.Need-returns
 returns c =
-    let s = c .before .before .before .before .before .before .before in
-    rw (c .before .before .put .ensures, c .before .before .before .before .at .ensures)
-    (leg-alone (view (s .args .st .now)) (s .args .slot .0) (s .args .p) (s .args .x))
+    let had = c .before .before .before .before in
+    let entry = had .before .before .before in
+    rw (c .before .before .put .ensures, had .at .ensures)
+    (leg-alone (view (entry .args .st .now)) (entry .args .slot .0) (entry .args .p) (entry .args .x))
 
 pub put-leg-spec : {M : Type 1} → statement M
 put-leg-spec = tie.close (tie.spec (λ c κs. search needs) (λ c κs. search needs) (λ c. search needs) returns)

@@ -7,9 +7,10 @@ use Rattle.cells.proofs.port.put_network.Tie as tie
 
 returns : tie.Need-returns
 returns c =
-    let s = c .before .before .before .before .before .before .before in
-    rw (c .before .before .put .ensures, c .before .before .before .before .at .ensures)
-    (network-alone (view (s .args .st .now)) (s .args .slot .0) (s .args .p) (s .args .x))
+    let had = c .before .before .before .before in
+    let entry = had .before .before .before in
+    rw (c .before .before .put .ensures, had .at .ensures)
+    (network-alone (view (entry .args .st .now)) (entry .args .slot .0) (entry .args .p) (entry .args .x))
 
 pub put-network-spec : {M : Type 1} → statement M
 put-network-spec = tie.close (tie.spec (λ c κs. search needs) (λ c κs. search needs) (λ c. search needs) returns)

@@ -4,7 +4,10 @@ use Rattle.clauses.proofs.cables.joined.Statement.{statement}
 use Rattle.clauses.proofs.cables.joined.Tie as tie
 
 returns : tie.Need-returns
-returns c = rw (c .before .before .before .count .ensures, c .before .before .before .before .leads-to .ensures, c .before .before .before .before .before .far-at .ensures)
+returns c =
+    let counted = c .before .before .before in
+    let led = counted .before in
+    rw (counted .count .ensures, led .leads-to .ensures, led .before .far-at .ensures)
 
 pub joined-spec : {M : Type 1} → statement M
 joined-spec =

@@ -13,9 +13,11 @@ returns c =
 
 returns-2 : tie.Need-returns-2
 returns-2 c =
-    let near = c .before .before .before .before .before .before .at .ensures in
-    let far = c .before .before .before .before .before .far-of .ensures ∙ ap (λ (k : Link). farOf (k .cable)) near in
-    rw (← far, c .before .before .before .m .given .1, c .room-for .ensures, c .before .at2 .ensures, near)
+    let told = c .before .before .before in
+    let led = told .before .before in
+    let near = led .before .at .ensures in
+    let far = led .far-of .ensures ∙ ap (λ (k : Link). farOf (k .cable)) near in
+    rw (← far, told .m .given .1, c .room-for .ensures, c .before .at2 .ensures, near)
 
 pub room-spec : {M : Type 1} → statement M
 room-spec =

@@ -8,7 +8,8 @@ returns : tie.Need-returns
 returns c = rw (← c .before .end-at .ensures, c .if1 .taken)
 
 returns-2 : tie.Need-returns-2
-returns-2 c = rw (← c .before .before .before .end-at .ensures, c .before .before .if1 .left, ← c .before .goal-ranged .ensures, c .if2 .taken)
+returns-2 c =
+    rw (← c .before .before .before .end-at .ensures, c .before .before .if1 .left, ← c .before .goal-ranged .ensures, c .if2 .taken)
 
 returns-3 : tie.Need-returns-3
 returns-3 c =

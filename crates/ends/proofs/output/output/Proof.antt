@@ -57,7 +57,8 @@ returns-3 c =
     let asked = told .before .before in
     let a = asked .before .before .before .before .before .before .before .before .args in
     let q = is-aimed (view (a .st .now) .ends .aims (a .slot .0) (a .c)) _ (sym (aim-read asked) ∙ told .g .given .1) in
-    sends-on (world (a .st .now) (a .mem .now)) (a .slot .0) (a .c) (a .x) _ _ (is-there (asked .before)) (q .0) (q .1) (sent .send .ensures)
+    sends-on (world (a .st .now) (a .mem .now)) (a .slot .0) (a .c) (a .x) _ _ (is-there (asked .before)) (q .0) (q .1)
+    (sent .send .ensures)
 
 pub output-spec : {M : Type 1} → statement M
 output-spec =

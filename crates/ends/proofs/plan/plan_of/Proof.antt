@@ -12,21 +12,24 @@ unfolding outputPlan
 returns c =
     let told = c .before in
     let read = told .before .before in
-    rw (← (read .peer-of .ensures ∙ ap (λ (k : End). peerOf (k .sending)) (read .before .at .ensures)), told .enum-told .given .1) (c .open-plan .ensures)
+    rw (← (read .peer-of .ensures ∙ ap (λ (k : End). peerOf (k .sending)) (read .before .at .ensures)), told .enum-told .given .1)
+    (c .open-plan .ensures)
 
 returns-2 : tie.Need-returns-2
 unfolding outputPlan
 returns-2 c =
     let told = c .before .before in
     let read = told .before .before in
-    rw (← (read .peer-of .ensures ∙ ap (λ (k : End). peerOf (k .sending)) (read .before .at .ensures)), told .p .given .1) (c .behind-plan .ensures)
+    rw (← (read .peer-of .ensures ∙ ap (λ (k : End). peerOf (k .sending)) (read .before .at .ensures)), told .p .given .1)
+    (c .behind-plan .ensures)
 
 returns-3 : tie.Need-returns-3
 unfolding outputPlan
 returns-3 c =
     let told = c .before .before in
     let read = told .before .before in
-    rw (← (read .peer-of .ensures ∙ ap (λ (k : End). peerOf (k .sending)) (read .before .at .ensures)), told .d .given .1) (c .straight-plan .ensures)
+    rw (← (read .peer-of .ensures ∙ ap (λ (k : End). peerOf (k .sending)) (read .before .at .ensures)), told .d .given .1)
+    (c .straight-plan .ensures)
 
 pub plan-of-spec : {M : Type 1} → statement M
 plan-of-spec =

@@ -16,8 +16,10 @@ pay-requires c κs =
     let read = arrived .before .before .before in
     let entry = read .before .before .before .before in
     let a = entry .args in
-    let far = read .far-at .result in
-    (arrived-nodes (world (a .st .now) (a .mem .now)) _ _ far (a .word) (a .slot .0) (arrived .arrive .ensures) (entry .pre .0), entry .pre .1)
+    let far = read .far-at .result in (
+      arrived-nodes (world (a .st .now) (a .mem .now)) _ _ far (a .word) (a .slot .0) (arrived .arrive .ensures) (entry .pre .0),
+      entry .pre .1,
+    )
 
 consider-requires : tie.Need-consider-requires
 consider-requires c κs =
@@ -27,8 +29,10 @@ consider-requires c κs =
     let entry = read .before .before .before .before in
     let a = entry .args in
     let far = read .far-at .result in
-    rw (paid .pay .ensures)
-    (arrived-nodes (world (a .st .now) (a .mem .now)) _ _ far (a .word) (a .slot .0) (arrived .arrive .ensures) (entry .pre .0), entry .pre .1)
+    rw (paid .pay .ensures) (
+      arrived-nodes (world (a .st .now) (a .mem .now)) _ _ far (a .word) (a .slot .0) (arrived .arrive .ensures) (entry .pre .0),
+      entry .pre .1,
+    )
 
 returns : tie.Need-returns
 returns c =

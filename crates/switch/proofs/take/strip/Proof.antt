@@ -19,7 +19,8 @@ take-requires-3 : tie.Need-take-requires-3
 take-requires-3 c κs =
     let once = c .before .before .before .before .before .before in
     let told = once .before .before .before in
-    takes-less 2 1 (lit≤ tt) (takes-after _ _ _ _ 2 (once .take2 .ensures .1) (rw (told .enum-told2 .given .1) at (told .before .before .before .before .pre)))
+    takes-less 2 1 (lit≤ tt)
+    (takes-after _ _ _ _ 2 (once .take2 .ensures .1) (rw (told .enum-told2 .given .1) at (told .before .before .before .before .pre)))
 
 take-requires-4 : tie.Need-take-requires-4
 take-requires-4 c κs =
@@ -37,7 +38,8 @@ returns-2 c =
     let thrice = c .before .before .before .before in
     let twice = thrice .before .before .before .before .before .before .before in
     let once = twice .before .before .before .before .before .before .before in
-    rw (once .before .before .before .enum-told2 .given .1) (thrice .take4 .ensures .1 ∙ rw (twice .take3 .ensures .1, once .take2 .ensures .1))
+    rw (once .before .before .before .enum-told2 .given .1)
+    (thrice .take4 .ensures .1 ∙ rw (twice .take3 .ensures .1, once .take2 .ensures .1))
 
 pub strip-spec : {M : Type 1} → statement M
 strip-spec =
