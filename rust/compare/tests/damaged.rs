@@ -107,7 +107,7 @@ fn states_of_runs_with_other_things() {
 #[test]
 fn words_that_control_units_have_heard() {
     let mut met = 0;
-    for seed in 0..RUNS / 5 {
+    for seed in 0..RUNS {
         let mut runner = Runner::new(seed);
         for call in 0..CALLS {
             runner.call();
