@@ -1,6 +1,7 @@
 // A channel-end.
 use crate::layout::END;
 use crate::layout::begins;
+use crate::layout::copy;
 use crate::layout::words;
 use circuits::Circuit;
 use names::Slot;
@@ -14,8 +15,10 @@ ghost use Rattle.cells.specs.Layout.{whole, end};
 ghost use Rattle.cells.specs.Records.{toEnd, fromEnd};
 ghost use Rattle.cells.specs.View.{view, wholeEnd, withEnd, withAim, withSending, withClaim, withBuffer};
 
-// Its words before those of its circuits.
-pub const OWN: usize = 5 + END_BUFFER;
+// Where among its words its tokens begin, and where its circuits do.
+const TOKENS: usize = 5;
+
+pub const OWN: usize = TOKENS + END_BUFFER;
 
 // Its destination and network.
 pub struct Aim {
@@ -66,6 +69,8 @@ fn fields(w: &[u32]) -> End
     requires { ⌜ length (now w) ≡ end .size ⌝ }
     ensures { λ r. ⌜ r ≡ toEnd (now (w .entry)) ⌝ }
 {
+    let mut tokens = [0; END_BUFFER];
+    copy(&mut tokens, &w[TOKENS..OWN]);
     let e = OWN + circuits::WORDS;
     End {
         aim: Aim {
@@ -76,10 +81,7 @@ fn fields(w: &[u32]) -> End
         },
         sending: circuits::read(&w[OWN..e]),
         claim: circuits::read(&w[e..]),
-        buffer: Buffer {
-            held: w[4],
-            tokens: [w[5], w[6], w[7], w[8], w[9], w[10], w[11], w[12]],
-        },
+        buffer: Buffer { held: w[4], tokens },
     }
 }
 
@@ -97,20 +99,13 @@ pub fn write(w: &mut [u32], k: End)
     requires { ⌜ length (now w) ≡ end .size ⌝ }
     ensures { λ r. ⌜ now (w .exit) ≡ fromEnd k ⌝ }
 {
-    let t = k.buffer.tokens;
     w[0] = k.aim.kind;
     w[1] = k.aim.number;
     w[2] = k.aim.channel;
     w[3] = k.aim.network;
     w[4] = k.buffer.held;
-    w[5] = t[0];
-    w[6] = t[1];
-    w[7] = t[2];
-    w[8] = t[3];
-    w[9] = t[4];
-    w[10] = t[5];
-    w[11] = t[6];
-    w[12] = t[7];
+    let tokens = k.buffer.tokens;
+    copy(&mut w[TOKENS..OWN], &tokens);
     let e = OWN + circuits::WORDS;
     circuits::write(&mut w[OWN..e], k.sending);
     circuits::write(&mut w[e..], k.claim);

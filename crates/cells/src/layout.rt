@@ -14,6 +14,7 @@ use names::size::TILE_LINKS;
 use ports::Counters;
 ghost use mathlib.Core.Path.{_≡_};
 ghost use Prim.Native.Nat.{_+_, _*_, _^_, _<_, _≤_};
+ghost use lib.ListN.{length};
 ghost use Rattle.cells.specs.World.{world, shaped};
 ghost use Rattle.cells.specs.Layout.{stride, Within, begins, nodesIn, wordsOf};
 
@@ -97,6 +98,16 @@ pub fn words(st: &[u32], slot: Slot, i: usize, k: Kind) -> &[u32]
     let a = begins(slot, i, k);
     let e = a + k.size;
     &st[a..e]
+}
+
+// As many words as there are, from one place to another.
+pub fn copy(to: &mut [u32], from: &[u32])
+    requires { ⌜ length (now to) ≡ length (now from) ⌝ }
+    ensures { λ r. ⌜ now (to .exit) ≡ now (from .entry) ⌝ }
+{
+    for i in 0..to.len() {
+        to[i] = from[i];
+    }
 }
 
 // Both lengths are those of 1 to 16 nodes.

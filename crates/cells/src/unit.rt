@@ -1,6 +1,7 @@
 // A control unit.
 use crate::layout::UNIT;
 use crate::layout::begins;
+use crate::layout::copy;
 use crate::layout::words;
 use circuits::Circuit;
 use names::Slot;
@@ -13,8 +14,10 @@ ghost use Rattle.cells.specs.Layout.{whole, unit};
 ghost use Rattle.cells.specs.Records.{toUnit, fromUnit};
 ghost use Rattle.cells.specs.View.{view, wholeUnit, withUnit, withServing, withHearing};
 
-// Its words before those of its circuits.
-pub const OWN: usize = 1 + UNIT_BUFFER as usize;
+// Where among its words its tokens begin, and where its circuits do.
+const TOKENS: usize = 1;
+
+pub const OWN: usize = TOKENS + UNIT_BUFFER as usize;
 
 // What it has heard of a message, as far as it keeps it.
 pub struct Hearing {
@@ -45,23 +48,13 @@ fn fields(w: &[u32]) -> Unit
     requires { ⌜ length (now w) ≡ unit .size ⌝ }
     ensures { λ r. ⌜ r ≡ toUnit (now (w .entry)) ⌝ }
 {
+    let mut tokens = [0; UNIT_BUFFER as usize];
+    copy(&mut tokens, &w[TOKENS..OWN]);
     Unit {
         serves: circuits::read(&w[OWN..]),
         hearing: Hearing {
             heard: w[0],
-            tokens: [
-                w[1],
-                w[2],
-                w[3],
-                w[4],
-                w[5],
-                w[6],
-                w[7],
-                w[8],
-                w[9],
-                w[10],
-                w[11],
-            ],
+            tokens,
         },
     }
 }
@@ -80,19 +73,9 @@ pub fn write(w: &mut [u32], k: Unit)
     requires { ⌜ length (now w) ≡ unit .size ⌝ }
     ensures { λ r. ⌜ now (w .exit) ≡ fromUnit k ⌝ }
 {
-    let t = k.hearing.tokens;
     w[0] = k.hearing.heard;
-    w[1] = t[0];
-    w[2] = t[1];
-    w[3] = t[2];
-    w[4] = t[3];
-    w[5] = t[4];
-    w[6] = t[5];
-    w[7] = t[6];
-    w[8] = t[7];
-    w[9] = t[8];
-    w[10] = t[9];
-    w[11] = t[10];
+    let tokens = k.hearing.tokens;
+    copy(&mut w[TOKENS..OWN], &tokens);
     circuits::write(&mut w[OWN..], k.serves);
 }
 

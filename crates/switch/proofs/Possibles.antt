@@ -40,7 +40,8 @@ use Rattle.sound.specs.Sound.{sound}
 use Rattle.sound.proofs.Facts.{fair, reaches, cable-facts, room-facts, pair-facts, silent-facts}
 use Rattle.plans.specs.Plan.{markedWidth, sizeOf, sameWidth, targetAt, networkAt, candidate, lowestLink, routePlan, lowestTile, tileFree}
 use Rattle.plans.specs.Plan.{channelPlan, unitPlan, herePlan, numberIn, stepByWay, wayPlan, headerPlan, outPlan, handPlan, byHop, stepPlan}
-use Rattle.switch.specs.Needs.{Takes, FarRoom, StepPossible}
+use Rattle.moves.specs.Needs.{Takes, FarRoom}
+use Rattle.switch.specs.Needs.{StepPossible}
 use Rattle.switch.proofs.Legal.{LegalDoor, legal-target}
 use Rattle.switch.proofs.Cabled.{cabled}
 

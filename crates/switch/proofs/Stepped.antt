@@ -14,7 +14,8 @@ use Rattle.cells.specs.World.{World}
 use Rattle.tokens.specs.Word.{closes}
 use Rattle.acts.specs.Acts.{withNet, firstAt}
 use Rattle.messages.proofs.Answers.{end-answers}
-use Rattle.switch.specs.Step.{took, closesUnit, hears, portAt, stepMade, step}
+use Rattle.moves.specs.Moves.{took, closesUnit}
+use Rattle.switch.specs.Step.{hears, portAt, stepMade, step}
 
 pub port-there : (s : Net) (n p : ℕ) → portAt s n p ≡ true → (n < s .nodes) × (p < ports)
 port-there s n p e = also (below n (s .nodes)) (below p ports) .sure e

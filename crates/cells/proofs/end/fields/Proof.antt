@@ -7,10 +7,12 @@ use Rattle.cells.proofs.end.fields.Tie as tie
 
 returns : tie.Need-returns
 returns c =
-    let second = c .before .before .before .before .before .before .before .before .before in
+    let second = c .before in
     let first = second .before .before in
-    let entry = first .before .before .before .before .before .before .before in
-    rw (first .read .ensures, second .read2 .ensures, listed (end .size) (entry .args .w .now) 0 (entry .pre))
+    let copied = first .before .before .before .before .before .before .before in
+    let entry = copied .before .before .before .before in
+    let words = listed (end .size) (entry .args .w .now) 0 (entry .pre) in
+    rw (second .read2 .ensures, first .read .ensures, copied .copy .ensures, words)
 
 pub fields-spec : {M : Type 1} → statement M
 fields-spec =
@@ -20,6 +22,11 @@ fields-spec =
     (λ c. search needs)
     (λ c. search needs)
     (λ c. search needs)
+    (λ c κs. search needs)
+    (λ c. search needs)
+    (λ c. search needs)
+    (λ c. search needs)
+    (λ c. search needs)
     (λ c. search needs)
     (λ c. search needs)
     (λ c. search needs)
@@ -30,13 +37,5 @@ fields-spec =
     (λ c. search needs)
     (λ c. search needs)
     (λ c κs. search needs)
-    (λ c. search needs)
-    (λ c. search needs)
-    (λ c. search needs)
-    (λ c. search needs)
-    (λ c. search needs)
-    (λ c. search needs)
-    (λ c. search needs)
-    (λ c. search needs)
     (λ c. search needs)
     returns)

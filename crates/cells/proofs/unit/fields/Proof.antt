@@ -7,9 +7,9 @@ use Rattle.cells.proofs.unit.fields.Tie as tie
 
 returns : tie.Need-returns
 returns c =
-    let read = c .before .before .before .before .before .before .before .before .before .before .before .before in
-    let entry = read .before .before .before in
-    rw (read .read .ensures, listed (unit .size) (entry .args .w .now) 0 (entry .pre))
+    let copied = c .before .before .before .before in
+    let entry = copied .before .before .before .before in
+    rw (c .before .read .ensures, copied .copy .ensures, listed (unit .size) (entry .args .w .now) 0 (entry .pre))
 
 pub fields-spec : {M : Type 1} → statement M
 fields-spec =
@@ -18,17 +18,11 @@ fields-spec =
     (λ c. search needs)
     (λ c. search needs)
     (λ c. search needs)
+    (λ c. search needs)
     (λ c κs. search needs)
     (λ c. search needs)
     (λ c. search needs)
     (λ c. search needs)
-    (λ c. search needs)
-    (λ c. search needs)
-    (λ c. search needs)
-    (λ c. search needs)
-    (λ c. search needs)
-    (λ c. search needs)
-    (λ c. search needs)
-    (λ c. search needs)
+    (λ c κs. search needs)
     (λ c. search needs)
     returns)
