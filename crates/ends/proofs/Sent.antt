@@ -18,7 +18,7 @@ use Rattle.cells.specs.World.{World}
 use Rattle.cells.specs.declared.end.Aim.{Aim}
 use Rattle.ends.specs.Ends.{endAt}
 use Rattle.ends.specs.Plan.{targetOf, destinationOf, outputPlan}
-use Rattle.ends.specs.Output.{wordOf, isUnit, tokenNo, planRows, sendRows, tokenSent, output}
+use Rattle.ends.specs.Output.{byteOf, wordOf, isUnit, tokenNo, planRows, sendRows, tokenSent, output}
 use Rattle.ends.specs.declared.Token.{Token}
 use Rattle.ends.specs.declared.Token.the-variants.{Data, Control}
 use Rattle.ends.specs.declared.output.Destination.{Destination}
@@ -43,7 +43,7 @@ by-class Hardware v u = seven
 refusing : (x : Token) (g : Target) → Refusing (tokenNo x g)
 unfolding outputNo
 refusing (Data v) g = none
-refusing (Control v) g = by-class (classOf v) v (isUnit g)
+refusing (Control v) g = by-class (classOf (byteOf v)) (byteOf v) (isUnit g)
 
 module _ (w : World) (n c : ℕ) (g : Target) (x : Token) where
   -- refused by the token

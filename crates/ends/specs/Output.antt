@@ -1,5 +1,5 @@
 -- "Output a token." (document 01, "Calls"): a plan carried out by the acts, and when it is refused.
-use Prim.Native.Nat.{ℕ}
+use Prim.Native.Nat.{ℕ, _%_}
 use mathlib.Core.Bool.{Bool, true, false, not}
 use mathlib.Core.List.{List, [], _∷_}
 use lib.Dec.{eqb}
@@ -23,10 +23,14 @@ use Rattle.ends.specs.declared.Token.the-variants.{Data, Control}
 use Rattle.ends.specs.declared.plan.Plan.{Plan}
 use Rattle.ends.specs.declared.plan.Plan.the-variants.{Narrow, Full, Opens, Behind, Straight}
 
+-- "Data tokens are 0..255": of what a caller gives, the low eight bits
+abbrev pub byteOf : ℕ → ℕ
+byteOf v = v % 256
+
 -- the word of a token
 abbrev pub wordOf : Token → ℕ
-wordOf (Data v) = dataWord v
-wordOf (Control v) = controlWord v
+wordOf (Data v) = dataWord (byteOf v)
+wordOf (Control v) = controlWord (byteOf v)
 
 abbrev pub isUnit : Target → Bool
 isUnit (Targets.Channel m c) = false
@@ -35,7 +39,7 @@ isUnit (Targets.Unit m) = true
 -- 7 or 8, for a control token towards a destination
 abbrev pub tokenNo : Token → Target → ℕ
 tokenNo (Data v) g = Names.passes
-tokenNo (Control v) g = outputNo v (isUnit g)
+tokenNo (Control v) g = outputNo (byteOf v) (isUnit g)
 
 -- the circuit of channel-end c goes by port p, until this token closes it
 abbrev pub goesBy : Net → ℕ → ℕ → ℕ → ℕ → Net
