@@ -1,4 +1,4 @@
--- What no Set changes: how many nodes there are, what ports hold, where cables lead. Assumes nothing.
+-- What no Set changes: how many nodes there are, what ports hold, where cables lead, what control units have heard. Assumes nothing.
 use Prim.Native.Nat.{ℕ}
 use mathlib.Core.Path.{_≡_, refl, _∙_}
 use lib.Dec.{eqb}
@@ -20,34 +20,35 @@ pub record Leaves (s z : Net) : Type 0 where
   pub nodes : z .nodes ≡ s .nodes
   pub ports : z .ports ≡ s .ports
   pub cables : z .links .cables ≡ s .links .cables
+  pub units : z .units ≡ s .units
 
 pub leaves-all : (s : Net) → Leaves s s
-leaves-all s = record { nodes = refl; ports = refl; cables = refl }
+leaves-all s = record { nodes = refl; ports = refl; cables = refl; units = refl }
 
 pub and-then : {s y z : Net} → Leaves s y → Leaves y z → Leaves s z
-and-then a b = record { nodes = b .nodes ∙ a .nodes; ports = b .ports ∙ a .ports; cables = b .cables ∙ a .cables }
+and-then a b = record { nodes = b .nodes ∙ a .nodes; ports = b .ports ∙ a .ports; cables = b .cables ∙ a .cables; units = b .units ∙ a .units }
 
 of-far : (s : Net) (f : Far) → Leaves s (farSilenced s f)
 of-far s Nowhere = leaves-all s
-of-far s (At m j) = record { nodes = refl; ports = refl; cables = refl }
+of-far s (At m j) = record { nodes = refl; ports = refl; cables = refl; units = refl }
 
 module _ (s : Net) (n : ℕ) where
   of-disabled : (l : ℕ) → Leaves s (disabled s n l)
   unfolding disabled
   of-disabled l =
       let z = of-far (withSetup (withFlow s n l silenced) n l (enabledAs (s .links .setups n l) 0)) (farOf (s .links .cables n l)) in
-      record { nodes = z .nodes; ports = z .ports; cables = z .cables }
+      record { nodes = z .nodes; ports = z .ports; cables = z .cables; units = z .units }
 
   of-made : (x : Setting) → Leaves s (setMade s n x)
   unfolding helloed considered
-  of-made (Number v) = record { nodes = refl; ports = refl; cables = refl }
-  of-made (Width v) = record { nodes = refl; ports = refl; cables = refl }
-  of-made (Direction b v) = record { nodes = refl; ports = refl; cables = refl }
-  of-made (LinkDirection l v) = record { nodes = refl; ports = refl; cables = refl }
-  of-made (Network l v) = record { nodes = refl; ports = refl; cables = refl }
+  of-made (Number v) = record { nodes = refl; ports = refl; cables = refl; units = refl }
+  of-made (Width v) = record { nodes = refl; ports = refl; cables = refl; units = refl }
+  of-made (Direction b v) = record { nodes = refl; ports = refl; cables = refl; units = refl }
+  of-made (LinkDirection l v) = record { nodes = refl; ports = refl; cables = refl; units = refl }
+  of-made (Network l v) = record { nodes = refl; ports = refl; cables = refl; units = refl }
   of-made (Enable l v) =
-      by-test (eqb v 0) (λ e. rw e (of-disabled l)) (λ e. rw e (record { nodes = refl; ports = refl; cables = refl }))
-  of-made (Hello l) = record { nodes = refl; ports = refl; cables = refl }
+      by-test (eqb v 0) (λ e. rw e (of-disabled l)) (λ e. rw e (record { nodes = refl; ports = refl; cables = refl; units = refl }))
+  of-made (Hello l) = record { nodes = refl; ports = refl; cables = refl; units = refl }
 
   pub set-leaves : (x : Setting) → Leaves s (setCall s n x .next)
   unfolding setCall

@@ -1,0 +1,53 @@
+-- What each call makes that is not refused keeps all that is kept. Assumes nothing.
+use Prim.Native.Nat.{ℕ, _<_, _≤_}
+use mathlib.Core.Path.{_≡_, refl, sym, ap, _∙_}
+use mathlib.Core.Bool.{Bool, true, false, not, _&&_, _||_}
+use mathlib.Core.Logic.{_⊎_, inl, inr, ⊎-elim}
+use native.Mathlib.Omega.{arith}
+use lib.Dec.{eqb, ltb}
+use borrow.Author.Tests.{eqb-false, eq-eqb, not-false}
+use Rattle.laws.proofs.All.{also, as-is, at-most, below}
+use Rattle.laws.proofs.Order.{by-test, clash}
+use Rattle.names.specs.Size.{nodes, links}
+use Rattle.answers.specs.Rows.{Passes}
+use Rattle.cells.specs.World.{World}
+use Rattle.cells.specs.Fresh.{freshWorld}
+use Rattle.acts.specs.Acts.{withNet}
+use Rattle.fresh.specs.Fresh.{freshRows}
+use Rattle.settings.specs.Wire.{endTaken, wireRows, wired}
+use Rattle.settings.specs.Set.{linkThere, setRows, setMade}
+use Rattle.settings.specs.declared.Setting.{Setting}
+use Rattle.sound.proofs.Fresh.{fresh-sound, fresh-tight}
+use Rattle.kept.specs.Kept.{Kept}
+use Rattle.kept.proofs.Parts.{sound-kept}
+use Rattle.kept.proofs.Wires.{Loose, keep-wired}
+use Rattle.kept.proofs.Sets.{keep-made}
+
+either-not : (a b : Bool) → (a || b) ≡ false → (a ≡ false) × (b ≡ false)
+either-not true b e = clash e
+either-not false b e = (refl, e)
+
+-- FRESH
+pub keep-fresh : (w : World) (n : ℕ) → Passes (freshRows w n) → Kept (freshWorld n)
+keep-fresh w n p =
+    let counted = also (at-most 1 n) (at-most n nodes) .sure (not-false _ (p .0)) in
+    sound-kept (freshWorld n) (fresh-sound n (counted .0) (counted .1)) (fresh-tight n (counted .0) (counted .1))
+
+-- WIRE
+pub keep-wire : (w : World) → Kept w → (n l m k : ℕ) → Passes (wireRows (w .net) n l m k) → Kept (withNet w (wired (w .net) n l m k))
+keep-wire w kept n l m k p =
+    let there = also (also (below n (w .net .nodes)) (below l links)) (also (below m (w .net .nodes)) (below k links)) .sure (not-false _ (p .0)) in
+    let free = either-not (endTaken (w .net) n l) (endTaken (w .net) m k) (p .1 .1 .0) in
+    keep-wired w kept n l m k (loose n l (there .0) (free .0)) (loose m k (there .1) (free .1))
+    (λ e d. clash (rw (eq-eqb n m (sym e), eq-eqb l k (sym d)) at (p .1 .0)))
+  where
+    loose : (a j : ℕ) → (a < w .net .nodes) × (j < links) → endTaken (w .net) a j ≡ false → Loose w a j
+    loose a j h e =
+        let z = either-not (eqb (w .net .links .cables a j .wired) 1) (eqb (w .net .links .setups a j .enabled) 1) e in
+        record { node = h .0; link = h .1; unwired = eqb-false _ 1 (z .0); disabled = eqb-false _ 1 (z .1) }
+
+-- SET
+pub keep-set-made : (w : World) → Kept w → (n : ℕ) (x : Setting) → Passes (setRows (w .net) n x) → Kept (withNet w (setMade (w .net) n x))
+keep-set-made w k n x p =
+    let there = also (below n (w .net .nodes)) (as-is (linkThere x)) .sure (not-false _ (p .0)) in
+    keep-made w k n (there .0) x (there .1) (not-false _ (p .1 .0)) (p .1 .1 .0)

@@ -1,0 +1,129 @@
+-- Every Set that is not refused keeps all that is kept, and so does what a switch message writes. Assumes nothing.
+use Prim.Native.Nat.{ℕ, _<_, _≤_}
+use mathlib.Core.Path.{_≡_, refl, sym, ap, _∙_}
+use mathlib.Core.Bool.{Bool, true, false, not, _&&_, _||_}
+use mathlib.Core.List.{List, [], _∷_}
+use mathlib.Core.Logic.{_⊎_, inl, inr, ⊎-elim}
+use native.Mathlib.Omega.{arith}
+use lib.Dec.{eqb, ltb, leb}
+use borrow.Author.Tests.{eqb-true, ltb-true, not-false, not-true}
+use Rattle.laws.proofs.Table.{upd-all}
+use Rattle.laws.proofs.All.{also, either, as-is, below, equal}
+use Rattle.laws.proofs.Order.{by-test, clash}
+use Rattle.names.specs.Size.{links, directions, networks, numbers}
+use Rattle.names.specs.No.{passes}
+use Rattle.names.specs.Number.{isNumber}
+use Rattle.answers.specs.Rows.{Row, refusal, Passes}
+use Rattle.answers.specs.Out.{Out, attempt}
+use Rattle.answers.proofs.Refusals.{passed}
+use Rattle.cells.specs.View.{Net, wholePort, withNode}
+use Rattle.cells.specs.World.{World, shaped, farOf}
+use Rattle.cells.specs.declared.node.Node.{Node}
+use Rattle.clauses.specs.Counts.{isFree}
+use Rattle.acts.specs.Acts.{withNet}
+use Rattle.settings.specs.Set.{linkThere, inRange, endInUse, farInUse, setBusy, setRows, setMade, setAnswer, setCall}
+use Rattle.settings.specs.declared.Setting.{Setting}
+use Rattle.settings.specs.declared.Setting.the-variants.{Number, Width, Direction, LinkDirection, Network, Enable, Hello}
+use Rattle.messages.specs.Write.{accepted, madeAll, written}
+use Rattle.kept.specs.Kept.{NodeOk, Kept}
+use Rattle.kept.proofs.Links.{keep-helloed, keep-directed, keep-network, keep-enabled, keep-disabled}
+
+-- A NODE'S OWN SETTINGS
+keep-own : (w : World) → Kept w → (n : ℕ) (x : Node) → NodeOk x → Kept (withNet w (withNode (w .net) n x))
+unfolding shaped
+keep-own w k n x ok =
+    record {
+      shape = k .shape;
+      nodes = λ a i ha hi. upd-all (λ a i y. NodeOk y) (w .net .own) n 0 x a i (λ ea ei. ok) (λ o. k .nodes a i ha hi);
+      cabled = k .cabled;
+      setups = k .setups;
+      users = k .users;
+      greeted = k .greeted;
+      money = k .money;
+      counters = k .counters;
+      legs = k .legs;
+      networks = k .networks;
+      senders = k .senders;
+      tiles = k .tiles;
+      aims = k .aims;
+      sendings = k .sendings;
+      claims = k .claims;
+      buffers = k .buffers;
+      serving = k .serving;
+      hearings = k .hearings;
+      portLink = k .portLink;
+      portTile = k .portTile;
+      portUnit = k .portUnit;
+      portClaim = k .portClaim;
+      endClaim = k .endClaim;
+      endPort = k .endPort;
+      aimed = k .aimed;
+      goes = k .goes;
+      silent = k .silent;
+      backs = k .backs;
+      idle = k .idle;
+      fed = k .fed;
+    }
+
+-- what refuses no Set that disables: a link that nobody uses
+free : (busy e kind port far : Bool) → busy ≡ true → (busy && (e && ((port || not kind) || far))) ≡ false → e ≡ true → kind ≡ true
+free true true true port far h g e = refl
+free true true false true far h g e = clash g
+free true true false false far h g e = clash g
+free true false kind port far h g e = clash (sym e)
+free false e kind port far h g q = clash (sym h)
+
+sixteen-bits : (v : ℕ) → isNumber v ≡ true → v < numbers
+sixteen-bits v r = by-test (ltb v numbers) (λ e. ltb-true v numbers e) (λ e. clash (sym (rw e at r)))
+
+-- a Set that is not refused
+module _ (w : World) (k : Kept w) (n : ℕ) (hn : n < w .net .nodes) where
+  node-ok : NodeOk (w .net .own n 0)
+  node-ok = k .nodes n 0 hn (omega arith)
+
+  pub keep-made : (x : Setting) → linkThere x ≡ true → inRange x ≡ true → setBusy (w .net) n x ≡ false
+      → Kept (withNet w (setMade (w .net) n x))
+  keep-made (Number v) h r b = keep-own w k n _ (sixteen-bits v r, node-ok .1)
+  keep-made (Width v) h r b = keep-own w k n _ (node-ok .0, either (equal v 1) (equal v 3) .sure r)
+  keep-made (Direction bit v) h r b = keep-own w k n _ node-ok
+  keep-made (LinkDirection l v) h r b = keep-directed w k n l hn (ltb-true l links h) v (ltb-true v directions r)
+  keep-made (Network l v) h r b = keep-network w k n l hn (ltb-true l links h) v (ltb-true v networks r)
+  keep-made (Enable l v) h r b =
+      let hl = ltb-true l links h in
+      by-test (eqb v 0)
+      (λ e. rw e (keep-disabled w k n l hn hl
+      (⊎-elim
+      (λ on. eqb-true (w .net .links .users n l .kind) 0
+      (free (eqb v 0) (eqb (w .net .links .setups n l .enabled) 1) (eqb (w .net .links .users n l .kind) 0)
+      (not (isFree (wholePort (w .net) n l))) (farInUse (w .net) (farOf (w .net .links .cables n l))) e b (equal (w .net .links .setups n l .enabled) 1 .back on)))
+      (λ nobody. nobody)
+      (k .idle n l hn hl))))
+      (λ e. rw e (keep-enabled w k n l hn hl))
+  keep-made (Hello l) h r b =
+      keep-helloed w k n l hn (ltb-true l links h) (eqb-true (w .net .links .setups n l .enabled) 1 (not-not b))
+    where
+      not-not : {x : Bool} → not x ≡ false → x ≡ true
+      not-not {x} e = not-false x e
+
+-- A CALL, refused or made, keeps what is kept where what it makes does
+pub attempted : {S : Type 0} (P : S → Type 0) (rs : List Row) (s : S) (done : Out S) → P s → (Passes rs → P (done .next))
+    → P (attempt rs s done .next)
+attempted P rs s done old new =
+    by-test (eqb (refusal rs) passes) (λ e. rw e (new (passed rs .sure e))) (λ e. rw e old)
+
+pub keep-set : (w : World) → Kept w → (n : ℕ) (x : Setting) → Kept (withNet w (setCall (w .net) n x .next))
+unfolding setCall
+keep-set w k n x =
+    attempted (λ (s : Net). Kept (withNet w s)) (setRows (w .net) n x) (w .net) _ k
+    (λ p.
+    let there = also (below n (w .net .nodes)) (as-is (linkThere x)) .sure (not-false _ (p .0)) in
+    keep-made w k n (there .0) x (there .1) (not-false _ (p .1 .0)) (p .1 .1 .0))
+
+-- WHAT A MESSAGE WRITES: its Sets one by one, or nothing
+keep-all : (xs : List Setting) (w : World) → Kept w → (n : ℕ) → Kept (withNet w (madeAll (w .net) n xs))
+keep-all [] w k n = k
+keep-all (x ∷ xs) w k n = keep-all xs (withNet w (setCall (w .net) n x .next)) (keep-set w k n x) n
+
+pub keep-written : (w : World) → Kept w → (n : ℕ) (xs : List Setting) → Kept (withNet w (written (w .net) n xs))
+unfolding written
+keep-written w k n xs = by-test (accepted (w .net) n xs) (λ e. rw e (keep-all xs w k n)) (λ e. rw e k)

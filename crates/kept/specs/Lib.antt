@@ -1,0 +1,2 @@
+-- What every call keeps.
+pub mod Kept
