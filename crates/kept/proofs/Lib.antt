@@ -2,6 +2,7 @@
 pub mod Parts
 pub mod Walks
 pub mod Headers
+pub mod Pasts
 pub mod Tables
 pub mod Money
 pub mod Queues
@@ -12,4 +13,7 @@ pub mod Fronts
 pub mod Links
 pub mod Wires
 pub mod Sets
+pub mod Leaves
+pub mod Ends
+pub mod Hands
 pub mod Calls

@@ -73,7 +73,7 @@ free true true false false far h g e = clash g
 free true false kind port far h g e = clash (sym e)
 free false e kind port far h g q = clash (sym h)
 
-sixteen-bits : (v : ℕ) → isNumber v ≡ true → v < numbers
+pub sixteen-bits : (v : ℕ) → isNumber v ≡ true → v < numbers
 sixteen-bits v r = by-test (ltb v numbers) (λ e. ltb-true v numbers e) (λ e. clash (sym (rw e at r)))
 
 -- a Set that is not refused

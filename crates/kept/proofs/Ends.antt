@@ -1,0 +1,325 @@
+-- What programs do at channel-ends keeps all that is kept: Aim, Input, and Output straight to a channel of the same node. Assumes nothing.
+use Prim.{tt}
+use Prim.Native.Nat.{ℕ, suc, _+_, _-_, _<_, _≤_}
+use mathlib.Core.Path.{_≡_, refl, sym, ap, _∙_}
+use mathlib.Core.Bool.{Bool, true, false, not, _&&_}
+use mathlib.Core.List.{List, [], _∷_, _++_}
+use mathlib.Core.Logic.{_⊎_, inl, inr, ⊎-elim}
+use native.Mathlib.Decide.{ℕ-discrete}
+use native.Mathlib.Omega.{arith}
+use lib.Dec.{eqb, ltb}
+use lib.ListN.{length, getD, set, length-set, List·getD-append, List·getD-eq-default}
+use lib.Seq.{getD-set-same, getD-set-other}
+use borrow.Author.Tests.{eqb-true, eqb-false, lt-ltb, not-false}
+use Rattle.laws.specs.Table.{upd, Off}
+use Rattle.laws.specs.Row.{tab}
+use Rattle.laws.proofs.All.{also, as-is, below}
+use Rattle.laws.proofs.Order.{by-test, order, clash, never}
+use Rattle.laws.proofs.Row.{length-tab, getD-tab}
+use Rattle.laws.proofs.Table.{upd-all}
+use Rattle.names.specs.Size.{ports, ends, endBuffer, networks, numbers, sink}
+use Rattle.names.specs.Number.{isNumber}
+use Rattle.circuits.specs.Circuit.{peerOf, ofPeer}
+use Rattle.circuits.specs.declared.Circuit.{Circuit}
+use Rattle.circuits.specs.declared.Peer.{Peer}
+use Rattle.circuits.specs.declared.Peer.the-variants.{Nobody, Port, End}
+use Rattle.tokens.specs.Word.{closes, isPause}
+use Rattle.tokens.specs.Shape.{legalChannel}
+use Rattle.grammar.specs.declared.stage.Stage.the-variants.{Body}
+use Rattle.cells.specs.View.{Net, EndTables, withEnds, withSending, withClaim, withBuffer}
+use Rattle.cells.specs.World.{World, shaped}
+use Rattle.cells.specs.declared.end.Aim.{Aim}
+use Rattle.cells.specs.declared.end.Buffer.{Buffer}
+use Rattle.clauses.specs.Contents.{legalWord}
+use Rattle.clauses.specs.Pairs.{portOf, endOf, claimable, straightTo}
+use Rattle.clauses.specs.declared.pairs.Named.{Named}
+use Rattle.clauses.specs.declared.pairs.Named.the-variants.{Nothing, One}
+use Rattle.clauses.proofs.Meanings.{AimFacts}
+use Rattle.acts.specs.Acts.{withNet, untilClosed, channelClaimed, bufferAfter}
+use Rattle.acts.specs.Needs.{Keeps, Door, Given}
+use Rattle.acts.proofs.Doors.{door}
+use Rattle.acts.proofs.Pushes.{holds}
+use Rattle.ends.specs.Aim.{goalRanged, aimedAt, aimMade}
+use Rattle.ends.specs.Input.{tookFirst, inputMade}
+use Rattle.ends.specs.Output.{goesStraight}
+use Rattle.ends.specs.declared.aim.Goal.{Goal}
+use Rattle.ends.specs.declared.aim.Goal.the-variants.{Channel, Unit}
+use Rattle.kept.specs.Kept.{All, Pair, AimOk, PeerOk, BufferOk, Aimed, GoesBy, Sends, Kept, backAt}
+use Rattle.kept.specs.Kept.{legClaim, portIn, endIn, claimIn}
+use Rattle.kept.proofs.Sets.{sixteen-bits}
+use Rattle.kept.proofs.Tables.{all-at, all-upd, pair-same, pair-first, pair-second, pair-link, pair-unlink, reads}
+
+-- other channel-ends, and everything else as it was
+abbrev endsAs : World → EndTables → World
+endsAs w x = withNet w (withEnds (w .net) x)
+
+-- what has to hold of them
+record Ended (w : World) (x : EndTables) : Type 0 where
+  aims : All (w .net .nodes) ends (λ n e. AimOk (x .aims n e))
+  sendings : All (w .net .nodes) ends (λ n e. PeerOk (x .sendings n e))
+  claims : All (w .net .nodes) ends (λ n e. PeerOk (x .claims n e))
+  buffers : All (w .net .nodes) ends (λ n e. BufferOk (x .buffers n e))
+  portClaim : Pair (w .net .nodes) ports ends legClaim portIn (w .net .ports .legs) (x .claims)
+  endClaim : Pair (w .net .nodes) ends ends claimIn endIn (x .sendings) (x .claims)
+  endPort : Pair (w .net .nodes) ends ports portIn endIn (x .sendings) (w .net .ports .senders)
+  aimed : Aimed (w .net .nodes) (x .sendings) (x .aims)
+  goes : All (w .net .nodes) ends (λ n e. GoesBy (peerOf (x .sendings n e)))
+  sends : Sends (w .net .nodes) (x .sendings) (backAt w)
+
+ended : (w : World) (x : EndTables) → Kept w → Ended w x → Kept (endsAs w x)
+unfolding shaped
+ended w x k z =
+    record {
+      shape = k .shape;
+      nodes = k .nodes;
+      cabled = k .cabled;
+      setups = k .setups;
+      users = k .users;
+      greeted = k .greeted;
+      money = k .money;
+      counters = k .counters;
+      legs = k .legs;
+      networks = k .networks;
+      senders = k .senders;
+      tiles = k .tiles;
+      aims = z .aims;
+      sendings = z .sendings;
+      claims = z .claims;
+      buffers = z .buffers;
+      serving = k .serving;
+      hearings = k .hearings;
+      portLink = k .portLink;
+      portTile = k .portTile;
+      portUnit = k .portUnit;
+      portClaim = z .portClaim;
+      endClaim = z .endClaim;
+      endPort = z .endPort;
+      aimed = z .aimed;
+      goes = z .goes;
+      silent = k .silent;
+      backs = record { walks = k .backs .walks; unfed = k .backs .unfed; sends = z .sends; replied = k .backs .replied };
+      idle = k .idle;
+      fed = k .fed;
+    }
+
+-- AIM
+aim-ok : (g : Goal) (v : ℕ) → goalRanged g ≡ true → v < networks → AimFacts (aimedAt g v)
+aim-ok (Channel m c) v r h =
+    let z = also (as-is (isNumber m)) (as-is (legalChannel c)) .sure r in
+    record { number = sixteen-bits m (z .0); network = h; place = inr (refl, z .1) }
+aim-ok (Unit m) v r h = record { number = sixteen-bits m r; network = h; place = inl refl }
+
+aimed-so : (g : Goal) (v : ℕ) → aimedAt g v .kind ≡ 0 → ⊥
+aimed-so (Channel m c) v e = omega arith
+aimed-so (Unit m) v e = omega arith
+
+pub keep-aim : (w : World) → Kept w → (n c : ℕ) (g : Goal) (v : ℕ) → goalRanged g ≡ true → v < networks
+    → Kept (withNet w (aimMade (w .net) n c g v))
+keep-aim w k n c g v r h =
+    let t = w .net .ends in
+    let a = aimedAt g v in
+    ended w (record { aims = upd (t .aims) n c a; sendings = t .sendings; claims = t .claims; buffers = t .buffers }) k
+    (record {
+      aims = all-upd (t .aims) n c a AimOk (k .aims) (inr (aim-ok g v r h));
+      sendings = k .sendings;
+      claims = k .claims;
+      buffers = k .buffers;
+      portClaim = k .portClaim;
+      endClaim = k .endClaim;
+      endPort = k .endPort;
+      aimed = all-at (t .aims) n c a (λ m e x. (t .sendings m e .kind ≡ 0) ⊎ (x .kind ≡ 0 → ⊥)) (k .aimed) (inr (aimed-so g v));
+      goes = k .goes;
+      sends = k .backs .sends;
+    })
+
+-- INPUT
+took-first : (b : Buffer) → BufferOk b → BufferOk (tookFirst b)
+took-first b h =
+    let up : ℕ → ℕ = λ i. getD (b .tokens) (suc i) 0 in
+    let moved : (i : ℕ) → i < 7 → getD (tab 7 up ++ (0 ∷ [])) i 0 ≡ up i =
+    λ i l. List·getD-append (tab 7 up) (0 ∷ []) 0 i (rw (length-tab 7 up) l) ∙ getD-tab 7 up i 0 l in
+    (omega (arith, h .0), λ i l. rw (moved i (omega (arith, h .0))) (h .1 (suc i) (omega arith)))
+
+pub keep-input : (w : World) → Kept w → (n c : ℕ) → n < w .net .nodes → c < ends → Kept (withNet w (inputMade (w .net) n c))
+keep-input w k n c hn hc =
+    let t = w .net .ends in
+    let b = tookFirst (t .buffers n c) in
+    ended w (record { aims = t .aims; sendings = t .sendings; claims = t .claims; buffers = upd (t .buffers) n c b }) k
+    (record {
+      aims = k .aims;
+      sendings = k .sendings;
+      claims = k .claims;
+      buffers = all-upd (t .buffers) n c b BufferOk (k .buffers) (took-first (t .buffers n c) (k .buffers n c hn hc));
+      portClaim = k .portClaim;
+      endClaim = k .endClaim;
+      endPort = k .endPort;
+      aimed = k .aimed;
+      goes = k .goes;
+      sends = k .backs .sends;
+    })
+
+-- WHAT A CHANNEL-END KEEPS of a token
+-- the word that is written, or what stands past the last
+word-set : (P : ℕ → Type 0) (l : List ℕ) (i x : ℕ) → P x → P 0 → P (getD (set l i x) i 0)
+word-set P l i x h z =
+    ⊎-elim (λ m. rw (getD-set-same l i x 0 m) h)
+    (λ m. rw (List·getD-eq-default (set l i x) 0 {n = i} (rw (length-set l i x) m)) z)
+    (order i (length l))
+
+legal-word : (t : ℕ) → t < 0x1C2 → isPause t ≡ false → legalWord true t ≡ true
+legal-word t l e = rw (lt-ltb t 0x1C2 l, e)
+
+pub buffer-after : (b : Buffer) (t : ℕ) → BufferOk b → Keeps b t → t < 0x1C2 → BufferOk (bufferAfter b t)
+buffer-after b t h m l = by-test (isPause t) (λ e. rw e h) (λ e. rw e (more e))
+  where
+    more : isPause t ≡ false → BufferOk (record { held = b .held + 1; tokens = set (b .tokens) (b .held) t })
+    more e =
+        let room = holds b t false m (sym e) refl in
+        (omega arith,
+        λ i j. elim (ℕ-discrete i (b .held)) [
+          | yes d ↦ rw d (word-set (λ x. legalWord true x ≡ true) (b .tokens) (b .held) t (legal-word t l e) refl)
+          | no d ↦ rw (getD-set-other (b .tokens) (b .held) i t 0 d) (h .1 i (omega arith))
+        ])
+
+-- UNTIL END OR PAUSE: what holds of nobody and of who has the circuit
+pub until : (P : Peer → Type 0) (t : ℕ) (x : Peer) → P Nobody → P x → P (untilClosed t x)
+until P t x shut still = by-test (closes t) (λ e. rw e shut) (λ e. rw e still)
+
+-- two that name each other, or name nobody, name each other until then
+pub pair-until : {N a b : ℕ} {f g : Circuit → Named} {x y : ℕ → ℕ → Circuit} → Pair N a b f g x y
+    → (t n i j : ℕ) (u v : Peer) → n < N → i < a → j < b
+    → (f (x n i) ≡ One j) ⊎ ((f (x n i) ≡ Nothing) × (g (y n j) ≡ Nothing))
+    → f (ofPeer Nobody) ≡ Nothing
+    → g (ofPeer Nobody) ≡ Nothing
+    → f (ofPeer u) ≡ One j
+    → g (ofPeer v) ≡ One i
+    → Pair N a b f g (upd x n i (ofPeer (untilClosed t u))) (upd y n j (ofPeer (untilClosed t v)))
+pair-until {f = f} {g = g} {x = x} {y = y} z t n i j u v hn hi hj met fn gn fu gv =
+    let none = ofPeer Nobody in
+    by-test (closes t)
+    (λ e. rw e (⊎-elim
+    (λ named. pair-unlink z n i j none none hn hi named fn gn)
+    (λ free. pair-same z (upd x n i none) (upd y n j none) (reads f x n i none (fn ∙ sym (free .0))) (reads g y n j none (gn ∙ sym (free .1))))
+    met))
+    (λ e. rw e (⊎-elim
+    (λ named. pair-same z (upd x n i (ofPeer u)) (upd y n j (ofPeer v)) (reads f x n i (ofPeer u) (fu ∙ sym named))
+    (reads g y n j (ofPeer v) (gv ∙ sym (z .out n i hn hi j named .1))))
+    (λ free. pair-link z n i j (ofPeer u) (ofPeer v) hi hj (free .0) (free .1) fu gv)
+    met))
+
+-- OUTPUT: a channel-end that is there and aimed
+pub record Sender (s : Net) (n c : ℕ) : Type 0 where
+  pub node : n < s .nodes
+  pub end : c < ends
+  pub aimed : s .ends .aims n c .kind ≡ 0 → ⊥
+
+-- what it sends by is written
+module _ (w : World) (k : Kept w) (n c t : ℕ) (s : Sender (w .net) n c) (x : Peer) (ok : PeerOk (ofPeer x)) (there : GoesBy (peerOf (ofPeer x))) where
+  abbrev now : ℕ → ℕ → Circuit
+  now = upd (w .net .ends .sendings) n c (ofPeer (untilClosed t x))
+
+  pub sending-ok : All (w .net .nodes) ends (λ m e. PeerOk (now m e))
+  sending-ok =
+      all-upd (w .net .ends .sendings) n c _ PeerOk (k .sendings) (until (λ (y : Peer). PeerOk (ofPeer y)) t x (omega arith) ok)
+
+  pub sending-aimed : Aimed (w .net .nodes) now (w .net .ends .aims)
+  sending-aimed =
+      all-at (w .net .ends .sendings) n c _ (λ m e y. (y .kind ≡ 0) ⊎ (w .net .ends .aims m e .kind ≡ 0 → ⊥)) (k .aimed) (inr (s .aimed))
+
+  pub sending-goes : All (w .net .nodes) ends (λ m e. GoesBy (peerOf (now m e)))
+  sending-goes =
+      all-upd (w .net .ends .sendings) n c _ (λ y. GoesBy (peerOf y)) (k .goes)
+      (until (λ (y : Peer). GoesBy (peerOf (ofPeer y))) t x tt there)
+
+-- STRAIGHT TO A CHANNEL: a circuit that goes there already, or none yet and no other claims it
+abbrev pub Straight : Net → ℕ → ℕ → ℕ → Type 0
+Straight s n c d =
+    (peerOf (s .ends .sendings n c) ≡ End d) ⊎ ((peerOf (s .ends .sendings n c) ≡ Nobody) × (channelClaimed s n d ≡ false))
+
+not-port : (x : Peer) (e : ℕ) → endOf x ≡ One e → portOf x ≡ Nothing
+not-port Nobody e h = refl
+not-port (Port p) e h = never (cc)
+not-port (End d) e h = refl
+
+module _ (w : World) (k : Kept w) (n c d t : ℕ) (s : Sender (w .net) n c) (o : Straight (w .net) n c d) (there : Door d) where
+  abbrev sending : Circuit
+  sending = w .net .ends .sendings n c
+
+  -- a reading of where the circuit goes that is the same of nobody and of d
+  before : (f : Peer → Named) → f (End d) ≡ Nothing → f Nobody ≡ Nothing → f (peerOf sending) ≡ Nothing
+  before f e z = ⊎-elim (λ p. ap f p ∙ e) (λ p. ap f (p .0) ∙ z) o
+
+  after : (f : Peer → Named) → f (peerOf (ofPeer (End d))) ≡ Nothing → f (peerOf (ofPeer Nobody)) ≡ Nothing
+      → f (peerOf (ofPeer (untilClosed t (End d)))) ≡ Nothing
+  after f e z = until (λ x. f (peerOf (ofPeer x)) ≡ Nothing) t (End d) z e
+
+  -- with the claims and the buffers that there are then
+  straight-as : (claims : ℕ → ℕ → Circuit) (buffers : ℕ → ℕ → Buffer)
+      → All (w .net .nodes) ends (λ m e. PeerOk (claims m e))
+      → All (w .net .nodes) ends (λ m e. BufferOk (buffers m e))
+      → Pair (w .net .nodes) ports ends legClaim portIn (w .net .ports .legs) claims
+      → Pair (w .net .nodes) ends ends claimIn endIn (upd (w .net .ends .sendings) n c (ofPeer (untilClosed t (End d)))) claims
+      → Kept (endsAs w (record {
+        aims = w .net .ends .aims;
+        sendings = upd (w .net .ends .sendings) n c (ofPeer (untilClosed t (End d)));
+        claims = claims;
+        buffers = buffers;
+      }))
+  straight-as claims buffers ok held by-ports by-ends =
+      let t = w .net .ends in
+      let no-port = after portOf refl refl in
+      ended w _ k
+      (record {
+        aims = k .aims;
+        sendings = sending-ok w k n c _ s (End d) (omega arith) there;
+        claims = ok;
+        buffers = held;
+        portClaim = by-ports;
+        endClaim = by-ends;
+        endPort = pair-first (k .endPort) n c _ (no-port ∙ sym (before portOf refl refl));
+        aimed = sending-aimed w k n c _ s (End d) (omega arith) there;
+        goes = sending-goes w k n c _ s (End d) (omega arith) there;
+        sends = λ a e ha he p. upd-all (λ a e y. peerOf y ≡ Port p → backAt w a p ≡ Body) (t .sendings) n c _ a e
+            (λ ea ee q. never (let some = ap portOf q in cc))
+            (λ off. k .backs .sends a e ha he p);
+      })
+
+  -- the sink is never claimed, and keeps nothing
+  to-sink : eqb d sink ≡ true → Kept (withNet w (withSending (w .net) n c (ofPeer (untilClosed t (End d)))))
+  to-sink e =
+      let x = w .net .ends in
+      let none : claimable d ≡ Nothing = rw e in
+      straight-as (x .claims) (x .buffers) (k .claims) (k .buffers) (k .portClaim)
+      (pair-first (k .endClaim) n c _ (after straightTo none refl ∙ sym (before straightTo none refl)))
+
+  -- any other channel is claimed until END or PAUSE, and keeps what it is handed
+  to-end : eqb d sink ≡ false → t < 0x1C2 → d < ends → Keeps (w .net .ends .buffers n d) t
+      → Kept (withNet w (withSending
+      (withClaim (withBuffer (w .net) n d (bufferAfter (w .net .ends .buffers n d) t)) n d (ofPeer (untilClosed t (End c)))) n c
+      (ofPeer (untilClosed t (End d)))))
+  to-end e l hd room =
+      let x = w .net .ends in
+      let v = ofPeer (untilClosed t (End c)) in
+      let b = bufferAfter (x .buffers n d) t in
+      let one : claimable d ≡ One d = rw e in
+      let free : channelClaimed (w .net) n d ≡ false → peerOf (x .claims n d) ≡ Nobody =
+      λ z. rw (eqb-true (x .claims n d .kind) 0 (not-false _ (rw e at z))) in
+      let no-port = ⊎-elim
+      (λ p. not-port (peerOf (x .claims n d)) c (k .endClaim .out n c (s .node) (s .end) d (ap straightTo p ∙ one) .1))
+      (λ p. ap portOf (free (p .1))) o in
+      straight-as (upd (x .claims) n d v) (upd (x .buffers) n d b)
+      (all-upd (x .claims) n d v PeerOk (k .claims) (until (λ z. PeerOk (ofPeer z)) t (End c) (omega arith) (omega arith)))
+      (all-upd (x .buffers) n d b BufferOk (k .buffers) (buffer-after (x .buffers n d) t (k .buffers n d (s .node) hd) room l))
+      (pair-second (k .portClaim) n d v (until (λ z. portIn (ofPeer z) ≡ Nothing) t (End c) refl refl ∙ sym no-port))
+      (pair-until (k .endClaim) t n c d (End d) (End c) (s .node) (s .end) hd
+      (⊎-elim (λ p. inl (ap straightTo p ∙ one)) (λ p. inr (ap straightTo (p .0), ap endOf (free (p .1)))) o) refl refl one refl)
+
+pub keep-straight : (w : World) → Kept w → (n c d t : ℕ) → Sender (w .net) n c → Straight (w .net) n c d → t < 0x1C2 → Given (w .net) n d t
+    → Kept (withNet w (goesStraight (w .net) n c d t))
+keep-straight w k n c d t s o l g =
+    let there = door (w .net) n d t g in
+    by-test (eqb d sink)
+    (λ e. rw e (to-sink w k n c d t s o there e))
+    (λ e.
+    let z = ⊎-elim (λ d. absurd (eqb-false _ _ e d)) (λ z. z) g in
+    rw e (to-end w k n c d t s o there e l (z .0) (z .1)))
