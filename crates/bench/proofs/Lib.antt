@@ -6,3 +6,4 @@ pub mod Cabled
 pub mod Started
 pub mod Waits
 pub mod Written
+pub mod Lasts

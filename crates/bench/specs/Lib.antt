@@ -1,3 +1,4 @@
 -- The published statements: what each call answers and leaves, and runs of calls.
 pub mod Calls
 pub mod Runs
+pub mod Lasts

@@ -8,7 +8,7 @@ use lib.Dec.{eqb, ltb}
 use borrow.Author.Tests.{eqb-false, eq-eqb, not-false}
 use Rattle.laws.proofs.All.{also, as-is, at-most, below}
 use Rattle.laws.proofs.Order.{by-test, clash}
-use Rattle.names.specs.Size.{nodes, links}
+use Rattle.names.specs.Size.{nodes, links, ports, ends, networks}
 use Rattle.answers.specs.Rows.{Passes}
 use Rattle.cells.specs.World.{World}
 use Rattle.cells.specs.Fresh.{freshWorld}
@@ -17,11 +17,22 @@ use Rattle.fresh.specs.Fresh.{freshRows}
 use Rattle.settings.specs.Wire.{endTaken, wireRows, wired}
 use Rattle.settings.specs.Set.{linkThere, setRows, setMade}
 use Rattle.settings.specs.declared.Setting.{Setting}
+use Rattle.ends.specs.Aim.{goalRanged, aimRows, aimMade}
+use Rattle.ends.specs.Plan.{targetOf}
+use Rattle.ends.specs.Output.{wordOf, outputRows, outputMade}
+use Rattle.ends.specs.Input.{inputRows, inputMade}
+use Rattle.ends.specs.declared.Token.{Token}
+use Rattle.ends.specs.declared.Wanted.{Wanted}
+use Rattle.ends.specs.declared.aim.Goal.{Goal}
+use Rattle.switch.specs.Step.{stepRows, stepMade}
 use Rattle.sound.proofs.Fresh.{fresh-sound, fresh-tight}
 use Rattle.kept.specs.Kept.{Kept}
 use Rattle.kept.proofs.Parts.{sound-kept}
 use Rattle.kept.proofs.Wires.{Loose, keep-wired}
 use Rattle.kept.proofs.Sets.{keep-made}
+use Rattle.kept.proofs.Ends.{Sender, keep-aim, keep-input}
+use Rattle.kept.proofs.Sent.{token-small, keep-sent}
+use Rattle.kept.proofs.Steps.{keep-step}
 
 either-not : (a b : Bool) → (a || b) ≡ false → (a ≡ false) × (b ≡ false)
 either-not true b e = clash e
@@ -51,3 +62,30 @@ pub keep-set-made : (w : World) → Kept w → (n : ℕ) (x : Setting) → Passe
 keep-set-made w k n x p =
     let there = also (below n (w .net .nodes)) (as-is (linkThere x)) .sure (not-false _ (p .0)) in
     keep-made w k n (there .0) x (there .1) (not-false _ (p .1 .0)) (p .1 .1 .0)
+
+-- AIM
+pub keep-aimed : (w : World) → Kept w → (n c : ℕ) (g : Goal) (v : ℕ) → Passes (aimRows (w .net) n c g v)
+    → Kept (withNet w (aimMade (w .net) n c g v))
+keep-aimed w k n c g v p =
+    let ranged = also (as-is (goalRanged g)) (below v networks) .sure (not-false _ (p .1 .0)) in
+    keep-aim w k n c g v (ranged .0) (ranged .1)
+
+-- OUTPUT
+pub keep-output : (w : World) → Kept w → (n c : ℕ) (x : Token) → Passes (outputRows (w .net) n c x) → Kept (outputMade w n c x)
+keep-output w k n c x p =
+    let there = also (below n (w .net .nodes)) (below c ends) .sure (not-false _ (p .0)) in
+    let sender : Sender (w .net) n c = record { node = there .0; end = there .1; aimed = eqb-false _ 0 (p .1 .0) } in
+    keep-sent w k n c (wordOf x) sender (token-small x (targetOf (w .net .ends .aims n c)) (p .1 .1 .0) (p .1 .1 .1 .0))
+
+-- INPUT
+pub keep-inputted : (w : World) → Kept w → (n c : ℕ) (x : Wanted) → Passes (inputRows (w .net) n c x)
+    → Kept (withNet w (inputMade (w .net) n c))
+keep-inputted w k n c x p =
+    let there = also (below n (w .net .nodes)) (below c ends) .sure (not-false _ (p .0)) in
+    keep-input w k n c (there .0) (there .1)
+
+-- STEP
+pub keep-stepped : (w : World) → Kept w → (n p : ℕ) → Passes (stepRows (w .net) n p) → Kept (stepMade w n p .next)
+keep-stepped w k n p q =
+    let there = also (below n (w .net .nodes)) (below p ports) .sure (not-false _ (q .0)) in
+    keep-step w k n p (there .0) (there .1)

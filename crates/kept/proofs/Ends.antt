@@ -1,34 +1,34 @@
 -- What programs do at channel-ends keeps all that is kept: Aim, Input, and Output straight to a channel of the same node. Assumes nothing.
 use Prim.{tt}
-use Prim.Native.Nat.{ℕ, suc, _+_, _-_, _<_, _≤_}
+use Prim.Native.Nat.{ℕ, suc, _+_, _<_}
 use mathlib.Core.Path.{_≡_, refl, sym, ap, _∙_}
-use mathlib.Core.Bool.{Bool, true, false, not, _&&_}
+use mathlib.Core.Bool.{true, false}
 use mathlib.Core.List.{List, [], _∷_, _++_}
 use mathlib.Core.Logic.{_⊎_, inl, inr, ⊎-elim}
 use native.Mathlib.Decide.{ℕ-discrete}
 use native.Mathlib.Omega.{arith}
-use lib.Dec.{eqb, ltb}
+use lib.Dec.{eqb}
 use lib.ListN.{length, getD, set, length-set, List·getD-append, List·getD-eq-default}
 use lib.Seq.{getD-set-same, getD-set-other}
 use borrow.Author.Tests.{eqb-true, eqb-false, lt-ltb, not-false}
-use Rattle.laws.specs.Table.{upd, Off}
+use Rattle.laws.specs.Table.{upd}
 use Rattle.laws.specs.Row.{tab}
-use Rattle.laws.proofs.All.{also, as-is, below}
-use Rattle.laws.proofs.Order.{by-test, order, clash, never}
+use Rattle.laws.proofs.All.{also, as-is}
+use Rattle.laws.proofs.Order.{by-test, order, never}
 use Rattle.laws.proofs.Row.{length-tab, getD-tab}
 use Rattle.laws.proofs.Table.{upd-all}
-use Rattle.names.specs.Size.{ports, ends, endBuffer, networks, numbers, sink}
+use Rattle.names.specs.Size.{ports, ends, networks, sink}
 use Rattle.names.specs.Number.{isNumber}
 use Rattle.circuits.specs.Circuit.{peerOf, ofPeer}
 use Rattle.circuits.specs.declared.Circuit.{Circuit}
 use Rattle.circuits.specs.declared.Peer.{Peer}
 use Rattle.circuits.specs.declared.Peer.the-variants.{Nobody, Port, End}
+use Rattle.circuits.proofs.Backs.{peer-back}
 use Rattle.tokens.specs.Word.{closes, isPause}
 use Rattle.tokens.specs.Shape.{legalChannel}
 use Rattle.grammar.specs.declared.stage.Stage.the-variants.{Body}
 use Rattle.cells.specs.View.{Net, EndTables, withEnds, withSending, withClaim, withBuffer}
 use Rattle.cells.specs.World.{World, shaped}
-use Rattle.cells.specs.declared.end.Aim.{Aim}
 use Rattle.cells.specs.declared.end.Buffer.{Buffer}
 use Rattle.clauses.specs.Contents.{legalWord}
 use Rattle.clauses.specs.Pairs.{portOf, endOf, claimable, straightTo}
@@ -54,7 +54,7 @@ abbrev endsAs : World → EndTables → World
 endsAs w x = withNet w (withEnds (w .net) x)
 
 -- what has to hold of them
-record Ended (w : World) (x : EndTables) : Type 0 where
+record EndsOk (w : World) (x : EndTables) : Type 0 where
   aims : All (w .net .nodes) ends (λ n e. AimOk (x .aims n e))
   sendings : All (w .net .nodes) ends (λ n e. PeerOk (x .sendings n e))
   claims : All (w .net .nodes) ends (λ n e. PeerOk (x .claims n e))
@@ -66,9 +66,9 @@ record Ended (w : World) (x : EndTables) : Type 0 where
   goes : All (w .net .nodes) ends (λ n e. GoesBy (peerOf (x .sendings n e)))
   sends : Sends (w .net .nodes) (x .sendings) (backAt w)
 
-ended : (w : World) (x : EndTables) → Kept w → Ended w x → Kept (endsAs w x)
+keep-ends : (w : World) (x : EndTables) → Kept w → EndsOk w x → Kept (endsAs w x)
 unfolding shaped
-ended w x k z =
+keep-ends w x k z =
     record {
       shape = k .shape;
       nodes = k .nodes;
@@ -118,7 +118,7 @@ pub keep-aim : (w : World) → Kept w → (n c : ℕ) (g : Goal) (v : ℕ) → g
 keep-aim w k n c g v r h =
     let t = w .net .ends in
     let a = aimedAt g v in
-    ended w (record { aims = upd (t .aims) n c a; sendings = t .sendings; claims = t .claims; buffers = t .buffers }) k
+    keep-ends w (record { aims = upd (t .aims) n c a; sendings = t .sendings; claims = t .claims; buffers = t .buffers }) k
     (record {
       aims = all-upd (t .aims) n c a AimOk (k .aims) (inr (aim-ok g v r h));
       sendings = k .sendings;
@@ -144,7 +144,7 @@ pub keep-input : (w : World) → Kept w → (n c : ℕ) → n < w .net .nodes �
 keep-input w k n c hn hc =
     let t = w .net .ends in
     let b = tookFirst (t .buffers n c) in
-    ended w (record { aims = t .aims; sendings = t .sendings; claims = t .claims; buffers = upd (t .buffers) n c b }) k
+    keep-ends w (record { aims = t .aims; sendings = t .sendings; claims = t .claims; buffers = upd (t .buffers) n c b }) k
     (record {
       aims = k .aims;
       sendings = k .sendings;
@@ -174,38 +174,40 @@ buffer-after b t h m l = by-test (isPause t) (λ e. rw e h) (λ e. rw e (more e)
   where
     more : isPause t ≡ false → BufferOk (record { held = b .held + 1; tokens = set (b .tokens) (b .held) t })
     more e =
-        let room = holds b t false m (sym e) refl in
-        (omega arith,
-        λ i j. elim (ℕ-discrete i (b .held)) [
-          | yes d ↦ rw d (word-set (λ x. legalWord true x ≡ true) (b .tokens) (b .held) t (legal-word t l e) refl)
-          | no d ↦ rw (getD-set-other (b .tokens) (b .held) i t 0 d) (h .1 i (omega arith))
-        ])
+        let room = holds b t false m (sym e) refl in (
+          omega arith,
+          λ i j. elim (ℕ-discrete i (b .held)) [
+            | yes d ↦ rw d (word-set (λ x. legalWord true x ≡ true) (b .tokens) (b .held) t (legal-word t l e) refl)
+            | no d ↦ rw (getD-set-other (b .tokens) (b .held) i t 0 d) (h .1 i (omega arith))
+          ],
+        )
 
--- UNTIL END OR PAUSE: what holds of nobody and of who has the circuit
+-- UNTIL END OR PAUSE: what holds of nobody, and of who has the circuit
 pub until : (P : Peer → Type 0) (t : ℕ) (x : Peer) → P Nobody → P x → P (untilClosed t x)
 until P t x shut still = by-test (closes t) (λ e. rw e shut) (λ e. rw e still)
 
--- two that name each other, or name nobody, name each other until then
-pub pair-until : {N a b : ℕ} {f g : Circuit → Named} {x y : ℕ → ℕ → Circuit} → Pair N a b f g x y
-    → (t n i j : ℕ) (u v : Peer) → n < N → i < a → j < b
-    → (f (x n i) ≡ One j) ⊎ ((f (x n i) ≡ Nothing) × (g (y n j) ≡ Nothing))
-    → f (ofPeer Nobody) ≡ Nothing
-    → g (ofPeer Nobody) ≡ Nothing
-    → f (ofPeer u) ≡ One j
-    → g (ofPeer v) ≡ One i
-    → Pair N a b f g (upd x n i (ofPeer (untilClosed t u))) (upd y n j (ofPeer (untilClosed t v)))
-pair-until {f = f} {g = g} {x = x} {y = y} z t n i j u v hn hi hj met fn gn fu gv =
-    let none = ofPeer Nobody in
-    by-test (closes t)
-    (λ e. rw e (⊎-elim
-    (λ named. pair-unlink z n i j none none hn hi named fn gn)
-    (λ free. pair-same z (upd x n i none) (upd y n j none) (reads f x n i none (fn ∙ sym (free .0))) (reads g y n j none (gn ∙ sym (free .1))))
-    met))
-    (λ e. rw e (⊎-elim
-    (λ named. pair-same z (upd x n i (ofPeer u)) (upd y n j (ofPeer v)) (reads f x n i (ofPeer u) (fu ∙ sym named))
-    (reads g y n j (ofPeer v) (gv ∙ sym (z .out n i hn hi j named .1))))
-    (λ free. pair-link z n i j (ofPeer u) (ofPeer v) hi hj (free .0) (free .1) fu gv)
-    met))
+module _ {N a b : ℕ} {f g : Circuit → Named} {x y : ℕ → ℕ → Circuit} (z : Pair N a b f g x y) (n i j : ℕ) where
+  same : (c d : Circuit) → f c ≡ f (x n i) → g d ≡ g (y n j) → Pair N a b f g (upd x n i c) (upd y n j d)
+  same c d p q = pair-same z (upd x n i c) (upd y n j d) (reads f x n i c p) (reads g y n j d q)
+
+  -- two that name each other, or name nobody, name each other until then
+  pub pair-until : (t : ℕ) (u v : Peer) → n < N → i < a → j < b
+      → (f (x n i) ≡ One j) ⊎ ((f (x n i) ≡ Nothing) × (g (y n j) ≡ Nothing))
+      → f (ofPeer Nobody) ≡ Nothing
+      → g (ofPeer Nobody) ≡ Nothing
+      → f (ofPeer u) ≡ One j
+      → g (ofPeer v) ≡ One i
+      → Pair N a b f g (upd x n i (ofPeer (untilClosed t u))) (upd y n j (ofPeer (untilClosed t v)))
+  pair-until t u v hn hi hj met fn gn fu gv =
+      by-test (closes t)
+      (λ e. rw e (⊎-elim
+      (λ named. pair-unlink z n i j _ _ hn hi named fn gn)
+      (λ free. same _ _ (fn ∙ sym (free .0)) (gn ∙ sym (free .1)))
+      met))
+      (λ e. rw e (⊎-elim
+      (λ named. same _ _ (fu ∙ sym named) (gv ∙ sym (z .out n i hn hi j named .1)))
+      (λ free. pair-link z n i j _ _ hi hj (free .0) (free .1) fu gv)
+      met))
 
 -- OUTPUT: a channel-end that is there and aimed
 pub record Sender (s : Net) (n c : ℕ) : Type 0 where
@@ -213,25 +215,29 @@ pub record Sender (s : Net) (n c : ℕ) : Type 0 where
   pub end : c < ends
   pub aimed : s .ends .aims n c .kind ≡ 0 → ⊥
 
--- what it sends by is written
-module _ (w : World) (k : Kept w) (n c t : ℕ) (s : Sender (w .net) n c) (x : Peer) (ok : PeerOk (ofPeer x)) (there : GoesBy (peerOf (ofPeer x))) where
-  abbrev now : ℕ → ℕ → Circuit
-  now = upd (w .net .ends .sendings) n c (ofPeer (untilClosed t x))
+peer-ok : (x : Peer) → PeerOk (ofPeer x)
+peer-ok Nobody = omega arith
+peer-ok (Port p) = omega arith
+peer-ok (End e) = omega arith
 
-  pub sending-ok : All (w .net .nodes) ends (λ m e. PeerOk (now m e))
-  sending-ok =
-      all-upd (w .net .ends .sendings) n c _ PeerOk (k .sendings) (until (λ (y : Peer). PeerOk (ofPeer y)) t x (omega arith) ok)
+-- its circuit goes to x until END or PAUSE
+module _ (w : World) (k : Kept w) (n c t : ℕ) (s : Sender (w .net) n c) (x : Peer) (there : GoesBy x) where
+  abbrev then : ℕ → ℕ → Circuit
+  then = upd (w .net .ends .sendings) n c (ofPeer (untilClosed t x))
 
-  pub sending-aimed : Aimed (w .net .nodes) now (w .net .ends .aims)
+  pub sending-ok : All (w .net .nodes) ends (λ m e. PeerOk (then m e))
+  sending-ok = all-upd (w .net .ends .sendings) n c _ PeerOk (k .sendings) (peer-ok (untilClosed t x))
+
+  pub sending-aimed : Aimed (w .net .nodes) then (w .net .ends .aims)
   sending-aimed =
       all-at (w .net .ends .sendings) n c _ (λ m e y. (y .kind ≡ 0) ⊎ (w .net .ends .aims m e .kind ≡ 0 → ⊥)) (k .aimed) (inr (s .aimed))
 
-  pub sending-goes : All (w .net .nodes) ends (λ m e. GoesBy (peerOf (now m e)))
+  pub sending-goes : All (w .net .nodes) ends (λ m e. GoesBy (peerOf (then m e)))
   sending-goes =
       all-upd (w .net .ends .sendings) n c _ (λ y. GoesBy (peerOf y)) (k .goes)
-      (until (λ (y : Peer). GoesBy (peerOf (ofPeer y))) t x tt there)
+      (rw (peer-back (untilClosed t x)) (until GoesBy t x tt there))
 
--- STRAIGHT TO A CHANNEL: a circuit that goes there already, or none yet and no other claims it
+-- STRAIGHT TO A CHANNEL: a circuit that goes there already, or none yet while no other claims it
 abbrev pub Straight : Net → ℕ → ℕ → ℕ → Type 0
 Straight s n c d =
     (peerOf (s .ends .sendings n c) ≡ End d) ⊎ ((peerOf (s .ends .sendings n c) ≡ Nobody) × (channelClaimed s n d ≡ false))
@@ -243,60 +249,54 @@ not-port (End d) e h = refl
 
 module _ (w : World) (k : Kept w) (n c d t : ℕ) (s : Sender (w .net) n c) (o : Straight (w .net) n c d) (there : Door d) where
   abbrev sending : Circuit
-  sending = w .net .ends .sendings n c
+  sending = ofPeer (untilClosed t (End d))
 
-  -- a reading of where the circuit goes that is the same of nobody and of d
-  before : (f : Peer → Named) → f (End d) ≡ Nothing → f Nobody ≡ Nothing → f (peerOf sending) ≡ Nothing
-  before f e z = ⊎-elim (λ p. ap f p ∙ e) (λ p. ap f (p .0) ∙ z) o
-
-  after : (f : Peer → Named) → f (peerOf (ofPeer (End d))) ≡ Nothing → f (peerOf (ofPeer Nobody)) ≡ Nothing
-      → f (peerOf (ofPeer (untilClosed t (End d)))) ≡ Nothing
-  after f e z = until (λ x. f (peerOf (ofPeer x)) ≡ Nothing) t (End d) z e
+  -- what names neither nobody nor d names nothing, before and after
+  names-none : (f : Peer → Named) → f Nobody ≡ Nothing → f (End d) ≡ Nothing → f (peerOf sending) ≡ f (peerOf (w .net .ends .sendings n c))
+  names-none f z e =
+      rw (peer-back (untilClosed t (End d))) (until (λ x. f x ≡ Nothing) t (End d) z e)
+      ∙ sym (⊎-elim (λ p. ap f p ∙ e) (λ p. ap f (p .0) ∙ z) o)
 
   -- with the claims and the buffers that there are then
   straight-as : (claims : ℕ → ℕ → Circuit) (buffers : ℕ → ℕ → Buffer)
       → All (w .net .nodes) ends (λ m e. PeerOk (claims m e))
       → All (w .net .nodes) ends (λ m e. BufferOk (buffers m e))
       → Pair (w .net .nodes) ports ends legClaim portIn (w .net .ports .legs) claims
-      → Pair (w .net .nodes) ends ends claimIn endIn (upd (w .net .ends .sendings) n c (ofPeer (untilClosed t (End d)))) claims
+      → Pair (w .net .nodes) ends ends claimIn endIn (upd (w .net .ends .sendings) n c sending) claims
       → Kept (endsAs w (record {
         aims = w .net .ends .aims;
-        sendings = upd (w .net .ends .sendings) n c (ofPeer (untilClosed t (End d)));
+        sendings = upd (w .net .ends .sendings) n c sending;
         claims = claims;
         buffers = buffers;
       }))
   straight-as claims buffers ok held by-ports by-ends =
-      let t = w .net .ends in
-      let no-port = after portOf refl refl in
-      ended w _ k
+      keep-ends w _ k
       (record {
         aims = k .aims;
-        sendings = sending-ok w k n c _ s (End d) (omega arith) there;
+        sendings = sending-ok w k n c t s (End d) there;
         claims = ok;
         buffers = held;
         portClaim = by-ports;
         endClaim = by-ends;
-        endPort = pair-first (k .endPort) n c _ (no-port ∙ sym (before portOf refl refl));
-        aimed = sending-aimed w k n c _ s (End d) (omega arith) there;
-        goes = sending-goes w k n c _ s (End d) (omega arith) there;
-        sends = λ a e ha he p. upd-all (λ a e y. peerOf y ≡ Port p → backAt w a p ≡ Body) (t .sendings) n c _ a e
-            (λ ea ee q. never (let some = ap portOf q in cc))
+        endPort = pair-first (k .endPort) n c sending (names-none portOf refl refl);
+        aimed = sending-aimed w k n c t s (End d) there;
+        goes = sending-goes w k n c t s (End d) there;
+        sends = λ a e ha he p. upd-all (λ a e y. peerOf y ≡ Port p → backAt w a p ≡ Body) (w .net .ends .sendings) n c sending a e
+            (λ ea ee. until (λ x. peerOf (ofPeer x) ≡ Port p → backAt w a p ≡ Body) t (End d) (λ q. never (cc)) (λ q. never (cc)))
             (λ off. k .backs .sends a e ha he p);
       })
 
   -- the sink is never claimed, and keeps nothing
-  to-sink : eqb d sink ≡ true → Kept (withNet w (withSending (w .net) n c (ofPeer (untilClosed t (End d)))))
+  to-sink : eqb d sink ≡ true → Kept (withNet w (withSending (w .net) n c sending))
   to-sink e =
       let x = w .net .ends in
-      let none : claimable d ≡ Nothing = rw e in
       straight-as (x .claims) (x .buffers) (k .claims) (k .buffers) (k .portClaim)
-      (pair-first (k .endClaim) n c _ (after straightTo none refl ∙ sym (before straightTo none refl)))
+      (pair-first (k .endClaim) n c sending (names-none straightTo refl (rw e)))
 
   -- any other channel is claimed until END or PAUSE, and keeps what it is handed
   to-end : eqb d sink ≡ false → t < 0x1C2 → d < ends → Keeps (w .net .ends .buffers n d) t
       → Kept (withNet w (withSending
-      (withClaim (withBuffer (w .net) n d (bufferAfter (w .net .ends .buffers n d) t)) n d (ofPeer (untilClosed t (End c)))) n c
-      (ofPeer (untilClosed t (End d)))))
+      (withClaim (withBuffer (w .net) n d (bufferAfter (w .net .ends .buffers n d) t)) n d (ofPeer (untilClosed t (End c)))) n c sending))
   to-end e l hd room =
       let x = w .net .ends in
       let v = ofPeer (untilClosed t (End c)) in
@@ -308,10 +308,10 @@ module _ (w : World) (k : Kept w) (n c d t : ℕ) (s : Sender (w .net) n c) (o :
       (λ p. not-port (peerOf (x .claims n d)) c (k .endClaim .out n c (s .node) (s .end) d (ap straightTo p ∙ one) .1))
       (λ p. ap portOf (free (p .1))) o in
       straight-as (upd (x .claims) n d v) (upd (x .buffers) n d b)
-      (all-upd (x .claims) n d v PeerOk (k .claims) (until (λ z. PeerOk (ofPeer z)) t (End c) (omega arith) (omega arith)))
+      (all-upd (x .claims) n d v PeerOk (k .claims) (peer-ok (untilClosed t (End c))))
       (all-upd (x .buffers) n d b BufferOk (k .buffers) (buffer-after (x .buffers n d) t (k .buffers n d (s .node) hd) room l))
       (pair-second (k .portClaim) n d v (until (λ z. portIn (ofPeer z) ≡ Nothing) t (End c) refl refl ∙ sym no-port))
-      (pair-until (k .endClaim) t n c d (End d) (End c) (s .node) (s .end) hd
+      (pair-until (k .endClaim) n c d t (End d) (End c) (s .node) (s .end) hd
       (⊎-elim (λ p. inl (ap straightTo p ∙ one)) (λ p. inr (ap straightTo (p .0), ap endOf (free (p .1)))) o) refl refl one refl)
 
 pub keep-straight : (w : World) → Kept w → (n c d t : ℕ) → Sender (w .net) n c → Straight (w .net) n c d → t < 0x1C2 → Given (w .net) n d t
@@ -321,5 +321,5 @@ keep-straight w k n c d t s o l g =
     by-test (eqb d sink)
     (λ e. rw e (to-sink w k n c d t s o there e))
     (λ e.
-    let z = ⊎-elim (λ d. absurd (eqb-false _ _ e d)) (λ z. z) g in
+    let z = ⊎-elim (λ i. absurd (eqb-false _ _ e i)) (λ z. z) g in
     rw e (to-end w k n c d t s o there e l (z .0) (z .1)))

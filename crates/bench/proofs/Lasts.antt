@@ -1,0 +1,84 @@
+-- Sound for ever: from Fresh of any number of boards, over every run of calls, every state is sound and tight, and no call is refused as
+-- Unsound but a Fresh of another number of boards than the memory has. Assumes nothing.
+use Prim.{tt}
+use Prim.Native.Nat.{ℕ, _≤_}
+use mathlib.Core.Path.{_≡_, refl, sym, ap, _∙_}
+use mathlib.Core.Bool.{true, not, _&&_}
+use mathlib.Core.List.{List, [], _∷_}
+use native.Mathlib.Omega.{arith}
+use lib.Dec.{eqb}
+use borrow.Author.Tests.{eq-eqb, ne-eqb}
+use Rattle.laws.proofs.Order.{by-test, clash}
+use Rattle.names.specs.Size.{nodes}
+use Rattle.names.specs.No.{number, passes, Unsound}
+use Rattle.names.specs.declared.Slot.{Slot}
+use Rattle.answers.specs.Answer.{numberOf}
+use Rattle.answers.specs.Rows.{Exactly, Passes}
+use Rattle.answers.specs.declared.Answer.{Answer}
+use Rattle.cells.specs.World.{World, shaped}
+use Rattle.cells.specs.Fresh.{freshWorld}
+use Rattle.sound.specs.Sound.{sound, tight}
+use Rattle.sound.proofs.Fresh.{fresh-sound, fresh-tight}
+use Rattle.kept.specs.Kept.{Kept}
+use Rattle.kept.proofs.Parts.{sound-kept, kept-sound}
+use Rattle.kept.proofs.Sets.{attempted}
+use Rattle.kept.proofs.Calls.{keep-fresh, keep-wire, keep-set-made, keep-aimed, keep-output, keep-inputted, keep-stepped}
+use Rattle.bench.specs.Calls.{Call, Fresh, Wire, Set, Aim, Output, Input, Step, rows, made, apply}
+use Rattle.bench.specs.Runs.{run}
+use Rattle.bench.specs.Lasts.{OtherBoards, NeverUnsound, Throughout}
+use Rattle.bench.proofs.Applied.{exactly}
+
+-- ONE CALL, with any arguments, on a state that has the invariant
+module _ (w : World) (k : Kept w) where
+  made-kept : (c : Call) → Passes (rows w c) → Kept (made w c .next)
+  made-kept (Fresh n) p = keep-fresh w n p
+  made-kept (Wire a l b j) p = keep-wire w k (a .0) l (b .0) j (p .1)
+  made-kept (Set a x) p = keep-set-made w k (a .0) x (p .1)
+  made-kept (Aim a c g v) p = keep-aimed w k (a .0) c g v (p .1)
+  made-kept (Output a c x) p = keep-output w k (a .0) c x (p .1)
+  made-kept (Input a c x) p = keep-inputted w k (a .0) c x (p .1)
+  made-kept (Step a p) q = keep-stepped w k (a .0) p (q .1)
+
+  pub call-keeps : (c : Call) → Kept (apply w c .next)
+  unfolding apply
+  call-keeps c = attempted Kept (rows w c) w (made w c) k (made-kept c)
+
+  -- its first row, "state that fails the list", refuses nothing
+  sure : not (sound w) ≡ true → ⊥
+  sure e = clash (sym (rw (kept-sound w k .0) at e))
+
+  -- Unsound, for a Fresh of another number of boards, and for no other call
+  pub call-unsound : (c : Call) → NeverUnsound w c (apply w c .answer)
+  call-unsound c e = given c (exactly w c Unsound .sure (eq-eqb (numberOf (apply w c .answer)) (number Unsound) (ap numberOf e)))
+    where
+      given : (c : Call) → Exactly (rows w c) Unsound → OtherBoards (w .net .nodes) c
+      given (Fresh n) h = λ same. other n same (h .1)
+        where
+          other : (n : ℕ) → n ≡ w .net .nodes → not (shaped w && eqb (w .net .nodes) n) ≡ true → ⊥
+          other n same x = clash (sym (rw (k .shape, eq-eqb (w .net .nodes) n (sym same)) at x))
+      given (Wire a l b j) h = sure h
+      given (Set a x) h = sure h
+      given (Aim a c g v) h = sure h
+      given (Output a c x) h = sure h
+      given (Input a c x) h = sure h
+      given (Step a p) h = sure h
+
+-- EVERY RUN
+run-keeps : (cs : List Call) (w : World) → Kept w → Kept (run w cs .last)
+run-keeps [] w k = k
+run-keeps (c ∷ cs) w k = run-keeps cs (apply w c .next) (call-keeps w k c)
+
+run-unsound : (cs : List Call) (w : World) → Kept w → Throughout NeverUnsound w cs
+run-unsound [] w k = tt
+run-unsound (c ∷ cs) w k = (call-unsound w k c, run-unsound cs (apply w c .next) (call-keeps w k c))
+
+-- .. from Fresh
+module _ (n : ℕ) (some : 1 ≤ n) (few : n ≤ nodes) where
+  pub fresh-keeps : Kept (freshWorld n)
+  fresh-keeps = sound-kept (freshWorld n) (fresh-sound n some few) (fresh-tight n some few)
+
+  pub always-sound : (cs : List Call) → (sound (run (freshWorld n) cs .last) ≡ true) × (tight (run (freshWorld n) cs .last) ≡ true)
+  always-sound cs = kept-sound (run (freshWorld n) cs .last) (run-keeps cs (freshWorld n) fresh-keeps)
+
+  pub never-unsound : (cs : List Call) → Throughout NeverUnsound (freshWorld n) cs
+  never-unsound cs = run-unsound cs (freshWorld n) fresh-keeps
