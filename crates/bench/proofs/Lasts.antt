@@ -2,19 +2,16 @@
 -- Unsound but a Fresh of another number of boards than the memory has. Assumes nothing.
 use Prim.{tt}
 use Prim.Native.Nat.{ℕ, _≤_}
-use mathlib.Core.Path.{_≡_, refl, sym, ap, _∙_}
+use mathlib.Core.Path.{_≡_, sym, ap}
 use mathlib.Core.Bool.{true, not, _&&_}
 use mathlib.Core.List.{List, [], _∷_}
-use native.Mathlib.Omega.{arith}
 use lib.Dec.{eqb}
-use borrow.Author.Tests.{eq-eqb, ne-eqb}
-use Rattle.laws.proofs.Order.{by-test, clash}
+use borrow.Author.Tests.{eq-eqb}
+use Rattle.laws.proofs.Order.{clash}
 use Rattle.names.specs.Size.{nodes}
-use Rattle.names.specs.No.{number, passes, Unsound}
-use Rattle.names.specs.declared.Slot.{Slot}
+use Rattle.names.specs.No.{number, Unsound}
 use Rattle.answers.specs.Answer.{numberOf}
 use Rattle.answers.specs.Rows.{Exactly, Passes}
-use Rattle.answers.specs.declared.Answer.{Answer}
 use Rattle.cells.specs.World.{World, shaped}
 use Rattle.cells.specs.Fresh.{freshWorld}
 use Rattle.sound.specs.Sound.{sound, tight}
@@ -64,11 +61,11 @@ module _ (w : World) (k : Kept w) where
       given (Step a p) h = sure h
 
 -- EVERY RUN
-run-keeps : (cs : List Call) (w : World) → Kept w → Kept (run w cs .last)
+pub run-keeps : (cs : List Call) (w : World) → Kept w → Kept (run w cs .last)
 run-keeps [] w k = k
 run-keeps (c ∷ cs) w k = run-keeps cs (apply w c .next) (call-keeps w k c)
 
-run-unsound : (cs : List Call) (w : World) → Kept w → Throughout NeverUnsound w cs
+pub run-unsound : (cs : List Call) (w : World) → Kept w → Throughout NeverUnsound w cs
 run-unsound [] w k = tt
 run-unsound (c ∷ cs) w k = (call-unsound w k c, run-unsound cs (apply w c .next) (call-keeps w k c))
 

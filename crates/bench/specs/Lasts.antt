@@ -1,4 +1,4 @@
--- What it is that a run from Fresh is never refused: Unsound (document 01, "Numbers for no": "1 Unsound: memory of the wrong length, or (not
+-- What it is that a run from Fresh is never refused as (document 01, "Numbers for no": "1 Unsound: memory of the wrong length, or (not
 -- Fresh) state that fails the list").
 use Prim.{Unit}
 use Prim.Native.Nat.{ℕ}

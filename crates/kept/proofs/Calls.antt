@@ -1,13 +1,11 @@
 -- What each call makes that is not refused keeps all that is kept. Assumes nothing.
-use Prim.Native.Nat.{ℕ, _<_, _≤_}
-use mathlib.Core.Path.{_≡_, refl, sym, ap, _∙_}
-use mathlib.Core.Bool.{Bool, true, false, not, _&&_, _||_}
-use mathlib.Core.Logic.{_⊎_, inl, inr, ⊎-elim}
-use native.Mathlib.Omega.{arith}
-use lib.Dec.{eqb, ltb}
+use Prim.Native.Nat.{ℕ, _<_}
+use mathlib.Core.Path.{_≡_, refl, sym}
+use mathlib.Core.Bool.{Bool, true, false, _||_}
+use lib.Dec.{eqb}
 use borrow.Author.Tests.{eqb-false, eq-eqb, not-false}
 use Rattle.laws.proofs.All.{also, as-is, at-most, below}
-use Rattle.laws.proofs.Order.{by-test, clash}
+use Rattle.laws.proofs.Order.{clash}
 use Rattle.names.specs.Size.{nodes, links, ports, ends, networks}
 use Rattle.answers.specs.Rows.{Passes}
 use Rattle.cells.specs.World.{World}
@@ -47,7 +45,8 @@ keep-fresh w n p =
 -- WIRE
 pub keep-wire : (w : World) → Kept w → (n l m k : ℕ) → Passes (wireRows (w .net) n l m k) → Kept (withNet w (wired (w .net) n l m k))
 keep-wire w kept n l m k p =
-    let there = also (also (below n (w .net .nodes)) (below l links)) (also (below m (w .net .nodes)) (below k links)) .sure (not-false _ (p .0)) in
+    let ends = also (also (below n (w .net .nodes)) (below l links)) (also (below m (w .net .nodes)) (below k links)) in
+    let there = ends .sure (not-false _ (p .0)) in
     let free = either-not (endTaken (w .net) n l) (endTaken (w .net) m k) (p .1 .1 .0) in
     keep-wired w kept n l m k (loose n l (there .0) (free .0)) (loose m k (there .1) (free .1))
     (λ e d. clash (rw (eq-eqb n m (sym e), eq-eqb l k (sym d)) at (p .1 .0)))

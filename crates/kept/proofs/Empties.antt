@@ -3,30 +3,24 @@ use Prim.Native.Nat.{ℕ, _+_, _<_}
 use mathlib.Core.Path.{_≡_, refl, sym, ap, _∙_}
 use mathlib.Core.List.{List, [], _∷_, _++_, append-assoc}
 use native.Mathlib.Omega.{arith}
-use lib.Dec.{ltb}
 use lib.ListN.{length, take, length-set, length-append}
 use lib.Seq.{take-append-seam}
 use Rattle.laws.specs.Table.{Off}
-use Rattle.laws.proofs.Order.{by-test}
 use Rattle.names.specs.Size.{links, ports}
 use Rattle.tokens.specs.declared.header.Width.{Width}
 use Rattle.tokens.specs.declared.header.Width.the-variants.{One, Three}
 use Rattle.ports.specs.Queue.{Fair, takeCounters}
 use Rattle.ports.specs.Memory.{place, held}
 use Rattle.ports.specs.declared.Counters.{Counters}
-use Rattle.cells.specs.View.{Net, PortTables, withLinks, withCounters}
-use Rattle.cells.specs.World.{World, shaped, farOf, queue}
-use Rattle.cells.specs.declared.link.Flow.{Flow}
-use Rattle.cells.specs.declared.link.Far.{Far}
-use Rattle.cells.specs.declared.link.Far.the-variants.{Nowhere, At}
+use Rattle.cells.specs.View.{Net, PortTables, withCounters}
+use Rattle.cells.specs.World.{World, shaped, queue}
 use Rattle.acts.specs.Acts.{popped, firstAt}
 use Rattle.acts.specs.Needs.{Holds}
 use Rattle.acts.proofs.Pushes.{popped-counters}
 use Rattle.acts.proofs.Queues.{popped-queue}
-use Rattle.grants.specs.Grants.{considered}
 use Rattle.plans.specs.Plan.{sizeOf}
 use Rattle.plans.proofs.Held.{holds-less}
-use Rattle.moves.specs.Moves.{consideredAt, grantsUp, took, stripped}
+use Rattle.moves.specs.Moves.{grantsUp, took, stripped}
 use Rattle.moves.proofs.Takes.{up-ports}
 use Rattle.kept.proofs.Money.{withFlows, up-leaves}
 use Rattle.kept.proofs.Queues.{counters-own, counters-again, shape-as, stored-away}

@@ -1,23 +1,21 @@
 -- What programs do at channel-ends keeps all that is kept: Aim, Input, and Output straight to a channel of the same node. Assumes nothing.
 use Prim.{tt}
-use Prim.Native.Nat.{ℕ, suc, _+_, _<_}
+use Prim.Native.Nat.{ℕ, suc, _+_, _-_, _<_}
 use mathlib.Core.Path.{_≡_, refl, sym, ap, _∙_}
 use mathlib.Core.Bool.{true, false}
 use mathlib.Core.List.{List, [], _∷_, _++_}
 use mathlib.Core.Logic.{_⊎_, inl, inr, ⊎-elim}
-use native.Mathlib.Decide.{ℕ-discrete}
 use native.Mathlib.Omega.{arith}
 use lib.Dec.{eqb}
-use lib.ListN.{length, getD, set, length-set, List·getD-append, List·getD-eq-default}
-use lib.Seq.{getD-set-same, getD-set-other}
+use lib.ListN.{getD, set, List·getD-append}
 use borrow.Author.Tests.{eqb-true, eqb-false, lt-ltb, not-false}
 use Rattle.laws.specs.Table.{upd}
 use Rattle.laws.specs.Row.{tab}
 use Rattle.laws.proofs.All.{also, as-is}
-use Rattle.laws.proofs.Order.{by-test, order, never}
+use Rattle.laws.proofs.Order.{by-test, never}
 use Rattle.laws.proofs.Row.{length-tab, getD-tab}
 use Rattle.laws.proofs.Table.{upd-all}
-use Rattle.names.specs.Size.{ports, ends, networks, sink}
+use Rattle.names.specs.Size.{ports, ends, endBuffer, networks, sink}
 use Rattle.names.specs.Number.{isNumber}
 use Rattle.circuits.specs.Circuit.{peerOf, ofPeer}
 use Rattle.circuits.specs.declared.Circuit.{Circuit}
@@ -46,6 +44,7 @@ use Rattle.ends.specs.declared.aim.Goal.{Goal}
 use Rattle.ends.specs.declared.aim.Goal.the-variants.{Channel, Unit}
 use Rattle.kept.specs.Kept.{All, Pair, AimOk, PeerOk, BufferOk, Aimed, GoesBy, Sends, Kept, backAt}
 use Rattle.kept.specs.Kept.{legClaim, portIn, endIn, claimIn}
+use Rattle.kept.proofs.Words.{words-more}
 use Rattle.kept.proofs.Sets.{sixteen-bits}
 use Rattle.kept.proofs.Tables.{all-at, all-upd, pair-same, pair-first, pair-second, pair-link, pair-unlink, reads}
 
@@ -135,9 +134,10 @@ keep-aim w k n c g v r h =
 -- INPUT
 took-first : (b : Buffer) → BufferOk b → BufferOk (tookFirst b)
 took-first b h =
+    let k = endBuffer - 1 in
     let up : ℕ → ℕ = λ i. getD (b .tokens) (suc i) 0 in
-    let moved : (i : ℕ) → i < 7 → getD (tab 7 up ++ (0 ∷ [])) i 0 ≡ up i =
-    λ i l. List·getD-append (tab 7 up) (0 ∷ []) 0 i (rw (length-tab 7 up) l) ∙ getD-tab 7 up i 0 l in
+    let moved : (i : ℕ) → i < k → getD (tab k up ++ (0 ∷ [])) i 0 ≡ up i =
+    λ i l. List·getD-append (tab k up) (0 ∷ []) 0 i (rw (length-tab k up) l) ∙ getD-tab k up i 0 l in
     (omega (arith, h .0), λ i l. rw (moved i (omega (arith, h .0))) (h .1 (suc i) (omega arith)))
 
 pub keep-input : (w : World) → Kept w → (n c : ℕ) → n < w .net .nodes → c < ends → Kept (withNet w (inputMade (w .net) n c))
@@ -159,13 +159,6 @@ keep-input w k n c hn hc =
     })
 
 -- WHAT A CHANNEL-END KEEPS of a token
--- the word that is written, or what stands past the last
-word-set : (P : ℕ → Type 0) (l : List ℕ) (i x : ℕ) → P x → P 0 → P (getD (set l i x) i 0)
-word-set P l i x h z =
-    ⊎-elim (λ m. rw (getD-set-same l i x 0 m) h)
-    (λ m. rw (List·getD-eq-default (set l i x) 0 {n = i} (rw (length-set l i x) m)) z)
-    (order i (length l))
-
 legal-word : (t : ℕ) → t < 0x1C2 → isPause t ≡ false → legalWord true t ≡ true
 legal-word t l e = rw (lt-ltb t 0x1C2 l, e)
 
@@ -174,13 +167,8 @@ buffer-after b t h m l = by-test (isPause t) (λ e. rw e h) (λ e. rw e (more e)
   where
     more : isPause t ≡ false → BufferOk (record { held = b .held + 1; tokens = set (b .tokens) (b .held) t })
     more e =
-        let room = holds b t false m (sym e) refl in (
-          omega arith,
-          λ i j. elim (ℕ-discrete i (b .held)) [
-            | yes d ↦ rw d (word-set (λ x. legalWord true x ≡ true) (b .tokens) (b .held) t (legal-word t l e) refl)
-            | no d ↦ rw (getD-set-other (b .tokens) (b .held) i t 0 d) (h .1 i (omega arith))
-          ],
-        )
+        let room = holds b t false m (sym e) refl in
+        (omega arith, words-more (λ x. legalWord true x ≡ true) (b .tokens) (b .held) t (legal-word t l e) refl (h .1))
 
 -- UNTIL END OR PAUSE: what holds of nobody, and of who has the circuit
 pub until : (P : Peer → Type 0) (t : ℕ) (x : Peer) → P Nobody → P x → P (untilClosed t x)
@@ -251,7 +239,7 @@ module _ (w : World) (k : Kept w) (n c d t : ℕ) (s : Sender (w .net) n c) (o :
   abbrev sending : Circuit
   sending = ofPeer (untilClosed t (End d))
 
-  -- what names neither nobody nor d names nothing, before and after
+  -- a reading to which nobody and d are nothing reads the same before and after
   names-none : (f : Peer → Named) → f Nobody ≡ Nothing → f (End d) ≡ Nothing → f (peerOf sending) ≡ f (peerOf (w .net .ends .sendings n c))
   names-none f z e =
       rw (peer-back (untilClosed t (End d))) (until (λ x. f x ≡ Nothing) t (End d) z e)

@@ -1,13 +1,10 @@
--- What a state that is kept has, as a reader would ask for it: a disabled link has no credit, is not greeted and is used by nobody; what may
--- still come over a cable finds room; disabling a disabled link changes nothing. Assumes nothing.
+-- What a state that is kept has, as a reader would ask for it: a disabled link has no credit, is not greeted and is used by nobody; what
+-- may still come over a cable finds room; disabling a disabled link changes nothing. Assumes nothing.
 use Prim.Native.Nat.{ℕ, _+_, _<_, _≤_}
 use mathlib.Core.Path.{_≡_, refl, sym, ap, _∙_}
-use mathlib.Core.Bool.{true, false}
-use mathlib.Core.Logic.{_⊎_, inl, inr, ⊎-elim}
+use mathlib.Core.Logic.{_⊎_, ⊎-elim}
 use native.Mathlib.Omega.{arith}
-use Rattle.laws.specs.Table.{upd}
 use Rattle.laws.proofs.Table.{upd-own}
-use Rattle.laws.proofs.Order.{never}
 use Rattle.names.specs.Size.{links}
 use Rattle.names.specs.declared.Slot.{Slot}
 use Rattle.ports.specs.Queue.{capacity}

@@ -1,12 +1,12 @@
 -- A token that is handed to a channel keeps all that is kept: its tile link and its claim are free where it closes the circuit. Assumes
 -- nothing.
-use Prim.Native.Nat.{ℕ, _<_, _≤_}
+use Prim.Native.Nat.{ℕ, _<_}
 use mathlib.Core.Path.{_≡_, refl, sym, ap, _∙_, subst}
 use mathlib.Core.Bool.{Bool, true, false}
-use mathlib.Core.Logic.{_⊎_, inl, inr, ⊎-elim}
+use mathlib.Core.Logic.{_⊎_, ⊎-elim}
 use native.Mathlib.Omega.{arith}
 use lib.Dec.{eqb}
-use borrow.Author.Tests.{eqb-true, eqb-false}
+use borrow.Author.Tests.{eqb-false}
 use Rattle.laws.specs.Pick.{pick}
 use Rattle.laws.specs.Table.{upd}
 use Rattle.laws.proofs.Table.{upd-own}
@@ -157,7 +157,8 @@ module _ (w : World) (k : Kept w) (n p c t : ℕ) (r : Holds w n p 1) (e : hop (
       let x = firstAt w n p in
       by-test (eqb c sink)
       (λ sunk. rw sunk (subst (λ (s : Net). Kept (withNet (took w n p) s))
-      (sym (ap (λ (s : Net). pick closing (tiledTo (shut s n p) n t Nobody) s) (taken-is w n p) ∙ freed-is closing (tokenTaken w n p) n p t))
+      (sym (ap (λ (s : Net). pick closing (tiledTo (shut s n p) n t Nobody) s) (taken-is w n p)
+      ∙ freed-is closing (tokenTaken w n p) n p t))
       (keep-sunk sunk)))
       (λ there. rw there (subst (λ (s : Net). Kept (withNet (took w n p) s))
       (sym (ap (λ (s : Net). let y = withBuffer s n c (bufferAfter (s .ends .buffers n c) x) in

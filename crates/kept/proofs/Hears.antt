@@ -1,39 +1,34 @@
 -- A token that a control unit hears keeps all that is kept: it is kept behind those heard, or it ends the message, which is obeyed once the
 -- unit is free. Assumes nothing.
-use Prim.Native.Nat.{ℕ, _+_, _<_, _≤_}
+use Prim.Native.Nat.{ℕ, _<_}
 use mathlib.Core.Path.{_≡_, refl, sym, ap, _∙_, subst}
-use mathlib.Core.Bool.{Bool, true, false, not, _&&_, _||_}
-use mathlib.Core.List.{List, [], _∷_}
+use mathlib.Core.Bool.{Bool, true, false}
 use mathlib.Core.Logic.{_⊎_, inl, inr, ⊎-elim}
-use native.Mathlib.Decide.{ℕ-discrete}
 use native.Mathlib.Omega.{arith}
 use lib.Dec.{eqb, ltb}
-use lib.ListN.{getD, set}
-use borrow.Author.Tests.{eqb-true, ltb-true, lt-ltb, ne-eqb}
+use borrow.Author.Tests.{ltb-true, lt-ltb}
 use Rattle.laws.specs.Pick.{pick}
 use Rattle.laws.specs.Table.{upd}
-use Rattle.laws.proofs.Table.{upd-same, upd-hit, upd-all, place}
+use Rattle.laws.proofs.Table.{upd-same, upd-all}
 use Rattle.laws.proofs.Order.{by-test, clash, never}
 use Rattle.names.specs.Size.{ports, replyPort, unitBuffer}
-use Rattle.circuits.specs.Circuit.{peerOf, ofPeer}
+use Rattle.circuits.specs.Circuit.{ofPeer}
 use Rattle.circuits.specs.declared.Circuit.{Circuit}
 use Rattle.circuits.specs.declared.Hop.{Hop}
 use Rattle.circuits.specs.declared.Hop.the-variants.{Shut, Unit}
 use Rattle.circuits.specs.declared.Peer.the-variants.{Nobody}
 use Rattle.tokens.specs.Control.{end, pause}
 use Rattle.tokens.specs.Word.{controlWord, closes}
-use Rattle.ports.specs.declared.Counters.{Counters}
-use Rattle.cells.specs.View.{Net, withUnits}
+use Rattle.cells.specs.View.{Net, UnitTables, withUnits}
 use Rattle.cells.specs.World.{World, shaped, hop}
 use Rattle.cells.specs.declared.unit.Hearing.{Hearing}
 use Rattle.clauses.specs.Contents.{legalWord}
-use Rattle.clauses.specs.Pairs.{portOf, linkOf, tileOf, unitOf, claimOf}
+use Rattle.clauses.specs.Pairs.{linkOf, tileOf, unitOf, claimOf}
 use Rattle.clauses.specs.declared.pairs.Named.{Named}
 use Rattle.clauses.specs.declared.pairs.Named.the-variants.{Nothing, One}
 use Rattle.acts.specs.Acts.{withNet, firstAt, legOf}
 use Rattle.acts.specs.Needs.{Holds}
 use Rattle.messages.specs.Heard.{hearsWord, listens}
-use Rattle.messages.specs.Ended.{ended}
 use Rattle.moves.specs.Moves.{took, closesUnit}
 use Rattle.switch.specs.Step.{hears}
 use Rattle.kept.specs.Kept.{All, PortOk, HearingOk, Silent, Pair, legUnit, portIn, Kept}
@@ -41,7 +36,7 @@ use Rattle.kept.proofs.Tables.{all-upd, all-at, pair-first, pair-leave}
 use Rattle.kept.proofs.Stages.{fed-away}
 use Rattle.kept.proofs.Words.{words-more}
 use Rattle.kept.proofs.Pasts.{past-small}
-use Rattle.kept.proofs.Leaves.{tokenTaken, taken-is, shutIf, shut-if, left, Left, pair-left, leaves}
+use Rattle.kept.proofs.Leaves.{tokenTaken, taken-is, shut-if, left, Left, pair-left, leaves}
 use Rattle.kept.proofs.Messages.{Ready, keep-ended}
 
 -- a token that ends no message may be kept
@@ -57,8 +52,10 @@ heard-more : (c : Circuit) (h : Hearing) (x : ℕ) → HearingOk c h → legalWo
 heard-more c h x ok legal =
     ⊎-elim inl
     (λ old. inr (by-test (ltb (h .heard) unitBuffer)
-    (λ e. rw e
-    (omega (arith, ltb-true (h .heard) unitBuffer e), words-more (λ y. legalWord false y ≡ true) (h .tokens) (h .heard) x legal refl (old .1)))
+    (λ e. rw e (
+      omega (arith, ltb-true (h .heard) unitBuffer e),
+      words-more (λ y. legalWord false y ≡ true) (h .tokens) (h .heard) x legal refl (old .1),
+    ))
     (λ e. rw e old)))
     ok
 
@@ -139,20 +136,18 @@ module _ (w : World) (k : Kept w) (n p : ℕ) (r : Holds w n p 1) (e : hop (w .n
       (lf .silent))
 
   -- heard, and the message is at its end: the unit is free
-  keep-freed : closing ≡ true → Kept (withNet (took w n p) (closesUnit (took w n p .net) n p))
+  pub keep-freed : closing ≡ true → Kept (withNet (took w n p) (closesUnit (took w n p .net) n p))
   keep-freed shuts =
       let t = w .net .units in
       let nobody = ofPeer Nobody in
       let free : pick closing nobody (t .serving n 0) ≡ nobody = rw shuts in
-      let is-left : closesUnit (took w n p .net) n p ≡ withUnits (left w n p .net) (record { serving = upd (t .serving) n 0 nobody; hearings = t .hearings }) =
+      let after : UnitTables = record { serving = upd (t .serving) n 0 nobody; hearings = t .hearings } in
+      let is-left : closesUnit (took w n p .net) n p ≡ withUnits (left w n p .net) after =
       ap (λ (s : Net). closesUnit s n p) (taken-is w n p) ∙ rw shuts in
       subst (λ (s : Net). Kept (withNet (took w n p) s)) (sym is-left)
       (keep-unit (upd (t .serving) n 0 nobody) (t .hearings)
       (all-upd (t .serving) n 0 nobody (λ (y : Circuit). PortOk y) (k .serving) (omega arith))
-      (λ m i hm hi. upd-all (λ m i y. HearingOk (t .serving m i) (t .hearings m i) → HearingOk y (t .hearings m i)) (t .serving) n 0 nobody m i
-      (λ a b old. inl refl)
-      (λ o old. old)
-      (k .hearings m i hm hi))
+      (all-at (t .serving) n 0 nobody (λ m i y. HearingOk y (t .hearings m i)) (k .hearings) (inl refl))
       (subst (λ (c : Circuit). Pair (w .net .nodes) ports 1 legUnit portIn (left w n p .net .ports .legs) (upd (t .serving) n 0 c)) free
       (pair-leave (k .portUnit) closing n p 0 (legOf Shut) nobody (r .node) (r .port) (named unitOf (One 0) refl) refl refl))
       (λ m hm. upd-all (λ a i y. ((t .serving a i .kind ≡ 0) ⊎ (left w n p .net .ports .counters m replyPort .held ≡ 0))
@@ -174,5 +169,7 @@ module _ (w : World) (k : Kept w) (n p : ℕ) (r : Holds w n p 1) (e : hop (w .n
   pub keep-hears : Kept (hears w n p .next)
   keep-hears =
       by-test closing
-      (λ shuts. rw shuts (keep-ended (withNet (took w n p) (closesUnit (took w n p .net) n p)) (keep-freed shuts) n (ready-after shuts) (firstAt w n p)))
+      (λ shuts.
+      let y = withNet (took w n p) (closesUnit (took w n p .net) n p) in
+      rw shuts (keep-ended y (keep-freed shuts) n (ready-after shuts) (firstAt w n p)))
       (λ more. rw more (keep-listens more))

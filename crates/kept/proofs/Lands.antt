@@ -46,7 +46,8 @@ use Rattle.kept.proofs.Empties.{Emptied, emptied-stripped}
 use Rattle.kept.proofs.Stages.{read-off, same-ends, fed-away}
 use Rattle.kept.proofs.Tables.{all-upd, pair-first, pair-second, pair-link}
 use Rattle.kept.proofs.Headers.{landed}
-use Rattle.kept.proofs.Opens.{Headed, kept-holds, queue-long, names-still, front-is, header-whole, good-walk}
+use Rattle.kept.proofs.Rooms.{kept-holds, queue-long}
+use Rattle.kept.proofs.Opens.{Headed, names-still, front-is, header-whole, good-walk}
 use Rattle.kept.proofs.Opens.{network-stays, hop-read}
 
 -- CREDITS, while tokens are taken off a port: each brings the link that feeds it no more than there is room for

@@ -6,6 +6,7 @@ pub mod Pasts
 pub mod Words
 pub mod Tables
 pub mod Money
+pub mod Rooms
 pub mod Queues
 pub mod Fills
 pub mod Empties

@@ -1,22 +1,22 @@
--- What is done to a link's settings and credit keeps all that is kept: a grant, HELLO, enabling, disabling, direction and network. Assumes
--- nothing.
-use Prim.Native.Nat.{ℕ, _+_, _<_, _≤_}
+-- What is done to settings and credit keeps all that is kept: a node's own settings, and of a link a grant, HELLO, enabling, disabling,
+-- direction and network. Assumes nothing.
+use Prim.Native.Nat.{ℕ, _<_, _≤_}
 use mathlib.Core.Path.{_≡_, refl, sym, ap, _∙_}
 use mathlib.Core.Bool.{Bool, true, false}
-use mathlib.Core.Logic.{_⊎_, inl, inr, ⊎-elim}
+use mathlib.Core.Logic.{_⊎_, inl, inr}
 use native.Mathlib.Omega.{arith}
 use lib.Dec.{eqb}
 use borrow.Author.Tests.{eqb-true}
-use Rattle.laws.specs.Table.{upd, Off}
+use Rattle.laws.specs.Table.{upd}
 use Rattle.laws.specs.Pick.{pick}
-use Rattle.laws.proofs.Table.{upd-all, upd-same, upd-hit, upd-miss, place}
-use Rattle.laws.proofs.Order.{by-test, clash, never}
+use Rattle.laws.proofs.Table.{upd-all, upd-hit, upd-miss}
+use Rattle.laws.proofs.Order.{clash, never}
 use Rattle.names.specs.Size.{links, directions, networks}
 use Rattle.names.specs.declared.Slot.{Slot}
-use Rattle.ports.specs.Queue.{capacity}
-use Rattle.cells.specs.View.{Net, withLinks, withFlow, withSetup}
+use Rattle.cells.specs.View.{withNode, withFlow, withSetup}
 use Rattle.cells.specs.World.{World, shaped, farOf}
 use Rattle.cells.specs.Changes.{enabledAs, directedTo, networkAs}
+use Rattle.cells.specs.declared.node.Node.{Node}
 use Rattle.cells.specs.declared.link.Cable.{Cable}
 use Rattle.cells.specs.declared.link.Setup.{Setup}
 use Rattle.cells.specs.declared.link.Flow.{Flow}
@@ -25,15 +25,28 @@ use Rattle.cells.specs.declared.link.Far.the-variants.{Nowhere, At}
 use Rattle.clauses.specs.Cables.{onFar, enabled, farEnabled}
 use Rattle.acts.specs.Acts.{withNet}
 use Rattle.grants.specs.Grants.{considered, greeting, greets, helloed, silenced, farSilenced, disabled}
-use Rattle.kept.specs.Kept.{All, Cabled, Hears, Greeted, Money, SetupOk, FlowOk, Unfed, Idle, Fed, frontAt, reachedAt, Kept}
+use Rattle.kept.specs.Kept.{All, NodeOk, Cabled, Hears, Greeted, Money, SetupOk, Unfed, Idle, Fed, frontAt, reachedAt, Kept}
+use Rattle.kept.proofs.Tables.{all-at, all-upd}
 use Rattle.kept.proofs.Money.{money-less, money-considered, greeted-considered}
 
--- other cables, settings and flows, and everything else as it was
-abbrev pub linksAs : World → (ℕ → ℕ → Cable) → (ℕ → ℕ → Setup) → (ℕ → ℕ → Flow) → World
-linksAs w c s f = withNet w (withLinks (w .net) (record { cables = c; setups = s; flows = f; users = w .net .links .users }))
+-- other settings of nodes, cables, settings of links and flows, and everything else as it was
+abbrev pub settledAs : World → (ℕ → ℕ → Node) → (ℕ → ℕ → Cable) → (ℕ → ℕ → Setup) → (ℕ → ℕ → Flow) → World
+settledAs w o c s f =
+    let t = w .net in
+    withNet w (record {
+      nodes = t .nodes;
+      own = o;
+      links = record { cables = c; setups = s; flows = f; users = t .links .users };
+      ports = t .ports;
+      tiles = t .tiles;
+      ends = t .ends;
+      units = t .units;
+      rest = t .rest;
+    })
 
 -- what has to hold of them
-pub record Linked (w : World) (c : ℕ → ℕ → Cable) (s : ℕ → ℕ → Setup) (f : ℕ → ℕ → Flow) : Type 0 where
+pub record Settled (w : World) (o : ℕ → ℕ → Node) (c : ℕ → ℕ → Cable) (s : ℕ → ℕ → Setup) (f : ℕ → ℕ → Flow) : Type 0 where
+  pub nodes : All (w .net .nodes) 1 (λ n i. NodeOk (o n i))
   pub cabled : Cabled (w .net .nodes) c
   pub setups : All (w .net .nodes) links (λ n l. SetupOk (s n l))
   pub greeted : Greeted (w .net .nodes) c s f
@@ -42,12 +55,14 @@ pub record Linked (w : World) (c : ℕ → ℕ → Cable) (s : ℕ → ℕ → S
   pub idle : Idle (w .net .nodes) s (w .net .links .users)
   pub fed : Fed (w .net .nodes) c (w .net .links .users) (frontAt w) (reachedAt w)
 
-pub relinked : (w : World) (c : ℕ → ℕ → Cable) (s : ℕ → ℕ → Setup) (f : ℕ → ℕ → Flow) → Kept w → Linked w c s f → Kept (linksAs w c s f)
+pub resettled : (w : World) (o : ℕ → ℕ → Node) (c : ℕ → ℕ → Cable) (s : ℕ → ℕ → Setup) (f : ℕ → ℕ → Flow) → Kept w
+    → Settled w o c s f
+    → Kept (settledAs w o c s f)
 unfolding shaped
-relinked w c s f k z =
+resettled w o c s f k z =
     record {
       shape = k .shape;
-      nodes = k .nodes;
+      nodes = z .nodes;
       cabled = z .cabled;
       setups = z .setups;
       users = k .users;
@@ -78,15 +93,31 @@ relinked w c s f k z =
       fed = z .fed;
     }
 
--- other flows alone, or other settings alone
+-- a node's own settings alone, other flows alone, or other settings of links alone
 module _ (w : World) (k : Kept w) where
+  pub keep-own : (n : ℕ) (x : Node) → NodeOk x → Kept (withNet w (withNode (w .net) n x))
+  keep-own n x ok =
+      let t = w .net .links in
+      resettled w (upd (w .net .own) n 0 x) (t .cables) (t .setups) (t .flows) k
+      (record {
+        nodes = all-upd (w .net .own) n 0 x NodeOk (k .nodes) ok;
+        cabled = k .cabled;
+        setups = k .setups;
+        greeted = k .greeted;
+        money = k .money;
+        unfed = k .backs .unfed;
+        idle = k .idle;
+        fed = k .fed;
+      })
+
   flowed : (f : ℕ → ℕ → Flow)
       → Greeted (w .net .nodes) (w .net .links .cables) (w .net .links .setups) f
       → Money (w .net .nodes) (w .net .links .cables) f (w .net .ports .counters)
-      → Kept (linksAs w (w .net .links .cables) (w .net .links .setups) f)
+      → Kept (settledAs w (w .net .own) (w .net .links .cables) (w .net .links .setups) f)
   flowed f g m =
-      relinked w (w .net .links .cables) (w .net .links .setups) f k
+      resettled w (w .net .own) (w .net .links .cables) (w .net .links .setups) f k
       (record {
+        nodes = k .nodes;
         cabled = k .cabled;
         setups = k .setups;
         greeted = g;
@@ -100,10 +131,11 @@ module _ (w : World) (k : Kept w) where
       → All (w .net .nodes) links (λ n l. SetupOk (s n l))
       → Greeted (w .net .nodes) (w .net .links .cables) s (w .net .links .flows)
       → Idle (w .net .nodes) s (w .net .links .users)
-      → Kept (linksAs w (w .net .links .cables) s (w .net .links .flows))
+      → Kept (settledAs w (w .net .own) (w .net .links .cables) s (w .net .links .flows))
   setup s h g i =
-      relinked w (w .net .links .cables) s (w .net .links .flows) k
+      resettled w (w .net .own) (w .net .links .cables) s (w .net .links .flows) k
       (record {
+        nodes = k .nodes;
         cabled = k .cabled;
         setups = h;
         greeted = g;
@@ -127,9 +159,8 @@ module _ (w : World) (k : Kept w) (n l : ℕ) (hn : n < w .net .nodes) (hl : l <
   keep-empty f flag none hears =
       let t = w .net .links in
       flowed w k (upd (t .flows) n l f)
-      (λ a j ha hj. upd-all (λ a j x. x .greeted ≡ 1 → (t .setups a j .enabled ≡ 1) × Hears (t .setups) (t .cables a j)) (t .flows) n l f a j
-      (λ ea ej g. rw (ea, ej) (hears g))
-      (λ o g. k .greeted a j ha hj g))
+      (all-at (t .flows) n l f (λ a j x. x .greeted ≡ 1 → (t .setups a j .enabled ≡ 1) × Hears (t .setups) (t .cables a j)) (k .greeted)
+      hears)
       (money-less (k .money) n l f flag (omega (arith, none)) (inl none))
 
   pub keep-silenced : Kept (withNet w (withFlow (w .net) n l silenced))
@@ -176,7 +207,8 @@ module _ (w : World) (k : Kept w) (n l : ℕ) (hn : n < w .net .nodes) (hl : l <
       (λ a j ha hj g.
       let z = k .greeted a j ha hj g in
       let far = z .1 in
-      (up a j (z .0), record { slot = far .slot; link = far .link; leads = far .leads; enabled = up (far .slot .0) (far .link) (far .enabled) }))
+      let there = up (far .slot .0) (far .link) (far .enabled) in
+      (up a j (z .0), record { slot = far .slot; link = far .link; leads = far .leads; enabled = there }))
       (λ a j ha hj. upd-all (λ a j y. (y .enabled ≡ 1) ⊎ (t .users a j .kind ≡ 0)) (t .setups) n l x a j
       (λ ea ej. rw (ea, ej) idle)
       (λ o. k .idle a j ha hj))

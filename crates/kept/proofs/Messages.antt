@@ -1,9 +1,9 @@
--- What becomes of a message at its end keeps all that is kept: it is obeyed, all its Sets or none, and replied to by port 12, which is empty.
--- Assumes nothing.
+-- What becomes of a message at its end keeps all that is kept: it is obeyed, all its Sets or none, and replied to by port 12, which is
+-- empty. Assumes nothing.
 use Prim.{Unit, tt}
-use Prim.Native.Nat.{ℕ, _+_, _*_, _%_, _<_, _≤_}
-use mathlib.Core.Path.{_≡_, refl, sym, ap, _∙_}
-use mathlib.Core.Bool.{Bool, true, false, _&&_}
+use Prim.Native.Nat.{ℕ, _<_}
+use mathlib.Core.Path.{_≡_, ap, _∙_}
+use mathlib.Core.Bool.{true, _&&_}
 use mathlib.Core.List.{List}
 use mathlib.Core.Logic.{⊎-elim}
 use native.Mathlib.Omega.{arith}
@@ -12,20 +12,19 @@ use Rattle.laws.specs.Pick.{pick}
 use Rattle.laws.proofs.All.{also, as-is}
 use Rattle.laws.proofs.Order.{by-test}
 use Rattle.names.specs.Size.{numbers, replyPort}
-use Rattle.circuits.specs.declared.Circuit.{Circuit}
 use Rattle.tokens.specs.Word.{valueOf, isPause}
 use Rattle.tokens.specs.Shape.{legalChannel}
 use Rattle.tokens.specs.Header.{headerOf, isNarrow, legalTarget}
 use Rattle.tokens.specs.declared.header.Target.{Target}
 use Rattle.tokens.proofs.Channels.{legal-channel}
-use Rattle.cells.specs.View.{Net, PortTables, UnitTables}
+use Rattle.cells.specs.View.{PortTables, UnitTables}
 use Rattle.cells.specs.World.{World}
 use Rattle.cells.specs.declared.unit.Hearing.{Hearing}
 use Rattle.acts.specs.Acts.{withNet, widthAt}
 use Rattle.plans.specs.Plan.{numberIn}
 use Rattle.settings.specs.declared.Setting.{Setting}
 use Rattle.messages.specs.Register.{registerOf, isKnown, fieldsOf, readOf}
-use Rattle.messages.specs.Heard.{token, two, four, twoData, isCommand, hasReply, replyTo, isWrite, isRead, orderOf, messageOf}
+use Rattle.messages.specs.Heard.{token, two, twoData, isCommand, hasReply, replyTo, isWrite, isRead, orderOf, messageOf}
 use Rattle.messages.specs.Write.{accepted, written}
 use Rattle.messages.specs.Ended.{replySent, obeyed, ended}
 use Rattle.messages.specs.declared.heard.Message.{Message}
@@ -51,7 +50,8 @@ Replied (Write g r v) = Address g
 
 addressed : (h : Hearing) → hasReply h ≡ true → Address (replyTo h)
 addressed h e =
-    let z = also (as-is (leb 4 (h .heard))) (also (as-is (isCommand (token h 0))) (also (as-is (twoData h 1)) (as-is (legalChannel (token h 3))))) .sure e in
+    let reply = also (as-is (twoData h 1)) (as-is (legalChannel (token h 3))) in
+    let z = also (as-is (leb 4 (h .heard))) (also (as-is (isCommand (token h 0))) reply) .sure e in
     (omega arith, byte (token h 3) (z .1 .1 .1))
   where
     byte : (c : ℕ) → legalChannel c ≡ true → legalChannel (valueOf c) ≡ true
@@ -100,8 +100,9 @@ keep-obeyed w k n z Malformed a = k
 keep-obeyed w k n z (Wrong g) a = keep-sent w k n z g a Nack
 keep-obeyed w k n z (Read g r) a = keep-sent w k n z g a (Value (readOf (w .net) n r))
 keep-obeyed w k n z (Write g r v) a =
-    let y = withNet w (written (w .net) n (fieldsOf r v)) in
-    keep-sent y (keep-written w k n (fieldsOf r v)) n (ready-written w n z (fieldsOf r v)) g a (pick (accepted (w .net) n (fieldsOf r v)) Ack Nack)
+    let xs = fieldsOf r v in
+    let y = withNet w (written (w .net) n xs) in
+    keep-sent y (keep-written w k n xs) n (ready-written w n z xs) g a (pick (accepted (w .net) n xs) Ack Nack)
 
 pub keep-ended : (w : World) → Kept w → (n : ℕ) → Ready w n → (x : ℕ) → Kept (ended w n x .next)
 unfolding ended

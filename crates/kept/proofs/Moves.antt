@@ -1,16 +1,14 @@
 -- A token that is dropped, and one that moves over a cable, keep all that is kept. Assumes nothing.
-use Prim.Native.Nat.{ℕ, _+_, _*_, _<_, _≤_}
+use Prim.Native.Nat.{ℕ, _+_, _<_, _≤_}
 use mathlib.Core.Path.{_≡_, refl, sym, ap, _∙_, subst}
 use mathlib.Core.Bool.{Bool, true, false}
 use mathlib.Core.List.{List, [], _∷_, _++_}
 use mathlib.Core.Logic.{_⊎_, inl, inr, ⊎-elim}
 use native.Mathlib.Omega.{arith}
 use lib.Dec.{eqb}
-use lib.ListN.{length}
 use borrow.Author.Tests.{eqb-true}
 use Rattle.laws.specs.Pick.{pick}
 use Rattle.laws.specs.Table.{upd, Off}
-use Rattle.laws.proofs.All.{also, as-is, at-most, equal}
 use Rattle.laws.proofs.Order.{by-test, never}
 use Rattle.laws.proofs.Table.{upd-same, upd-miss, upd-all, upd-own, place}
 use Rattle.names.specs.Size.{nodes, links, ports, replyPort}
@@ -24,15 +22,14 @@ use Rattle.circuits.specs.declared.Peer.{Peer}
 use Rattle.circuits.specs.declared.Peer.the-variants.{Nobody, Port, End}
 use Rattle.tokens.specs.Word.{closes}
 use Rattle.tokens.specs.Shape.{shapeOf}
-use Rattle.ports.specs.Queue.{capacity, Fair, putCounters}
-use Rattle.ports.specs.Memory as Memory
+use Rattle.ports.specs.Queue.{Fair, putCounters}
 use Rattle.ports.specs.declared.Counters.{Counters}
 use Rattle.grammar.specs.Stage.{isBad, nextStage, crossed}
 use Rattle.grammar.specs.Walk.{frontOf, backOf}
 use Rattle.grammar.specs.declared.stage.Stage.{Stage}
 use Rattle.grammar.specs.declared.stage.Stage.the-variants.{Fresh}
 use Rattle.cells.specs.View.{Net, withUser}
-use Rattle.cells.specs.World.{World, shaped, isEmpty, farOf, hop, queue}
+use Rattle.cells.specs.World.{World, shaped, farOf, hop, queue}
 use Rattle.cells.specs.declared.link.Cable.{Cable}
 use Rattle.cells.specs.declared.link.Far.{Far}
 use Rattle.cells.specs.declared.link.Far.the-variants.{Nowhere, At}
@@ -46,6 +43,7 @@ use Rattle.kept.proofs.Tables.{all-at, all-upd, pair-leave}
 use Rattle.kept.proofs.Money.{money-cross, greeted-credit, up-more}
 use Rattle.kept.proofs.Fills.{Filled, filled-one}
 use Rattle.kept.proofs.Links.{keep-considered}
+use Rattle.kept.proofs.Rooms.{reaches}
 use Rattle.kept.proofs.Stages.{tile-there, carried-same, fed-away, used-by}
 use Rattle.kept.proofs.Walks.{Put, put, closes-fresh, crossed-next, crossed-after}
 use Rattle.kept.proofs.Leaves.{taken-is, shutIf, left, left-is, pair-left, leaves}
@@ -108,15 +106,6 @@ module _ {y u : World} {n p x : ℕ} (f : Filled y u n p (x ∷ [])) (good : isB
 
   pub put-off : (a i : ℕ) → i < ports → Off n p a i → backAt u a i ≡ backAt y a i
   put-off a i h o = off-port backOf a i h o
-
--- the stretch of each port is there
-pub reaches : (w : World) → shaped w ≡ true → (n p : ℕ) → n < w .net .nodes → p < ports → Memory.place n p + capacity ≤ length (w .memory)
-unfolding shaped
-reaches w h n p hn hp =
-    let long = equal (length (w .memory)) (w .net .nodes * (ports * capacity)) in
-    let some = also (at-most 1 (w .net .nodes)) (also (at-most (w .net .nodes) nodes) long) in
-    let z = also (as-is (isEmpty (w .net .rest))) some .sure h in
-    omega (arith, z .1 .1 .1)
 
 -- a peer that names a port is that port
 names-port : (x : Peer) (p : ℕ) → portOf x ≡ One p → x ≡ Port p

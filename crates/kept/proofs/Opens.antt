@@ -1,6 +1,6 @@
 -- A circuit that is opened outward, or refused, keeps all that is kept: a whole header stands at the front of a port that had no circuit,
 -- and stays there. Assumes nothing.
-use Prim.Native.Nat.{ℕ, zero, suc, _+_, _*_, _%_, _<_, _≤_}
+use Prim.Native.Nat.{ℕ, _+_, _%_, _<_, _≤_}
 use mathlib.Core.Path.{_≡_, refl, sym, ap, _∙_, subst}
 use mathlib.Core.Bool.{false}
 use mathlib.Core.List.{List, _∷_}
@@ -8,7 +8,6 @@ use mathlib.Core.Logic.{_⊎_, inl, inr, ⊎-elim}
 use native.Mathlib.Omega.{arith}
 use lib.ListN.{length, getD}
 use Rattle.laws.specs.Table.{upd, Off}
-use Rattle.laws.proofs.All.{also, as-is, at-most, equal}
 use Rattle.laws.proofs.Table.{upd-all, upd-same, place}
 use Rattle.names.specs.Size.{nodes, links, ports}
 use Rattle.circuits.specs.Circuit.{peerOf, ofPeer, hopOf, ofHop, tileTaken}
@@ -20,7 +19,6 @@ use Rattle.circuits.specs.declared.Hop.the-variants.{Shut, Out, Dropped}
 use Rattle.circuits.specs.declared.Peer.the-variants.{Port}
 use Rattle.circuits.proofs.Backs.{hop-back}
 use Rattle.ports.specs.Queue.{capacity}
-use Rattle.ports.specs.Ring.{ring}
 use Rattle.ports.specs.Memory as M
 use Rattle.ports.specs.declared.Counters.{Counters}
 use Rattle.grammar.specs.Stage.{isBad, crossed}
@@ -28,39 +26,21 @@ use Rattle.grammar.specs.Walk.{walk, lead, frontOf, backOf}
 use Rattle.grammar.specs.declared.stage.Stage.{Stage}
 use Rattle.grammar.specs.declared.stage.Stage.the-variants.{Fresh}
 use Rattle.cells.specs.View.{Net, withLinks}
-use Rattle.cells.specs.World.{World, shaped, isEmpty, hop, queue}
+use Rattle.cells.specs.World.{World, shaped, hop, queue}
 use Rattle.cells.specs.declared.port.Leg.{Leg}
 use Rattle.clauses.specs.Pairs.{linkOf, tileOf, unitOf, claimOf}
 use Rattle.clauses.specs.declared.pairs.Named.{Named}
 use Rattle.clauses.specs.declared.pairs.Named.the-variants.{Nothing}
 use Rattle.acts.specs.Acts.{withNet, wordAt, popped, legOf, hopped}
-use Rattle.acts.specs.Needs.{Holds}
 use Rattle.acts.proofs.Queues.{popped-queue}
 use Rattle.plans.specs.Plan.{markedWidth, sizeOf}
 use Rattle.plans.proofs.Held.{size-some}
 use Rattle.moves.specs.Moves.{opensOut}
 use Rattle.kept.specs.Kept.{All, LegOk, PortOk, NetworkOk, Pair, Idle, Fed, Kept, frontAt, backAt, carried, legLink, portIn}
+use Rattle.kept.proofs.Rooms.{kept-holds, queue-long}
 use Rattle.kept.proofs.Stages.{hopAt, read-off, same-ends, fed-away}
 use Rattle.kept.proofs.Tables.{all-at, all-upd, pair-first, pair-link}
 use Rattle.kept.proofs.Headers.{Whole, opened}
-
--- ONE PORT of what is kept: the tokens that it holds can be taken
-pub kept-holds : (w : World) → Kept w → (n p i : ℕ) → n < w .net .nodes → p < ports → i ≤ w .net .ports .counters n p .held → Holds w n p i
-unfolding shaped
-kept-holds w k n p i hn hp h =
-    let long = equal (length (w .memory)) (w .net .nodes * (ports * capacity)) in
-    let some = also (at-most 1 (w .net .nodes)) (also (at-most (w .net .nodes) nodes) long) in
-    let z = also (as-is (isEmpty (w .net .rest))) some .sure (k .shape) in
-    record { node = hn; port = hp; fair = k .counters n p hn hp; held = h; reaches = omega (arith, z .1 .1 .1) }
-
--- .. as many as its counters say
-ring-long : (cap : ℕ) (s : List ℕ) (h n : ℕ) → length (ring cap s h n) ≡ n
-unfolding ring
-ring-long cap s h zero = refl
-ring-long cap s h (suc n) = ap suc (ring-long cap s (suc h) n)
-
-pub queue-long : (w : World) (n p : ℕ) → length (queue w n p) ≡ w .net .ports .counters n p .held
-queue-long w n p = let c = w .net .ports .counters n p in ring-long capacity (M.stretch (w .memory) (M.place n p)) (c .head) (c .held)
 
 -- "With a whole header the switch reads it": a port with no circuit, and a header that is held whole
 pub record Headed (w : World) (n p : ℕ) : Type 0 where

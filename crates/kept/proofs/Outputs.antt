@@ -1,6 +1,6 @@
 -- Output by a port keeps all that is kept, the first token with its header and those behind it, and so does a reply in port 12. Assumes
 -- nothing.
-use Prim.Native.Nat.{ℕ, _+_, _*_, _<_, _≤_}
+use Prim.Native.Nat.{ℕ, _+_, _<_, _≤_}
 use mathlib.Core.Path.{_≡_, refl, sym, ap, _∙_, subst}
 use mathlib.Core.Bool.{true, false}
 use mathlib.Core.List.{List, [], _∷_, _++_, append-assoc}
@@ -11,7 +11,7 @@ use lib.ListN.{length, length-append}
 use borrow.Author.Tests.{eqb-true}
 use Rattle.laws.specs.Pick.{pick}
 use Rattle.laws.specs.Table.{upd, Off}
-use Rattle.laws.proofs.All.{also, as-is, at-most, below, equal}
+use Rattle.laws.proofs.All.{also, at-most, below, equal}
 use Rattle.laws.proofs.Order.{by-test, never}
 use Rattle.laws.proofs.Table.{upd-same, upd-miss, upd-all, place}
 use Rattle.names.specs.Size.{nodes, links, firstTilePort, replyPort, ports, ends, networks, numbers}
@@ -29,14 +29,13 @@ use Rattle.tokens.specs.Header.{headerOf, words, isNarrow, legalTarget}
 use Rattle.tokens.specs.declared.header.Target.{Target}
 use Rattle.tokens.specs.declared.header.Width.{Width}
 use Rattle.ports.specs.Queue.{capacity, Fair}
-use Rattle.ports.specs.Ring.{ring}
 use Rattle.ports.specs.declared.Counters.{Counters}
 use Rattle.grammar.specs.Stage.{nextStage, isBad}
 use Rattle.grammar.specs.Walk.{walk, frontOf, backOf}
 use Rattle.grammar.specs.declared.stage.Stage.the-variants.{Fresh, Body}
 use Rattle.grammar.proofs.Nexts.{plain}
 use Rattle.cells.specs.View.{Net, withPorts, withEnds, withCounters}
-use Rattle.cells.specs.World.{World, shaped, isEmpty, hop, queue}
+use Rattle.cells.specs.World.{World, shaped, hop, queue}
 use Rattle.cells.specs.declared.end.Aim.{Aim}
 use Rattle.acts.specs.Acts.{withNet, widthAt, networked, untilClosed, pushedAll}
 use Rattle.acts.specs.Needs.{Room}
@@ -52,6 +51,7 @@ use Rattle.clauses.specs.declared.pairs.Named.the-variants.{Nothing, One}
 use Rattle.clauses.proofs.Meanings.{AimFacts}
 use Rattle.kept.specs.Kept.{All, Pair, EndOk, PeerOk, TilePort, Free, NetworkOk, Aimed, GoesBy, Sends, Kept}
 use Rattle.kept.specs.Kept.{frontAt, backAt, portIn, endIn, claimIn}
+use Rattle.kept.proofs.Rooms.{has-room, nothing-held}
 use Rattle.kept.proofs.Walks.{put}
 use Rattle.kept.proofs.Headers.{header-walk, header-size, past-header, body-good}
 use Rattle.kept.proofs.Tables.{all-upd, pair-first}
@@ -97,7 +97,7 @@ record FillOk (w z : World) (n p : ℕ) (nets : ℕ → ℕ → ℕ) (senders se
   sends : Sends (w .net .nodes) sendings (backAt z)
   replied : p ≡ replyPort → backAt z n p ≡ Fresh
 
-module _ (w : World) (k : Kept w) (n p : ℕ) (lo : links ≤ p) (c : Counters) {m ts : List ℕ} (f : Filled w (after w n p c m) n p ts) where
+module _ (w : World) (n p : ℕ) (c : Counters) {m ts : List ℕ} (f : Filled w (after w n p c m) n p ts) where
   -- every other port begins and ends where it did
   front-away : (a j : ℕ) → j < ports → Off n p a j → frontAt (after w n p c m) a j ≡ frontAt w a j
   front-away a j hj o = ap (frontOf (hop (w .net) a j)) (f .away a j hj o)
@@ -105,11 +105,11 @@ module _ (w : World) (k : Kept w) (n p : ℕ) (lo : links ≤ p) (c : Counters) 
   back-away : (a j : ℕ) → j < ports → Off n p a j → backAt (after w n p c m) a j ≡ backAt w a j
   back-away a j hj o = ap (backOf (hop (w .net) a j)) (f .away a j hj o)
 
-  keep-filled : (nets : ℕ → ℕ → ℕ) (senders sendings : ℕ → ℕ → Circuit)
+  keep-filled : Kept w → links ≤ p → (nets : ℕ → ℕ → ℕ) (senders sendings : ℕ → ℕ → Circuit)
       → FillOk w (after w n p c m) n p nets senders sendings
       → Kept (with (after w n p c m) nets senders sendings)
   unfolding shaped
-  keep-filled nets senders sendings x =
+  keep-filled k lo nets senders sendings x =
       let counters = w .net .ports .counters in
       record {
         shape = f .shape ∙ k .shape;
@@ -164,16 +164,6 @@ module _ (w : World) (k : Kept w) (n p : ℕ) (lo : links ≤ p) (c : Counters) 
             (λ o. front-away a q (k .portLink .back a l ha hl q (ap portOf d) .0) o)));
       }
 
--- room in a port, in the memory that this shape asks
-pub has-room : (w : World) → Kept w → (n p j : ℕ) → n < w .net .nodes → p < ports → w .net .ports .counters n p .held + j ≤ capacity
-    → Room w n p j
-unfolding shaped
-has-room w k n p j hn hp h =
-    let long = equal (length (w .memory)) (w .net .nodes * (ports * capacity)) in
-    let some = also (at-most 1 (w .net .nodes)) (also (at-most (w .net .nodes) nodes) long) in
-    let z = also (as-is (isEmpty (w .net .rest))) some .sure (k .shape) in
-    record { node = hn; port = hp; fair = k .counters n p hn hp; room = h; reaches = omega (arith, z .1 .1 .1) }
-
 -- A TOKEN BY A PORT, which the channel-end's circuit goes by until END or PAUSE
 -- .. and still does only where the token closes nothing
 still : (t p q : ℕ) → peerOf (ofPeer (untilClosed t (Port p))) ≡ Port q → (closes t ≡ false) × (q ≡ p)
@@ -201,7 +191,7 @@ module _ (w : World) (k : Kept w) (n e p t : ℕ) (s : Sender (w .net) n e) (til
       → Kept (with (after w n p c m) nets (upd (w .net .ports .senders) n p (ofPeer (untilClosed t (End e))))
       (upd (w .net .ends .sendings) n e (ofPeer (untilClosed t (Port p)))))
   keep-by c {m} f nets same small front back =
-      keep-filled w k n p (tile .0) c f nets _ _
+      keep-filled w n p c f k (tile .0) nets _ _
       (record {
         networks-ok = λ a j ha hj.
             upd-all (λ a j y. NetworkOk j (w .net .ports .legs a j) y (nets a j)) (w .net .ports .counters) n p c a j
@@ -226,16 +216,12 @@ module _ (w : World) (k : Kept w) (n e p t : ℕ) (s : Sender (w .net) n e) (til
             (λ ea ed h. let y = still t p q h in rw (ea, y .1) (back ∙ rw (y .0)))
             (λ off h.
             let named = k .endPort .out a d ha hd q (ap portOf h) in
-            back-away w k n p (tile .0) c f a q (named .0) (λ ea eq. off ea (alone d (rw (ea, eq) at (named .1))))
+            back-away w n p c f a q (named .0) (λ ea eq. off ea (alone d (rw (ea, eq) at (named .1))))
             ∙ k .backs .sends a d ha hd q h);
         replied = λ r. absurd (omega (arith, tile .1));
       })
 
 -- BEHIND, in the port that the circuit goes by
-nothing-held : (w : World) (n p : ℕ) → w .net .ports .counters n p .held ≡ 0 → queue w n p ≡ []
-unfolding ring
-nothing-held w n p e = rw e
-
 free-fresh : (w : World) (n p : ℕ) → Free (w .net .ports .legs n p) (w .net .ports .counters n p) → backAt w n p ≡ Fresh
 free-fresh w n p f = rw (nothing-held w n p (f .1), f .0)
 
@@ -287,7 +273,7 @@ unsent w k n p hn hp f = go (endIn (w .net .ports .senders n p)) refl
         never (let fresh = free-fresh w n p f in cc)
 
 -- what is aimed at can be named
-aim-legal : (k : Aim) → AimFacts k → (numberIn (targetOf k) .0 < numbers) × (legalTarget (targetOf k) ≡ true)
+pub aim-legal : (k : Aim) → AimFacts k → (numberIn (targetOf k) .0 < numbers) × (legalTarget (targetOf k) ≡ true)
 aim-legal k f =
     by-test (eqb (k .kind) 1)
     (λ e. rw e (f .number, ⊎-elim (λ z. absurd (omega (arith, eqb-true (k .kind) 1 e))) (λ z. z .1) (f .place)))
@@ -375,7 +361,7 @@ keep-reply w k n g y x hn empty idle fits legal wide =
     ∙ ap (walk Fresh) (append-assoc ws (said x) last)
     ∙ header-walk g y (said x ++ last) fits legal wide
     ∙ said-walk x in
-    keep-filled w k n p (omega arith) c f (w .net .ports .networks) (w .net .ports .senders) (w .net .ends .sendings)
+    keep-filled w n p c f k (omega arith) (w .net .ports .networks) (w .net .ports .senders) (w .net .ends .sendings)
     (record {
       networks-ok = λ a j ha hj.
           upd-all (λ a j y. NetworkOk j (w .net .ports .legs a j) y (w .net .ports .networks a j)) (w .net .ports .counters) n p c a j
@@ -392,7 +378,7 @@ keep-reply w k n g y x hn empty idle fits legal wide =
       good = ap isBad back;
       sends = λ a d ha hd q h.
           let tile = tile-there (peerOf (w .net .ends .sendings a d)) q (k .goes a d ha hd) h in
-          back-away w k n p (omega arith) c f a q (omega (arith, tile .1)) (λ ea eq. omega (arith, tile .1))
+          back-away w n p c f a q (omega (arith, tile .1)) (λ ea eq. omega (arith, tile .1))
           ∙ k .backs .sends a d ha hd q h;
       replied = λ e. back;
     }))

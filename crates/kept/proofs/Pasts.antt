@@ -1,8 +1,8 @@
 -- A token that may stand past a header is data, or control that Output lets out. Assumes nothing.
 use Prim.Native.Nat.{ℕ, _-_, _<_}
-use mathlib.Core.Path.{_≡_, refl, sym}
-use mathlib.Core.Bool.{Bool, true, false, _||_}
-use mathlib.Core.Logic.{inl, inr, ⊎-elim}
+use mathlib.Core.Path.{_≡_, sym}
+use mathlib.Core.Bool.{true, false}
+use mathlib.Core.Logic.{⊎-elim}
 use native.Mathlib.Omega.{arith}
 use lib.Dec.{eqb, ltb}
 use borrow.Author.Tests.{ltb-true}
@@ -11,7 +11,7 @@ use Rattle.laws.proofs.All.{either, equal}
 use Rattle.laws.proofs.Order.{by-test, clash}
 use Rattle.tokens.specs.Control.{end, pause}
 use Rattle.tokens.specs.Word.{controlWord, closes}
-use Rattle.tokens.specs.Shape.{Shape, legalChannel, threeShape, shapeOf}
+use Rattle.tokens.specs.Shape.{legalChannel, threeShape, shapeOf}
 use Rattle.tokens.specs.Shape as S
 use Rattle.grammar.specs.Stage.{isBad, nextStage}
 use Rattle.grammar.specs.declared.stage.Stage.the-variants.{Body}
@@ -39,7 +39,8 @@ past-small x good =
     (λ f. ltb-true x 0x1C2 f)
     (λ f. clash (sym (later (rw (e, f) at good)))))
   where
-    later : isBad (nextStage Body (pick (ltb x 0x200) S.Wrong (pick (ltb x 0x300) S.OneByte (pick (ltb x 0x600) S.Wrong (threeShape (x - 0x600)))))) ≡ false
+    later : isBad (nextStage Body
+        (pick (ltb x 0x200) S.Wrong (pick (ltb x 0x300) S.OneByte (pick (ltb x 0x600) S.Wrong (threeShape (x - 0x600)))))) ≡ false
         → false ≡ true
     later h =
         by-test (ltb x 0x200)

@@ -1,12 +1,11 @@
 -- Every Output that is not refused keeps all that is kept, whatever its plan. Assumes nothing.
-use Prim.Native.Nat.{ℕ, _+_, _%_, _<_, _≤_}
-use mathlib.Core.Path.{_≡_, refl, sym, ap, _∙_}
-use mathlib.Core.Bool.{Bool, true, false, _&&_, _||_}
+use Prim.Native.Nat.{ℕ, _<_}
+use mathlib.Core.Path.{_≡_, refl}
+use mathlib.Core.Bool.{Bool, true, false, _||_}
 use mathlib.Core.Logic.{inl, inr, ⊎-elim}
 use native.Mathlib.Omega.{arith}
 use lib.Dec.{eqb, ltb, leb}
 use borrow.Author.Tests.{eqb-true, eqb-false, ltb-true, leb-false}
-use Rattle.laws.specs.All.{first}
 use Rattle.laws.proofs.All.{first-passes, first-found, either, equal}
 use Rattle.laws.proofs.Order.{by-test, clash}
 use Rattle.names.specs.Size.{replyPort, ends}
@@ -17,7 +16,6 @@ use Rattle.tokens.specs.Control.{writec, readc, outputNo}
 use Rattle.tokens.specs.Header.{headerOf, isNarrow, legalTarget}
 use Rattle.tokens.specs.declared.header.Target.{Target}
 use Rattle.tokens.specs.declared.header.Target.the-variants.{Channel, Unit}
-use Rattle.tokens.specs.Shape.{legalChannel}
 use Rattle.tokens.proofs.Channels.{legal-channel}
 use Rattle.routing.specs.Way.{wayTo}
 use Rattle.routing.specs.declared.way.Way.{Way}
@@ -27,9 +25,9 @@ use Rattle.cells.specs.World.{World}
 use Rattle.acts.specs.Acts.{widthAt, numberAt, channelClaimed, channelFull}
 use Rattle.acts.specs.Needs.{Door}
 use Rattle.acts.proofs.Doors.{given-room}
-use Rattle.ends.specs.Plan.{targetOf, freePort, lowestFree, portPlan, straightPlan, localPlan, outputByWay, targetPlan, openPlan}
-use Rattle.ends.specs.Plan.{behindPlan, byPeer, outputPlan}
-use Rattle.ends.specs.Output.{byteOf, wordOf, isUnit, tokenNo, outputPerformed, outputMade}
+use Rattle.ends.specs.Plan.{targetOf, freePort, lowestFree, portPlan, localPlan, outputByWay, targetPlan, openPlan}
+use Rattle.ends.specs.Plan.{byPeer, outputPlan}
+use Rattle.ends.specs.Output.{byteOf, wordOf, isUnit, tokenNo, outputPerformed}
 use Rattle.ends.specs.declared.Token.{Token}
 use Rattle.ends.specs.declared.Token.the-variants.{Data, Control}
 use Rattle.ends.specs.declared.plan.Plan.{Plan}

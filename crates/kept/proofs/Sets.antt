@@ -1,13 +1,12 @@
 -- Every Set that is not refused keeps all that is kept, and so does what a switch message writes. Assumes nothing.
-use Prim.Native.Nat.{ℕ, _<_, _≤_}
-use mathlib.Core.Path.{_≡_, refl, sym, ap, _∙_}
+use Prim.Native.Nat.{ℕ, _<_}
+use mathlib.Core.Path.{_≡_, refl, sym}
 use mathlib.Core.Bool.{Bool, true, false, not, _&&_, _||_}
 use mathlib.Core.List.{List, [], _∷_}
-use mathlib.Core.Logic.{_⊎_, inl, inr, ⊎-elim}
+use mathlib.Core.Logic.{_⊎_, ⊎-elim}
 use native.Mathlib.Omega.{arith}
-use lib.Dec.{eqb, ltb, leb}
-use borrow.Author.Tests.{eqb-true, ltb-true, not-false, not-true}
-use Rattle.laws.proofs.Table.{upd-all}
+use lib.Dec.{eqb, ltb}
+use borrow.Author.Tests.{eqb-true, ltb-true, not-false}
 use Rattle.laws.proofs.All.{also, either, as-is, below, equal}
 use Rattle.laws.proofs.Order.{by-test, clash}
 use Rattle.names.specs.Size.{links, directions, networks, numbers}
@@ -16,54 +15,16 @@ use Rattle.names.specs.Number.{isNumber}
 use Rattle.answers.specs.Rows.{Row, refusal, Passes}
 use Rattle.answers.specs.Out.{Out, attempt}
 use Rattle.answers.proofs.Refusals.{passed}
-use Rattle.cells.specs.View.{Net, wholePort, withNode}
-use Rattle.cells.specs.World.{World, shaped, farOf}
-use Rattle.cells.specs.declared.node.Node.{Node}
+use Rattle.cells.specs.View.{Net, wholePort}
+use Rattle.cells.specs.World.{World, farOf}
 use Rattle.clauses.specs.Counts.{isFree}
 use Rattle.acts.specs.Acts.{withNet}
-use Rattle.settings.specs.Set.{linkThere, inRange, endInUse, farInUse, setBusy, setRows, setMade, setAnswer, setCall}
+use Rattle.settings.specs.Set.{linkThere, inRange, farInUse, setBusy, setRows, setMade, setCall}
 use Rattle.settings.specs.declared.Setting.{Setting}
 use Rattle.settings.specs.declared.Setting.the-variants.{Number, Width, Direction, LinkDirection, Network, Enable, Hello}
 use Rattle.messages.specs.Write.{accepted, madeAll, written}
 use Rattle.kept.specs.Kept.{NodeOk, Kept}
-use Rattle.kept.proofs.Links.{keep-helloed, keep-directed, keep-network, keep-enabled, keep-disabled}
-
--- A NODE'S OWN SETTINGS
-keep-own : (w : World) → Kept w → (n : ℕ) (x : Node) → NodeOk x → Kept (withNet w (withNode (w .net) n x))
-unfolding shaped
-keep-own w k n x ok =
-    record {
-      shape = k .shape;
-      nodes = λ a i ha hi. upd-all (λ a i y. NodeOk y) (w .net .own) n 0 x a i (λ ea ei. ok) (λ o. k .nodes a i ha hi);
-      cabled = k .cabled;
-      setups = k .setups;
-      users = k .users;
-      greeted = k .greeted;
-      money = k .money;
-      counters = k .counters;
-      legs = k .legs;
-      networks = k .networks;
-      senders = k .senders;
-      tiles = k .tiles;
-      aims = k .aims;
-      sendings = k .sendings;
-      claims = k .claims;
-      buffers = k .buffers;
-      serving = k .serving;
-      hearings = k .hearings;
-      portLink = k .portLink;
-      portTile = k .portTile;
-      portUnit = k .portUnit;
-      portClaim = k .portClaim;
-      endClaim = k .endClaim;
-      endPort = k .endPort;
-      aimed = k .aimed;
-      goes = k .goes;
-      silent = k .silent;
-      backs = k .backs;
-      idle = k .idle;
-      fed = k .fed;
-    }
+use Rattle.kept.proofs.Links.{keep-own, keep-helloed, keep-directed, keep-network, keep-enabled, keep-disabled}
 
 -- what refuses no Set that disables: a link that nobody uses
 free : (busy e kind port far : Bool) → busy ≡ true → (busy && (e && ((port || not kind) || far))) ≡ false → e ≡ true → kind ≡ true
@@ -95,7 +56,8 @@ module _ (w : World) (k : Kept w) (n : ℕ) (hn : n < w .net .nodes) where
       (⊎-elim
       (λ on. eqb-true (w .net .links .users n l .kind) 0
       (free (eqb v 0) (eqb (w .net .links .setups n l .enabled) 1) (eqb (w .net .links .users n l .kind) 0)
-      (not (isFree (wholePort (w .net) n l))) (farInUse (w .net) (farOf (w .net .links .cables n l))) e b (equal (w .net .links .setups n l .enabled) 1 .back on)))
+      (not (isFree (wholePort (w .net) n l))) (farInUse (w .net) (farOf (w .net .links .cables n l))) e b
+      (equal (w .net .links .setups n l .enabled) 1 .back on)))
       (λ nobody. nobody)
       (k .idle n l hn hl))))
       (λ e. rw e (keep-enabled w k n l hn hl))

@@ -1,5 +1,5 @@
 -- Where ports begin and end after a change: what hangs on that is kept where they end as they did. Assumes nothing.
-use Prim.Native.Nat.{ℕ, _<_}
+use Prim.Native.Nat.{ℕ}
 use mathlib.Core.Path.{_≡_, refl, sym, ap, _∙_}
 use mathlib.Core.List.{List}
 use mathlib.Core.Logic.{_⊎_, inl, inr, ⊎-elim}
@@ -8,7 +8,6 @@ use Rattle.laws.specs.Table.{upd, Off}
 use Rattle.laws.proofs.Table.{upd-hit, upd-miss}
 use Rattle.laws.proofs.Order.{never}
 use Rattle.names.specs.Size.{links, ports, replyPort, ends}
-use Rattle.names.specs.declared.Slot.{Slot}
 use Rattle.circuits.specs.Circuit.{peerOf, hopOf}
 use Rattle.circuits.specs.declared.Circuit.{Circuit}
 use Rattle.circuits.specs.declared.Hop.{Hop}
@@ -17,11 +16,9 @@ use Rattle.circuits.specs.declared.Peer.the-variants.{Nobody, Port, End}
 use Rattle.grammar.specs.Stage.{crossed}
 use Rattle.grammar.specs.declared.stage.Stage.{Stage}
 use Rattle.cells.specs.declared.link.Cable.{Cable}
-use Rattle.cells.specs.declared.link.Far.the-variants.{At}
 use Rattle.cells.specs.declared.port.Leg.{Leg}
 use Rattle.clauses.specs.Pairs.{portOf}
 use Rattle.clauses.specs.declared.pairs.Named.the-variants.{Nothing, One}
-use Rattle.cells.specs.World.{farOf}
 use Rattle.kept.specs.Kept.{All, Cabled, Pair, Ends, Fed, GoesBy, TilePort, carried, legLink, portIn}
 
 -- a port's circuit by its leg

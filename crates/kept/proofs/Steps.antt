@@ -1,17 +1,15 @@
 -- Every Step keeps all that is kept, whatever its plan: what the plan found is what the act asks for. Assumes nothing.
 use Prim.Native.Nat.{ℕ, _+_, _%_, _<_, _≤_}
-use mathlib.Core.Path.{_≡_, refl, sym, ap, _∙_}
-use mathlib.Core.Bool.{Bool, true, false, not, _&&_, _||_}
+use mathlib.Core.Path.{_≡_, refl, sym, ap}
+use mathlib.Core.Bool.{true, false}
 use mathlib.Core.Logic.{_⊎_, inl, inr, ⊎-elim}
 use native.Mathlib.Omega.{arith}
 use lib.Dec.{eqb, ltb}
 use lib.ListN.{getD}
-use borrow.Author.Tests.{eqb-true, eqb-false, ltb-true, ltb-false}
-use Rattle.laws.specs.All.{first}
+use borrow.Author.Tests.{eqb-true, eqb-false, ltb-false}
 use Rattle.laws.proofs.All.{also, as-is, equal, first-passes, first-found}
 use Rattle.laws.proofs.Order.{by-test, clash}
 use Rattle.names.specs.Size.{links, ports, tileLinks, replyPort, sink}
-use Rattle.names.specs.declared.Slot.{Slot}
 use Rattle.circuits.specs.declared.Cause.the-variants.{Split, NoRoute}
 use Rattle.circuits.specs.declared.Hop.{Hop}
 use Rattle.circuits.specs.declared.Hop.the-variants as Hops
@@ -25,12 +23,12 @@ use Rattle.routing.specs.declared.way.Way.{Way}
 use Rattle.routing.specs.declared.way.Way.the-variants.{ThisNode, OtherNode}
 use Rattle.ports.specs.Queue.{capacity}
 use Rattle.ports.specs.Memory.{place}
-use Rattle.cells.specs.World.{World, farOf, hop}
+use Rattle.cells.specs.World.{World, hop}
 use Rattle.acts.specs.Acts.{widthAt, numberAt, wordAt, firstAt, channelClaimed, channelFull}
 use Rattle.acts.specs.Needs.{Holds, Door}
 use Rattle.acts.proofs.Doors.{given-room}
-use Rattle.plans.specs.Plan.{markedWidth, sizeOf, sameWidth, targetAt, networkAt, candidate, freeCandidate, routePlan, tileFree, lowestTile}
-use Rattle.plans.specs.Plan.{channelPlan, unitPlan, herePlan, numberIn, stepByWay, wayPlan, headerPlan, outPlan, handPlan, byHop, stepPlan}
+use Rattle.plans.specs.Plan.{markedWidth, sizeOf, sameWidth, targetAt, networkAt, tileFree, lowestTile}
+use Rattle.plans.specs.Plan.{channelPlan, unitPlan, herePlan, numberIn, stepByWay, headerPlan, outPlan, handPlan, byHop, stepPlan}
 use Rattle.plans.specs.declared.Plan.{Plan}
 use Rattle.plans.proofs.Routes.{Routed, opens, waits, discards, routed}
 use Rattle.sound.specs.Sound.{sound}
@@ -38,7 +36,8 @@ use Rattle.switch.specs.Step.{stepPerformed, stepMade}
 use Rattle.switch.proofs.Legal.{LegalDoor, legal-target}
 use Rattle.kept.specs.Kept.{Kept}
 use Rattle.kept.proofs.Parts.{kept-sound}
-use Rattle.kept.proofs.Opens.{Headed, kept-holds, keep-opensOut, keep-refused}
+use Rattle.kept.proofs.Rooms.{kept-holds}
+use Rattle.kept.proofs.Opens.{Headed, keep-opensOut, keep-refused}
 use Rattle.kept.proofs.Lands.{keep-landsChannel, keep-landsUnit}
 use Rattle.kept.proofs.Moves.{keep-drops, keep-movesOut}
 use Rattle.kept.proofs.Hands.{keep-hands}
@@ -64,8 +63,9 @@ module _ (w : World) (k : Kept w) (n p : ℕ) (hn : n < w .net .nodes) (hp : p <
   -- ANOTHER NODE'S
   keep-route : Headed w n p → (d v : ℕ) → {x : Plan} → Routed (w .net) n d v x → Stays x
   keep-route z d v (opens l hl free none) =
-      let f = also (also (as-is (eqb (w .net .links .setups n l .enabled) 1)) (as-is _)) (equal (w .net .links .users n l .kind) 0) .sure free in
-      keep-opensOut w k n p l z hl (f .1) (eqb-true (w .net .links .setups n l .enabled) 1 (f .0 .0))
+      let suits = also (equal (w .net .links .setups n l .enabled) 1) (as-is _) in
+      let f = also suits (equal (w .net .links .users n l .kind) 0) .sure free in
+      keep-opensOut w k n p l z hl (f .1) (f .0 .0)
   keep-route z d v (waits l hl any none) = k
   keep-route z d v (discards none) = keep-refused w k n p NoRoute z
 

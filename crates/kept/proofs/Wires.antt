@@ -1,11 +1,9 @@
 -- Wire keeps all that is kept: both ends were unwired and disabled, so neither has credit, nobody uses them, and what their ports hold
 -- ends with a circuit's end. Assumes nothing.
-use Prim.Native.Nat.{ℕ, _+_, _<_, _≤_}
-use mathlib.Core.Path.{_≡_, refl, sym, ap, _∙_}
-use mathlib.Core.Bool.{true, false}
-use mathlib.Core.Logic.{_⊎_, inl, inr, ⊎-elim}
+use Prim.Native.Nat.{ℕ, _<_, _≤_}
+use mathlib.Core.Path.{_≡_, sym, ap, _∙_}
+use mathlib.Core.Logic.{_⊎_, inl, ⊎-elim}
 use native.Mathlib.Omega.{arith}
-use lib.Dec.{eqb}
 use borrow.Author.Tests.{ne-eqb}
 use Rattle.laws.specs.Table.{upd, Off}
 use Rattle.laws.proofs.Table.{upd-same, upd-hit, upd-miss, place}
@@ -13,20 +11,16 @@ use Rattle.laws.proofs.Order.{never}
 use Rattle.names.specs.Size.{links, ports}
 use Rattle.names.specs.declared.Slot.{Slot}
 use Rattle.circuits.specs.Circuit.{peerOf}
-use Rattle.circuits.specs.declared.Circuit.{Circuit}
 use Rattle.circuits.specs.declared.Peer.the-variants.{Nobody}
 use Rattle.ports.specs.Queue.{capacity}
-use Rattle.grammar.specs.declared.stage.Stage.{Stage}
 use Rattle.grammar.specs.declared.stage.Stage.the-variants.{Fresh}
-use Rattle.cells.specs.View.{Net}
 use Rattle.cells.specs.World.{World, farOf}
 use Rattle.cells.specs.declared.link.Cable.{Cable}
-use Rattle.cells.specs.declared.link.Far.{Far}
 use Rattle.cells.specs.declared.link.Far.the-variants.{Nowhere, At}
 use Rattle.acts.specs.Acts.{withNet}
 use Rattle.settings.specs.Wire.{cableTo, wired}
-use Rattle.kept.specs.Kept.{All, Joined, Cabled, Hears, carried, frontAt, reachedAt, Kept}
-use Rattle.kept.proofs.Links.{linksAs, relinked}
+use Rattle.kept.specs.Kept.{reachedAt, Kept}
+use Rattle.kept.proofs.Links.{resettled}
 
 abbrev slotOf : ℕ → Slot
 slotOf n = record { 0 = n }
@@ -87,8 +81,9 @@ keep-wired w iv n l m k zn zm off =
     let slot : slotOf b ≡ q = cc in
     let link : d ≡ i = cc in
     (sym (ap (λ (y : Slot). y .0) slot), sym link) in
-    relinked w c′ (t .setups) (t .flows) iv
+    resettled w (w .net .own) c′ (t .setups) (t .flows) iv
     (record {
+      nodes = iv .nodes;
       cabled = record {
         flags = λ a j ha hj. elim (at a j) [
           | one ea ej d ↦ rw d (omega arith)
@@ -97,11 +92,22 @@ keep-wired w iv n l m k zn zm off =
         ];
         agree = λ a j ha hj q i e. elim (at a j) [
           | one ea ej d ↦ let (eq, ei) = same a j (c′ a j) q i m k d e in
-              record { node = rw eq (zm .node); link = rw ei (zm .link); other = λ y. off (sym eq ∙ y .0 ∙ ea) (sym ei ∙ y .1 ∙ ej); back = rw (eq, ei, ea, ej) at-m }
+              record {
+                node = rw eq (zm .node);
+                link = rw ei (zm .link);
+                other = λ y. off (sym eq ∙ y .0 ∙ ea) (sym ei ∙ y .1 ∙ ej);
+                back = rw (eq, ei, ea, ej) at-m;
+              }
           | other ea ej d ↦ let (eq, ei) = same a j (c′ a j) q i n l d e in
-              record { node = rw eq (zn .node); link = rw ei (zn .link); other = λ y. off (sym ea ∙ sym (y .0) ∙ eq) (sym ej ∙ sym (y .1) ∙ ei); back = rw (eq, ei, ea, ej) at-n }
+              record {
+                node = rw eq (zn .node);
+                link = rw ei (zn .link);
+                other = λ y. off (sym ea ∙ sym (y .0) ∙ eq) (sym ej ∙ sym (y .1) ∙ ei);
+                back = rw (eq, ei, ea, ej) at-n;
+              }
           | elsewhere o o′ d ↦
               let joined = iv .cabled .agree a j ha hj q i (sym (ap farOf d) ∙ e) in
+              let here = slotOf a in
               record {
                 node = joined .node;
                 link = joined .link;
@@ -109,9 +115,9 @@ keep-wired w iv n l m k zn zm off =
                 back =
                     ap farOf
                     (upd-miss (upd c n l (cableTo m k)) m k (cableTo n l) (q .0) i
-                    (λ ex ey. never (let y : Nowhere ≡ At (slotOf a) j = sym (nowhere w iv m k zm) ∙ (rw (ex, ey) at (joined .back)) in cc))
+                    (λ ex ey. never (let y : Nowhere ≡ At here j = sym (nowhere w iv m k zm) ∙ (rw (ex, ey) at (joined .back)) in cc))
                     ∙ upd-miss c n l (cableTo m k) (q .0) i
-                    (λ ex ey. never (let y : Nowhere ≡ At (slotOf a) j = sym (nowhere w iv n l zn) ∙ (rw (ex, ey) at (joined .back)) in cc)))
+                    (λ ex ey. never (let y : Nowhere ≡ At here j = sym (nowhere w iv n l zn) ∙ (rw (ex, ey) at (joined .back)) in cc)))
                     ∙ joined .back;
               }
         ];

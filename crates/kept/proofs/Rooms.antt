@@ -1,0 +1,47 @@
+-- A port of what is kept: its stretch of the memory is there, its counters are fair, and it holds as many tokens as they say. Assumes
+-- nothing.
+use Prim.Native.Nat.{ℕ, zero, suc, _+_, _*_, _<_, _≤_}
+use mathlib.Core.Path.{_≡_, refl, ap}
+use mathlib.Core.Bool.{true}
+use mathlib.Core.List.{List, []}
+use native.Mathlib.Omega.{arith}
+use lib.ListN.{length}
+use Rattle.laws.proofs.All.{also, as-is, at-most, equal}
+use Rattle.names.specs.Size.{nodes, ports}
+use Rattle.ports.specs.Ring.{ring}
+use Rattle.ports.specs.Queue.{capacity}
+use Rattle.ports.specs.Memory.{place, stretch}
+use Rattle.cells.specs.World.{World, shaped, isEmpty, queue}
+use Rattle.acts.specs.Needs.{Room, Holds}
+use Rattle.kept.specs.Kept.{Kept}
+
+pub reaches : (w : World) → shaped w ≡ true → (n p : ℕ) → n < w .net .nodes → p < ports → place n p + capacity ≤ length (w .memory)
+unfolding shaped
+reaches w h n p hn hp =
+    let long = equal (length (w .memory)) (w .net .nodes * (ports * capacity)) in
+    let some = also (at-most 1 (w .net .nodes)) (also (at-most (w .net .nodes) nodes) long) in
+    let z = also (as-is (isEmpty (w .net .rest))) some .sure h in
+    omega (arith, z .1 .1 .1)
+
+module _ (w : World) (k : Kept w) (n p i : ℕ) (hn : n < w .net .nodes) (hp : p < ports) where
+  -- the tokens that it holds can be taken, and others find the room that is left
+  pub kept-holds : i ≤ w .net .ports .counters n p .held → Holds w n p i
+  kept-holds h = record { node = hn; port = hp; fair = k .counters n p hn hp; held = h; reaches = reaches w (k .shape) n p hn hp }
+
+  pub has-room : w .net .ports .counters n p .held + i ≤ capacity → Room w n p i
+  has-room h = record { node = hn; port = hp; fair = k .counters n p hn hp; room = h; reaches = reaches w (k .shape) n p hn hp }
+
+ring-long : (cap : ℕ) (s : List ℕ) (h n : ℕ) → length (ring cap s h n) ≡ n
+unfolding ring
+ring-long cap s h zero = refl
+ring-long cap s h (suc n) = ap suc (ring-long cap s (suc h) n)
+
+module _ (w : World) (n p : ℕ) where
+  pub queue-long : length (queue w n p) ≡ w .net .ports .counters n p .held
+  queue-long =
+      let c = w .net .ports .counters n p in
+      ring-long capacity (stretch (w .memory) (place n p)) (c .head) (c .held)
+
+  pub nothing-held : w .net .ports .counters n p .held ≡ 0 → queue w n p ≡ []
+  unfolding ring
+  nothing-held e = rw e
