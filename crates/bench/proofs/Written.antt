@@ -36,7 +36,7 @@ use Rattle.switch.specs.Step.{stepMade}
 use Rattle.kept.specs.Kept.{Kept}
 use Rattle.kept.proofs.Parts.{kept-sound}
 use Rattle.kept.proofs.Sets.{keep-set}
-use Rattle.kept.proofs.Opens.{kept-holds}
+use Rattle.kept.proofs.Rooms.{kept-holds}
 use Rattle.kept.proofs.Leaves.{taken-is}
 use Rattle.kept.proofs.Hears.{keep-freed}
 use Rattle.bench.specs.Calls.{Set, Step, apply}
