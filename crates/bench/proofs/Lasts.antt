@@ -1,18 +1,23 @@
 -- Sound for ever: from Fresh of any number of boards, over every run of calls, every state is sound and tight, and no call is refused as
 -- Unsound but a Fresh of another number of boards than the memory has. Assumes nothing.
 use Prim.{tt}
-use Prim.Native.Nat.{ℕ, _≤_}
-use mathlib.Core.Path.{_≡_, sym, ap}
+use Prim.Native.Nat.{ℕ, _+_, _<_, _≤_}
+use mathlib.Core.Path.{_≡_, refl, sym, ap}
 use mathlib.Core.Bool.{true, not, _&&_}
 use mathlib.Core.List.{List, [], _∷_}
 use lib.Dec.{eqb}
 use borrow.Author.Tests.{eq-eqb}
 use Rattle.laws.proofs.Order.{clash}
-use Rattle.names.specs.Size.{nodes}
-use Rattle.names.specs.No.{number, Unsound}
+use Rattle.names.specs.Size.{nodes, links}
+use Rattle.names.specs.No.{number, passes, Unsound}
 use Rattle.answers.specs.Answer.{numberOf}
 use Rattle.answers.specs.Rows.{Exactly, Passes}
-use Rattle.cells.specs.World.{World, shaped}
+use Rattle.names.specs.declared.Slot.{Slot}
+use Rattle.ports.specs.Queue.{capacity}
+use Rattle.cells.specs.World.{World, shaped, farOf}
+use Rattle.cells.specs.declared.link.Far.the-variants.{At}
+use Rattle.acts.specs.Acts.{withNet}
+use Rattle.settings.specs.declared.Setting.the-variants.{Enable}
 use Rattle.cells.specs.Fresh.{freshWorld}
 use Rattle.sound.specs.Sound.{sound, tight}
 use Rattle.sound.proofs.Fresh.{fresh-sound, fresh-tight}
@@ -20,10 +25,12 @@ use Rattle.kept.specs.Kept.{Kept}
 use Rattle.kept.proofs.Parts.{sound-kept, kept-sound}
 use Rattle.kept.proofs.Sets.{attempted}
 use Rattle.kept.proofs.Calls.{keep-fresh, keep-wire, keep-set-made, keep-aimed, keep-output, keep-inputted, keep-stepped}
+use Rattle.kept.proofs.Follows.{room-left, not-greeted, no-credit, unused, disable-twice}
 use Rattle.bench.specs.Calls.{Call, Fresh, Wire, Set, Aim, Output, Input, Step, rows, made, apply}
 use Rattle.bench.specs.Runs.{run}
 use Rattle.bench.specs.Lasts.{OtherBoards, NeverUnsound, Throughout}
-use Rattle.bench.proofs.Applied.{exactly}
+use Rattle.bench.proofs.Applied.{exactly, accepted}
+use Rattle.bench.proofs.Started.{started}
 
 -- ONE CALL, with any arguments, on a state that has the invariant
 module _ (w : World) (k : Kept w) where
@@ -79,3 +86,41 @@ module _ (n : ℕ) (some : 1 ≤ n) (few : n ≤ nodes) where
 
   pub never-unsound : (cs : List Call) → Throughout NeverUnsound (freshWorld n) cs
   never-unsound cs = run-unsound cs (freshWorld n) fresh-keeps
+
+-- .. whatever the two memories held before, where that Fresh was not refused
+pub since-fresh : (w : World) (n : ℕ) → numberOf (apply w (Fresh n) .answer) ≡ passes → (cs : List Call)
+    → Throughout NeverUnsound (apply w (Fresh n) .next) cs
+since-fresh w n ok cs =
+    let p = accepted w (Fresh n) .sure (eq-eqb (numberOf (apply w (Fresh n) .answer)) passes ok) in
+    rw (started w n ok) (run-unsound cs (freshWorld n) (keep-fresh w n p))
+
+-- WHAT HOLDS ALWAYS: of every link of every state of every run from Fresh
+module _ (n : ℕ) (some : 1 ≤ n) (few : n ≤ nodes) (cs : List Call) where
+  abbrev last : World
+  last = run (freshWorld n) cs .last
+
+  last-kept : Kept last
+  last-kept = run-keeps cs (freshWorld n) (fresh-keeps n some few)
+
+  module _ (m l : ℕ) (hm : m < last .net .nodes) (hl : l < links) where
+    -- "credit plus tokens held at the far end at most 64"
+    pub always-room : (b : Slot) (j : ℕ) → farOf (last .net .links .cables m l) ≡ At b j
+        → last .net .links .flows m l .credit + last .net .ports .counters (b .0) j .held ≤ capacity
+    always-room = room-left last last-kept m l hm hl
+
+    module _ (off : last .net .links .setups m l .enabled ≡ 1 → ⊥) where
+      -- "A disabled link's credit is 0 and ungreeted."
+      pub always-silent : (last .net .links .flows m l .credit ≡ 0) × (last .net .links .flows m l .greeted ≡ 1 → ⊥)
+      always-silent = (no-credit last last-kept m l hm hl off, not-greeted last last-kept m l hm hl off)
+
+      -- nobody uses it
+      pub always-unused : last .net .links .users m l .kind ≡ 0
+      always-unused = unused last last-kept m l hm hl off
+
+      -- and disabling it once more changes nothing
+      pub always-disabled : apply last (Set (record { 0 = m }) (Enable l 0)) .next ≡ last
+      unfolding apply
+      always-disabled =
+          let c = Set (record { 0 = m }) (Enable l 0) in
+          attempted (λ (w : World). w ≡ last) (rows last c) last (made last c) refl
+          (λ p. ap (withNet last) (disable-twice last last-kept m l hm hl off))
