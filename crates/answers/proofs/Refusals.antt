@@ -85,8 +85,8 @@ module _ {S : Type 0} (rs : List Row) (s : S) (done : Out S) (ok : numberOf (don
       (λ e. rw e)
 
   -- "A refused call .. leaves the state as it was"
-  pub kept : (numberOf (attempt rs s done .answer) ≡ Names.passes → ⊥) → attempt rs s done .next ≡ s
-  kept h =
+  pub refused-keeps : (numberOf (attempt rs s done .answer) ≡ Names.passes → ⊥) → attempt rs s done .next ≡ s
+  refused-keeps h =
       by-test (eqb (refusal rs) Names.passes)
       (λ e. absurd (h (answered ∙ eqb-true (refusal rs) Names.passes e)))
       (λ e. rw e)

@@ -10,7 +10,7 @@ use Rattle.answers.specs.Answer.{numberOf}
 use Rattle.answers.specs.Rows.{refusal, Exactly, Passes, rising, distinct}
 use Rattle.answers.specs.Out.{Out, out}
 use Rattle.answers.specs.declared.Answer.{Answer}
-use Rattle.answers.proofs.Refusals.{given, passed, answered, kept}
+use Rattle.answers.proofs.Refusals.{given, passed, answered, refused-keeps}
 use Rattle.cells.specs.World.{World, world}
 use Rattle.cells.proofs.Whole.{whole-state}
 use Rattle.settings.specs.declared.Setting.the-variants.{Number, Width, Direction, LinkDirection, Network, Enable, Hello}
@@ -107,4 +107,4 @@ module _ (w : World) (c : Call) where
   -- "A refused call .. leaves the state as it was": every word of both memories
   pub refused-changes-nothing : (numberOf (apply w c .answer) ≡ Names.passes → ⊥) → apply w c .next ≡ w
   unfolding apply
-  refused-changes-nothing h = kept (rows w c) w (made w c) (passing w c) h
+  refused-changes-nothing h = refused-keeps (rows w c) w (made w c) (passing w c) h

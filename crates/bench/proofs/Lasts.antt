@@ -1,12 +1,13 @@
--- Sound for ever: from Fresh of any number of boards, over every run of calls, every state is sound and tight, and no call is refused as
--- Unsound but a Fresh of another number of boards than the memory has. Assumes nothing.
+-- Sound for ever: from Fresh of any number of boards, over every run of calls, every state is sound and tight and has that number of
+-- boards, and no call is refused as Unsound but a Fresh of another number. Assumes nothing.
 use Prim.{tt}
 use Prim.Native.Nat.{ℕ, _+_, _<_, _≤_}
-use mathlib.Core.Path.{_≡_, refl, sym, ap}
+use mathlib.Core.Path.{_≡_, refl, sym, ap, _∙_}
 use mathlib.Core.Bool.{true, not, _&&_}
 use mathlib.Core.List.{List, [], _∷_}
 use lib.Dec.{eqb}
-use borrow.Author.Tests.{eq-eqb}
+use borrow.Author.Tests.{eq-eqb, not-false}
+use Rattle.laws.proofs.All.{also, as-is, equal}
 use Rattle.laws.proofs.Order.{clash}
 use Rattle.names.specs.Size.{nodes, links}
 use Rattle.names.specs.No.{number, passes, Unsound}
@@ -24,6 +25,7 @@ use Rattle.sound.proofs.Fresh.{fresh-sound, fresh-tight}
 use Rattle.kept.specs.Kept.{Kept}
 use Rattle.kept.proofs.Parts.{sound-kept, kept-sound}
 use Rattle.kept.proofs.Sets.{attempted}
+use Rattle.kept.proofs.Boards.{wire-boards, set-boards, aim-boards, input-boards, output-boards, step-boards}
 use Rattle.kept.proofs.Calls.{keep-fresh, keep-wire, keep-set-made, keep-aimed, keep-output, keep-inputted, keep-stepped}
 use Rattle.kept.proofs.Follows.{room-left, not-greeted, no-credit, unused, disable-twice}
 use Rattle.bench.specs.Calls.{Call, Fresh, Wire, Set, Aim, Output, Input, Step, rows, made, apply}
@@ -32,7 +34,21 @@ use Rattle.bench.specs.Lasts.{OtherBoards, NeverUnsound, Throughout}
 use Rattle.bench.proofs.Applied.{exactly, accepted}
 use Rattle.bench.proofs.Started.{started}
 
--- ONE CALL, with any arguments, on a state that has the invariant
+-- ONE CALL, with any arguments: as many boards as before, since a Fresh of another number is refused
+made-boards : (w : World) (c : Call) → Passes (rows w c) → made w c .next .net .nodes ≡ w .net .nodes
+made-boards w (Fresh n) p = sym (also (as-is (shaped w)) (equal (w .net .nodes) n) .sure (not-false _ (p .1 .0)) .1)
+made-boards w (Wire a l b j) p = wire-boards (w .net) (a .0) l (b .0) j
+made-boards w (Set a x) p = set-boards (w .net) (a .0) x
+made-boards w (Aim a c g v) p = aim-boards (w .net) (a .0) c g v
+made-boards w (Output a c x) p = output-boards w (a .0) c x
+made-boards w (Input a c x) p = input-boards (w .net) (a .0) c
+made-boards w (Step a p) q = step-boards w (a .0) p
+
+pub call-boards : (w : World) (c : Call) → apply w c .next .net .nodes ≡ w .net .nodes
+unfolding apply
+call-boards w c = attempted (λ (z : World). z .net .nodes ≡ w .net .nodes) (rows w c) w (made w c) refl (made-boards w c)
+
+-- .. on a state that has the invariant
 module _ (w : World) (k : Kept w) where
   made-kept : (c : Call) → Passes (rows w c) → Kept (made w c .next)
   made-kept (Fresh n) p = keep-fresh w n p
@@ -52,7 +68,7 @@ module _ (w : World) (k : Kept w) where
   sure e = clash (sym (rw (kept-sound w k .0) at e))
 
   -- Unsound, for a Fresh of another number of boards, and for no other call
-  pub call-unsound : (c : Call) → NeverUnsound w c (apply w c .answer)
+  pub call-unsound : (c : Call) → NeverUnsound (w .net .nodes) c (apply w c .answer)
   call-unsound c e = given c (exactly w c Unsound .sure (eq-eqb (numberOf (apply w c .answer)) (number Unsound) (ap numberOf e)))
     where
       given : (c : Call) → Exactly (rows w c) Unsound → OtherBoards (w .net .nodes) c
@@ -72,11 +88,18 @@ pub run-keeps : (cs : List Call) (w : World) → Kept w → Kept (run w cs .last
 run-keeps [] w k = k
 run-keeps (c ∷ cs) w k = run-keeps cs (apply w c .next) (call-keeps w k c)
 
-pub run-unsound : (cs : List Call) (w : World) → Kept w → Throughout NeverUnsound w cs
+pub run-boards : (cs : List Call) (w : World) → run w cs .last .net .nodes ≡ w .net .nodes
+run-boards [] w = refl
+run-boards (c ∷ cs) w = run-boards cs (apply w c .next) ∙ call-boards w c
+
+pub run-unsound : (cs : List Call) (w : World) → Kept w → Throughout (NeverUnsound (w .net .nodes)) cs (run w cs .answers)
 run-unsound [] w k = tt
-run-unsound (c ∷ cs) w k = (call-unsound w k c, run-unsound cs (apply w c .next) (call-keeps w k c))
+run-unsound (c ∷ cs) w k = (call-unsound w k c, rw (call-boards w c) at (run-unsound cs (apply w c .next) (call-keeps w k c)))
 
 -- .. from Fresh
+pub boards : (n : ℕ) (cs : List Call) → run (freshWorld n) cs .last .net .nodes ≡ n
+boards n cs = run-boards cs (freshWorld n)
+
 module _ (n : ℕ) (some : 1 ≤ n) (few : n ≤ nodes) where
   pub fresh-keeps : Kept (freshWorld n)
   fresh-keeps = sound-kept (freshWorld n) (fresh-sound n some few) (fresh-tight n some few)
@@ -84,12 +107,12 @@ module _ (n : ℕ) (some : 1 ≤ n) (few : n ≤ nodes) where
   pub always-sound : (cs : List Call) → (sound (run (freshWorld n) cs .last) ≡ true) × (tight (run (freshWorld n) cs .last) ≡ true)
   always-sound cs = kept-sound (run (freshWorld n) cs .last) (run-keeps cs (freshWorld n) fresh-keeps)
 
-  pub never-unsound : (cs : List Call) → Throughout NeverUnsound (freshWorld n) cs
+  pub never-unsound : (cs : List Call) → Throughout (NeverUnsound n) cs (run (freshWorld n) cs .answers)
   never-unsound cs = run-unsound cs (freshWorld n) fresh-keeps
 
 -- .. whatever the two memories held before, where that Fresh was not refused
 pub since-fresh : (w : World) (n : ℕ) → numberOf (apply w (Fresh n) .answer) ≡ passes → (cs : List Call)
-    → Throughout NeverUnsound (apply w (Fresh n) .next) cs
+    → Throughout (NeverUnsound n) cs (run (apply w (Fresh n) .next) cs .answers)
 since-fresh w n ok cs =
     let p = accepted w (Fresh n) .sure (eq-eqb (numberOf (apply w (Fresh n) .answer)) passes ok) in
     rw (started w n ok) (run-unsound cs (freshWorld n) (keep-fresh w n p))
@@ -102,7 +125,10 @@ module _ (n : ℕ) (some : 1 ≤ n) (few : n ≤ nodes) (cs : List Call) where
   last-kept : Kept last
   last-kept = run-keeps cs (freshWorld n) (fresh-keeps n some few)
 
-  module _ (m l : ℕ) (hm : m < last .net .nodes) (hl : l < links) where
+  module _ (m l : ℕ) (there : m < n) (hl : l < links) where
+    hm : m < last .net .nodes
+    hm = rw (boards n cs) there
+
     -- "credit plus tokens held at the far end at most 64"
     pub always-room : (b : Slot) (j : ℕ) → farOf (last .net .links .cables m l) ≡ At b j
         → last .net .links .flows m l .credit + last .net .ports .counters (b .0) j .held ≤ capacity

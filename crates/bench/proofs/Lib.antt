@@ -7,3 +7,4 @@ pub mod Started
 pub mod Waits
 pub mod Written
 pub mod Lasts
+pub mod Example

@@ -7,8 +7,7 @@ use mathlib.Core.List.{List, [], _∷_}
 use Rattle.names.specs.No.{number, Unsound}
 use Rattle.answers.specs.declared.Answer.{Answer}
 use Rattle.answers.specs.declared.Answer.the-variants.{No}
-use Rattle.cells.specs.World.{World}
-use Rattle.bench.specs.Calls.{Call, Fresh, Wire, Set, Aim, Output, Input, Step, apply}
+use Rattle.bench.specs.Calls.{Call, Fresh, Wire, Set, Aim, Output, Input, Step}
 
 -- a Fresh of another number of boards than the memory has, n
 abbrev pub OtherBoards : ℕ → Call → Type 0
@@ -20,11 +19,13 @@ OtherBoards n (Output a c x) = ⊥
 OtherBoards n (Input a c k) = ⊥
 OtherBoards n (Step a p) = ⊥
 
--- a call that answers Unsound on state w is such a Fresh
-abbrev pub NeverUnsound : World → Call → Answer → Type 0
-NeverUnsound w c a = a ≡ No (number Unsound) → OtherBoards (w .net .nodes) c
+-- a call that answers Unsound is such a Fresh
+abbrev pub NeverUnsound : ℕ → Call → Answer → Type 0
+NeverUnsound n c a = a ≡ No (number Unsound) → OtherBoards n c
 
--- P holds at every call of a run: of the state that it is made on, the call and its answer
-abbrev pub Throughout : (World → Call → Answer → Type 0) → World → List Call → Type 0
-Throughout P w [] = Unit
-Throughout P w (c ∷ cs) = P w c (apply w c .answer) × Throughout P (apply w c .next) cs
+-- P holds of every call with its answer, and there are as many answers as calls
+abbrev pub Throughout : (Call → Answer → Type 0) → List Call → List Answer → Type 0
+Throughout P [] [] = Unit
+Throughout P [] (a ∷ l) = ⊥
+Throughout P (c ∷ cs) [] = ⊥
+Throughout P (c ∷ cs) (a ∷ l) = P c a × Throughout P cs l

@@ -22,7 +22,7 @@ pushed-nodes : (w : World) (n p t : ℕ) → pushed w n p t .net .nodes ≡ w .n
 unfolding pushed
 pushed-nodes w n p t = refl
 
-all-nodes : (w : World) (n p : ℕ) (ts : List ℕ) → pushedAll w n p ts .net .nodes ≡ w .net .nodes
+pub all-nodes : (w : World) (n p : ℕ) (ts : List ℕ) → pushedAll w n p ts .net .nodes ≡ w .net .nodes
 all-nodes w n p [] = refl
 all-nodes w n p (t ∷ ts) = all-nodes (pushed w n p t) n p ts ∙ pushed-nodes w n p t
 

@@ -1,2 +1,3 @@
 -- Laws of the grammar.
 pub mod Nexts
+pub mod Walks

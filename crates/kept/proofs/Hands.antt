@@ -32,7 +32,7 @@ use Rattle.moves.specs.Moves.{took, hands}
 use Rattle.kept.specs.Kept.{All, PortOk, PeerOk, BufferOk, Pair, legClaim, portIn, endIn, claimIn, Kept}
 use Rattle.kept.proofs.Tables.{all-upd, keeps-none, pair-second, pair-leave}
 use Rattle.kept.proofs.Stages.{fed-away}
-use Rattle.kept.proofs.Pasts.{past-small}
+use Rattle.kept.proofs.Walks.{past-small}
 use Rattle.kept.proofs.Ends.{buffer-after}
 use Rattle.kept.proofs.Leaves.{tokenTaken, taken-is, shutIf, shut-if, left, Left, pair-left, leaves}
 

@@ -30,7 +30,8 @@ use Rattle.grammar.specs.declared.stage.Stage.{Stage}
 use Rattle.grammar.specs.declared.stage.Stage.the-variants.{Fresh, Body, ThreeDue, TwoDue, LastDue}
 use Rattle.grammar.proofs.Nexts as N
 use Rattle.plans.specs.Plan.{markedWidth, sizeOf, numberIn}
-use Rattle.kept.proofs.Walks.{good-from, none-due, one-less}
+use Rattle.grammar.proofs.Walks.{good-from}
+use Rattle.kept.proofs.Walks.{none-due, one-less}
 
 -- a whole header at the front, as a Step finds it
 abbrev pub Whole : List ℕ → Type 0

@@ -35,7 +35,7 @@ use Rattle.kept.specs.Kept.{All, PortOk, HearingOk, Silent, Pair, legUni
 use Rattle.kept.proofs.Tables.{all-upd, all-at, pair-first, pair-leave}
 use Rattle.kept.proofs.Stages.{fed-away}
 use Rattle.kept.proofs.Words.{words-more}
-use Rattle.kept.proofs.Pasts.{past-small}
+use Rattle.kept.proofs.Walks.{past-small}
 use Rattle.kept.proofs.Leaves.{tokenTaken, taken-is, shut-if, left, Left, pair-left, leaves}
 use Rattle.kept.proofs.Messages.{Ready, keep-ended}
 

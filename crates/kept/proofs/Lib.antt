@@ -2,7 +2,6 @@
 pub mod Parts
 pub mod Walks
 pub mod Headers
-pub mod Pasts
 pub mod Words
 pub mod Tables
 pub mod Money
@@ -27,3 +26,6 @@ pub mod Hears
 pub mod Steps
 pub mod Calls
 pub mod Follows
+pub mod Computes
+pub mod Wrongs
+pub mod Boards

@@ -1,6 +1,6 @@
 -- The walk over a port's tokens: what a token taken off the front of an open circuit leaves, and what one put behind does; what the far end
 -- of a cable sees of it. Assumes nothing.
-use Prim.Native.Nat.{ℕ, zero, suc}
+use Prim.Native.Nat.{ℕ, zero, suc, _<_}
 use mathlib.Core.Path.{_≡_, refl, sym, ap, _∙_}
 use mathlib.Core.Bool.{Bool, true, false}
 use mathlib.Core.List.{List, [], _∷_, _++_}
@@ -19,24 +19,7 @@ use Rattle.grammar.specs.Walk.{walk, threes, beginsOne, lead, frontOf, backOf}
 use Rattle.grammar.specs.declared.stage.Stage.{Stage}
 use Rattle.grammar.specs.declared.stage.Stage.the-variants.{Bad, Fresh, Body, OneDue, ThreeDue, TwoDue, LastDue}
 use Rattle.grammar.proofs.Nexts.{stays, breaks}
-
-pub walk-append : (s : Stage) (q r : List ℕ) → walk s (q ++ r) ≡ walk (walk s q) r
-walk-append s [] r = refl
-walk-append s (x ∷ q) r = walk-append (nextStage s (shapeOf x)) q r
-
--- a walk that does not end badly has not been bad
-bad-stays : (q : List ℕ) → isBad (walk Bad q) ≡ true
-bad-stays [] = refl
-bad-stays (x ∷ q) = bad-stays q
-
-pub good-from : (s : Stage) (q : List ℕ) → isBad (walk s q) ≡ false → isBad s ≡ false
-good-from Bad q h = clash (sym (bad-stays q) ∙ h)
-good-from Fresh q h = refl
-good-from Body q h = refl
-good-from OneDue q h = refl
-good-from ThreeDue q h = refl
-good-from TwoDue q h = refl
-good-from LastDue q h = refl
+use Rattle.grammar.proofs.Walks.{walk-append, good-from}
 
 -- PAST A HEADER no token of a header follows
 no-header : (c : Shape) → isBad (nextStage Body c) ≡ false → (ofThree c ≡ false) × (ofOne c ≡ false)
@@ -56,8 +39,11 @@ lead-body : (q : List ℕ) → isBad (walk Body q) ≡ false → lead q ≡ Body
 lead-body q h = let n = none-due q h in rw (n .0, n .1)
 
 -- .. and a token that closes nothing leaves the walk there
+pub past-small : (x : ℕ) → isBad (nextStage Body (shapeOf x)) ≡ false → x < 0x1C2
+past-small x h = ⊎-elim (λ l. l) (λ l. clash (rw (sym (breaks x l)) at h)) (order x 0x1C2)
+
 body-stays : (x : ℕ) → closes x ≡ false → isBad (nextStage Body (shapeOf x)) ≡ false → nextStage Body (shapeOf x) ≡ Body
-body-stays x e h = ⊎-elim (λ l. sym (stays x e l)) (λ l. clash (rw (sym (breaks x l)) at h)) (order x 0x1C2)
+body-stays x e h = sym (stays x e (past-small x h))
 
 -- IN A HEADER of three bytes: each token is one of it, and leaves one less
 picked : (b : Bool) (s : Stage) → isBad (pick b s Bad) ≡ false → (b ≡ true) × (pick b s Bad ≡ s)

@@ -125,7 +125,7 @@ module _ (w : World) (s : Net) (m : List ℕ) (n p : ℕ) (e : record { net = s;
   closed-after l x h = rw (closed-nodes s n p l x) (node-after h)
 
 -- A token that crosses
-arrival-nodes : (w : World) (f : Far) (x : ℕ) → arrives w f x .net .nodes ≡ w .net .nodes
+pub arrival-nodes : (w : World) (f : Far) (x : ℕ) → arrives w f x .net .nodes ≡ w .net .nodes
 unfolding pushed
 arrival-nodes w Nowhere x = refl
 arrival-nodes w (At a j) x = refl

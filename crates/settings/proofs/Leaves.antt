@@ -39,21 +39,21 @@ module _ (s : Net) (n : ℕ) where
       let z = of-far (withSetup (withFlow s n l silenced) n l (enabledAs (s .links .setups n l) 0)) (farOf (s .links .cables n l)) in
       record { nodes = z .nodes; ports = z .ports; cables = z .cables; units = z .units }
 
-  of-made : (x : Setting) → Leaves s (setMade s n x)
+  pub setting-leaves : (x : Setting) → Leaves s (setMade s n x)
   unfolding helloed considered
-  of-made (Number v) = record { nodes = refl; ports = refl; cables = refl; units = refl }
-  of-made (Width v) = record { nodes = refl; ports = refl; cables = refl; units = refl }
-  of-made (Direction b v) = record { nodes = refl; ports = refl; cables = refl; units = refl }
-  of-made (LinkDirection l v) = record { nodes = refl; ports = refl; cables = refl; units = refl }
-  of-made (Network l v) = record { nodes = refl; ports = refl; cables = refl; units = refl }
-  of-made (Enable l v) =
+  setting-leaves (Number v) = record { nodes = refl; ports = refl; cables = refl; units = refl }
+  setting-leaves (Width v) = record { nodes = refl; ports = refl; cables = refl; units = refl }
+  setting-leaves (Direction b v) = record { nodes = refl; ports = refl; cables = refl; units = refl }
+  setting-leaves (LinkDirection l v) = record { nodes = refl; ports = refl; cables = refl; units = refl }
+  setting-leaves (Network l v) = record { nodes = refl; ports = refl; cables = refl; units = refl }
+  setting-leaves (Enable l v) =
       by-test (eqb v 0) (λ e. rw e (of-disabled l)) (λ e. rw e (record { nodes = refl; ports = refl; cables = refl; units = refl }))
-  of-made (Hello l) = record { nodes = refl; ports = refl; cables = refl; units = refl }
+  setting-leaves (Hello l) = record { nodes = refl; ports = refl; cables = refl; units = refl }
 
   pub set-leaves : (x : Setting) → Leaves s (setCall s n x .next)
   unfolding setCall
   set-leaves x =
-      by-test (eqb (refusal (setRows s n x)) passes) (λ e. rw e (of-made x)) (λ e. rw e (leaves-all s))
+      by-test (eqb (refusal (setRows s n x)) passes) (λ e. rw e (setting-leaves x)) (λ e. rw e (leaves-all s))
 
 pub still-cabled : {s z : Net} → Leaves s z → AllCabled s → AllCabled z
 still-cabled v c n l hn hl = rw (v .nodes, v .cables) (c n l (rw (v .nodes) at hn) hl)

@@ -3,7 +3,7 @@ use Prim.{Unit, tt}
 use Prim.Native.Nat.{ℕ, _+_, _-_, _/_, _%_, _<_, _≤_}
 use mathlib.Core.Path.{_≡_, refl, sym, ap, _∙_}
 use mathlib.Core.Bool.{true, false}
-use mathlib.Core.List.{List, [], _∷_}
+use mathlib.Core.List.{List, _∷_}
 use mathlib.Core.Logic.{_⊎_, inl, inr, ⊎-elim}
 use native.Mathlib.Omega.{arith}
 use lib.Dec.{eqb, ltb}
@@ -26,8 +26,8 @@ use Rattle.ports.specs.Memory.{place, stretch}
 use Rattle.ports.proofs.Ports.{ring-start, ring-next}
 use Rattle.grammar.specs.Stage.{nextStage, isBad}
 use Rattle.grammar.specs.Walk.{walk}
-use Rattle.grammar.specs.declared.stage.Stage.{Stage}
-use Rattle.grammar.specs.declared.stage.Stage.the-variants.{Bad, Fresh, Body, OneDue, ThreeDue, TwoDue, LastDue}
+use Rattle.grammar.specs.declared.stage.Stage.the-variants.{Fresh, Body, TwoDue, LastDue}
+use Rattle.grammar.proofs.Walks.{good-from}
 use Rattle.cells.specs.World.{World, hop, queue}
 use Rattle.acts.specs.Acts.{wordAt}
 use Rattle.acts.specs.Needs.{Door}
@@ -55,20 +55,6 @@ by-three P m a b c d =
     by-test (legalChannel m) (λ t. rw t (a t)) (λ t. rw t
     (by-test (ltb m 0x100) (λ u. rw u b) (λ u. rw u
     (by-test (eqb m (controlWord ssctrl)) (λ v. rw v (c (eqb-true m (controlWord ssctrl) v))) (λ v. rw v d)))))
-
--- a walk that does not end badly has not been bad
-bad-stays : (q : List ℕ) → isBad (walk Bad q) ≡ true
-bad-stays [] = refl
-bad-stays (w ∷ q) = bad-stays q
-
-good-before : (s : Stage) (q : List ℕ) → isBad (walk s q) ≡ false → isBad s ≡ false
-good-before Bad q e = clash (sym (bad-stays q) ∙ e)
-good-before Fresh q e = refl
-good-before Body q e = refl
-good-before OneDue q e = refl
-good-before ThreeDue q e = refl
-good-before TwoDue q e = refl
-good-before LastDue q e = refl
 
 -- the first of three bytes, the second, the last
 two-due : (w : ℕ) → isThree w ≡ true → isBad (nextStage Fresh (shapeOf w)) ≡ false → nextStage Fresh (shapeOf w) ≡ TwoDue
@@ -111,9 +97,9 @@ last-legal w n =
 
 third : (a b c : ℕ) (q : List ℕ) → isBad (walk Fresh (a ∷ b ∷ c ∷ q)) ≡ false → isThree a ≡ true → isControl c ≡ false → Door (valueOf c)
 third a b c q e t n =
-    let z = good-before (nextStage (nextStage (nextStage Fresh (shapeOf a)) (shapeOf b)) (shapeOf c)) q e in
-    let y = good-before (nextStage (nextStage Fresh (shapeOf a)) (shapeOf b)) (c ∷ q) e in
-    let x = good-before (nextStage Fresh (shapeOf a)) (b ∷ c ∷ q) e in
+    let z = good-from (nextStage (nextStage (nextStage Fresh (shapeOf a)) (shapeOf b)) (shapeOf c)) q e in
+    let y = good-from (nextStage (nextStage Fresh (shapeOf a)) (shapeOf b)) (c ∷ q) e in
+    let x = good-from (nextStage Fresh (shapeOf a)) (b ∷ c ∷ q) e in
     let p = two-due a t x in
     let l = last-due (shapeOf b) (rw p at y) in
     last-legal c n (rw (p, l) at z)

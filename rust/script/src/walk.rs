@@ -167,6 +167,7 @@ impl Chase {
         let Place { slot, port } = place;
         let oldest = self.bench.looks().port_tokens(slot, port).next()?;
         let stepped = self.bench.step(slot, port);
+        // Proved: `never-unsound` in bench/proofs/Lasts.antt; the port is there, so nothing else refuses.
         let stepped = stepped.expect("no Step is refused on a network that calls have made");
         let changed = !matches!(stepped, Stepped::Idle | Stepped::Waiting);
         self.changes += usize::from(changed);
