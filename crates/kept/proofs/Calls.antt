@@ -4,6 +4,7 @@ use mathlib.Core.Path.{_≡_, refl, sym}
 use mathlib.Core.Bool.{Bool, true, false, _||_}
 use lib.Dec.{eqb}
 use borrow.Author.Tests.{eqb-false, eq-eqb, not-false}
+use Rattle.laws.specs.Table.{Off}
 use Rattle.laws.proofs.All.{also, as-is, at-most, below}
 use Rattle.laws.proofs.Order.{clash}
 use Rattle.names.specs.Size.{nodes, links, ports, ends, networks}
@@ -43,18 +44,23 @@ keep-fresh w n p =
     sound-kept (freshWorld n) (fresh-sound n (counted .0) (counted .1)) (fresh-tight n (counted .0) (counted .1))
 
 -- WIRE
-pub keep-wire : (w : World) → Kept w → (n l m k : ℕ) → Passes (wireRows (w .net) n l m k) → Kept (withNet w (wired (w .net) n l m k))
-keep-wire w kept n l m k p =
+pub wire-ends : (w : World) (n l m k : ℕ) → Passes (wireRows (w .net) n l m k) → Loose w n l × Loose w m k × Off n l m k
+wire-ends w n l m k p =
     let ends = also (also (below n (w .net .nodes)) (below l links)) (also (below m (w .net .nodes)) (below k links)) in
     let there = ends .sure (not-false _ (p .0)) in
-    let free = either-not (endTaken (w .net) n l) (endTaken (w .net) m k) (p .1 .1 .0) in
-    keep-wired w kept n l m k (loose n l (there .0) (free .0)) (loose m k (there .1) (free .1))
-    (λ e d. clash (rw (eq-eqb n m (sym e), eq-eqb l k (sym d)) at (p .1 .0)))
+    let free = either-not (endTaken (w .net) n l) (endTaken (w .net) m k) (p .1 .1 .0) in (
+      loose n l (there .0) (free .0),
+      loose m k (there .1) (free .1),
+      λ e d. clash (rw (eq-eqb n m (sym e), eq-eqb l k (sym d)) at (p .1 .0)),
+    )
   where
     loose : (a j : ℕ) → (a < w .net .nodes) × (j < links) → endTaken (w .net) a j ≡ false → Loose w a j
     loose a j h e =
         let z = either-not (eqb (w .net .links .cables a j .wired) 1) (eqb (w .net .links .setups a j .enabled) 1) e in
         record { node = h .0; link = h .1; unwired = eqb-false _ 1 (z .0); disabled = eqb-false _ 1 (z .1) }
+
+pub keep-wire : (w : World) → Kept w → (n l m k : ℕ) → Passes (wireRows (w .net) n l m k) → Kept (withNet w (wired (w .net) n l m k))
+keep-wire w kept n l m k p = let (a, b, off) = wire-ends w n l m k p in keep-wired w kept n l m k a b off
 
 -- SET
 pub keep-set-made : (w : World) → Kept w → (n : ℕ) (x : Setting) → Passes (setRows (w .net) n x) → Kept (withNet w (setMade (w .net) n x))
@@ -70,11 +76,15 @@ keep-aimed w k n c g v p =
     keep-aim w k n c g v (ranged .0) (ranged .1)
 
 -- OUTPUT
+pub output-sender : (w : World) (n c : ℕ) (x : Token) → Passes (outputRows (w .net) n c x) → Sender (w .net) n c
+output-sender w n c x p =
+    let there = also (below n (w .net .nodes)) (below c ends) .sure (not-false _ (p .0)) in
+    record { node = there .0; end = there .1; aimed = eqb-false _ 0 (p .1 .0) }
+
 pub keep-output : (w : World) → Kept w → (n c : ℕ) (x : Token) → Passes (outputRows (w .net) n c x) → Kept (outputMade w n c x)
 keep-output w k n c x p =
-    let there = also (below n (w .net .nodes)) (below c ends) .sure (not-false _ (p .0)) in
-    let sender : Sender (w .net) n c = record { node = there .0; end = there .1; aimed = eqb-false _ 0 (p .1 .0) } in
-    keep-sent w k n c (wordOf x) sender (token-small x (targetOf (w .net .ends .aims n c)) (p .1 .1 .0) (p .1 .1 .1 .0))
+    keep-sent w k n c (wordOf x) (output-sender w n c x p)
+    (token-small x (targetOf (w .net .ends .aims n c)) (p .1 .1 .0) (p .1 .1 .1 .0))
 
 -- INPUT
 pub keep-inputted : (w : World) → Kept w → (n c : ℕ) (x : Wanted) → Passes (inputRows (w .net) n c x)
@@ -84,7 +94,8 @@ keep-inputted w k n c x p =
     keep-input w k n c (there .0) (there .1)
 
 -- STEP
+pub step-there : (w : World) (n p : ℕ) → Passes (stepRows (w .net) n p) → (n < w .net .nodes) × (p < ports)
+step-there w n p q = also (below n (w .net .nodes)) (below p ports) .sure (not-false _ (q .0))
+
 pub keep-stepped : (w : World) → Kept w → (n p : ℕ) → Passes (stepRows (w .net) n p) → Kept (stepMade w n p .next)
-keep-stepped w k n p q =
-    let there = also (below n (w .net .nodes)) (below p ports) .sure (not-false _ (q .0)) in
-    keep-step w k n p (there .0) (there .1)
+keep-stepped w k n p q = let there = step-there w n p q in keep-step w k n p (there .0) (there .1)

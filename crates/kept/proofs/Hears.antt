@@ -156,7 +156,7 @@ module _ (w : World) (k : Kept w) (n p : ℕ) (r : Holds w n p 1) (e : hop (w .n
       (λ o old. old)
       (lf .silent m hm)))
 
-  ready-after : closing ≡ true → Ready (withNet (took w n p) (closesUnit (took w n p .net) n p)) n
+  pub ready-after : closing ≡ true → Ready (withNet (took w n p) (closesUnit (took w n p .net) n p)) n
   ready-after shuts =
       let s = took w n p .net in
       record {

@@ -19,10 +19,12 @@ pub mod Leaves
 pub mod Moves
 pub mod Ends
 pub mod Outputs
+pub mod Chosen
 pub mod Sent
 pub mod Messages
 pub mod Hands
 pub mod Hears
+pub mod Found
 pub mod Steps
 pub mod Calls
 pub mod Follows

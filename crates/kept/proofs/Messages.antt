@@ -38,11 +38,11 @@ use Rattle.kept.proofs.Sets.{keep-written}
 use Rattle.kept.proofs.Outputs.{keep-reply}
 
 -- a reply address that a header can have
-abbrev Address : Target → Type 0
+abbrev pub Address : Target → Type 0
 Address g = (numberIn g .0 < numbers) × (legalTarget g ≡ true)
 
 -- every message that is replied to has one
-abbrev Replied : Message → Type 0
+abbrev pub Replied : Message → Type 0
 Replied Malformed = Unit
 Replied (Wrong g) = Address g
 Replied (Read g r) = Address g
@@ -63,9 +63,9 @@ ordered h g r a =
     (λ e. rw e a)
     (λ e. rw e (by-test (isRead h && isKnown r) (λ f. rw f a) (λ f. rw f a)))
 
-said : (h : Hearing) (x : ℕ) → Replied (messageOf h x)
+pub replied : (h : Hearing) (x : ℕ) → Replied (messageOf h x)
 unfolding messageOf
-said h x =
+replied h x =
     by-test (isPause x)
     (λ e. rw e tt)
     (λ e. rw e (by-test (hasReply h)
@@ -86,7 +86,7 @@ module _ (w : World) (k : Kept w) (n : ℕ) (z : Ready w n) where
       (λ e. rw e (keep-reply w k n g (widthAt (w .net) n) x (z .node) (z .empty) (z .free) (a .0) (a .1) e))
 
 -- what a message writes leaves the unit free and port 12 empty
-ready-written : (w : World) (n : ℕ) → Ready w n → (xs : List Setting) → Ready (withNet w (written (w .net) n xs)) n
+pub ready-written : (w : World) (n : ℕ) → Ready w n → (xs : List Setting) → Ready (withNet w (written (w .net) n xs)) n
 ready-written w n z xs =
     let same = write-leaves (w .net) n xs in
     record {
@@ -107,4 +107,4 @@ keep-obeyed w k n z (Write g r v) a =
 pub keep-ended : (w : World) → Kept w → (n : ℕ) → Ready w n → (x : ℕ) → Kept (ended w n x .next)
 unfolding ended
 keep-ended w k n z x =
-    keep-obeyed w k n z (messageOf (w .net .units .hearings n 0) x) (said (w .net .units .hearings n 0) x)
+    keep-obeyed w k n z (messageOf (w .net .units .hearings n 0) x) (replied (w .net .units .hearings n 0) x)

@@ -38,7 +38,7 @@ use Rattle.clauses.specs.declared.pairs.Named.the-variants.{One}
 use Rattle.acts.specs.Acts.{withNet, pushed, popped, firstAt, legOf, shut, linkedTo}
 use Rattle.acts.specs.Needs.{Room, Holds}
 use Rattle.moves.specs.Moves.{took, closesOut, drops, paid, arrives, pays, crosses, movesOut}
-use Rattle.kept.specs.Kept.{PortOk, NetworkOk, carried, legLink, frontAt, backAt, Kept}
+use Rattle.kept.specs.Kept.{PortOk, NetworkOk, carried, legLink, portIn, frontAt, backAt, Kept}
 use Rattle.kept.proofs.Tables.{all-at, all-upd, pair-leave}
 use Rattle.kept.proofs.Money.{money-cross, greeted-credit, up-more}
 use Rattle.kept.proofs.Fills.{Filled, filled-one}
@@ -46,7 +46,7 @@ use Rattle.kept.proofs.Links.{keep-considered}
 use Rattle.kept.proofs.Rooms.{reaches}
 use Rattle.kept.proofs.Stages.{tile-there, carried-same, fed-away, used-by}
 use Rattle.kept.proofs.Walks.{Put, put, closes-fresh, crossed-next, crossed-after}
-use Rattle.kept.proofs.Leaves.{taken-is, shutIf, left, left-is, pair-left, leaves}
+use Rattle.kept.proofs.Leaves.{taken-is, shutIf, left, left-is, Left, pair-left, leaves}
 
 -- DROPPED
 pub keep-drops : (w : World) → Kept w → (n p : ℕ) (c : Cause) → Holds w n p 1 → hop (w .net) n p ≡ Dropped c → Kept (drops w n p)
@@ -119,7 +119,7 @@ leads-wired k m j e =
     by-test (eqb (k .wired) 1) (λ t. eqb-true (k .wired) 1 t) (λ t. never (let z : Nowhere ≡ At m j = rw t at e in cc))
 
 -- OUTWARD: the link is free once its circuit is closed
-abbrev userIf : Bool → Circuit → Circuit
+abbrev pub userIf : Bool → Circuit → Circuit
 userIf b c = pick b (ofPeer Nobody) c
 
 freed-if : (b : Bool) (s : Net) (n p l : ℕ)
@@ -141,24 +141,24 @@ carried-if true c f p s e h g = h refl
 carried-if false c f p s e h g = rw e g
 
 -- the world once the token is taken and the link freed, the token put at the far end, and the credit paid
-abbrev freed : World → ℕ → ℕ → ℕ → World
+abbrev pub freed : World → ℕ → ℕ → ℕ → World
 freed w n p l =
     withNet (left w n p) (withUser (left w n p .net) n l (userIf (closes (firstAt w n p)) (w .net .links .users n l)))
 
-abbrev putThere : World → ℕ → ℕ → ℕ → ℕ → ℕ → World
+abbrev pub putThere : World → ℕ → ℕ → ℕ → ℕ → ℕ → World
 putThere w n p l m j = pushed (freed w n p l) m j (firstAt w n p)
 
 abbrev paidFor : World → ℕ → ℕ → ℕ → ℕ → ℕ → World
 paidFor w n p l m j = withNet (putThere w n p l m j) (paid (putThere w n p l m j .net) n l)
 
-freed-is : (w : World) (n p l : ℕ) → withNet (took w n p) (closesOut (took w n p .net) n p l (firstAt w n p)) ≡ freed w n p l
+pub freed-is : (w : World) (n p l : ℕ) → withNet (took w n p) (closesOut (took w n p .net) n p l (firstAt w n p)) ≡ freed w n p l
 freed-is w n p l =
     let b = closes (firstAt w n p) in
     ap (λ (s : Net). withNet (took w n p) s)
     (freed-if b (took w n p .net) n p l
     ∙ ap (λ (s : Net). withUser (shutIf b s n p) n l (userIf b (s .links .users n l))) (taken-is w n p))
 
-crosses-as : (y : World) (n l x : ℕ) (m : Slot) (j : ℕ) → farOf (y .net .links .cables n l) ≡ At m j
+pub crosses-as : (y : World) (n l x : ℕ) (m : Slot) (j : ℕ) → farOf (y .net .links .cables n l) ≡ At m j
     → crosses y n l x ≡ pays (pushed y (m .0) j x) n l
 unfolding crosses
 crosses-as y n l x m j e = ap (λ (f : Far). pays (arrives y f x) n l) e
@@ -171,6 +171,31 @@ still w n p l h = up-more (popped w n p .net) n p n l h
 -- the two ports may be of one node, and may be the same: the token is taken first, and then put
 module _ (w : World) (k : Kept w) (n p l : ℕ) (m : Slot) (j : ℕ) (r : Holds w n p 1) (out : hop (w .net) n p ≡ Out l)
     (leads : farOf (w .net .links .cables n l) ≡ At m j) (has : 0 < w .net .links .flows n l .credit) where
+  -- the link is there, and used by the port
+  uses : (l < links) × (portIn (w .net .links .users n l) ≡ One p)
+  uses = k .portLink .out n p (r .node) (r .port) l (ap linkOf out)
+
+  pub link-there : l < links
+  link-there = uses .0
+
+  pub by-port : peerOf (w .net .links .users n l) ≡ Port p
+  by-port = names-port (peerOf (w .net .links .users n l)) p (uses .1)
+
+  gone : Left w n p
+  gone = leaves w k n p r (λ d. never (cc))
+
+  -- and the far port has room, once the token is taken
+  pub far-room : Room (freed w n p l) (m .0) j 1
+  far-room =
+      let joined = k .cabled .agree n l (r .node) link-there m j leads in
+      record {
+        node = joined .node;
+        port = omega (arith, joined .link);
+        fair = gone .counters (m .0) j (joined .node) (omega (arith, joined .link));
+        room = omega (arith, still w n p l has, gone .money .rooms n l (r .node) link-there m j leads);
+        reaches = reaches (left w n p) (gone .shape) (m .0) j (joined .node) (omega (arith, joined .link));
+      }
+
   keep-paid : Kept (paidFor w n p l (m .0) j)
   unfolding pushed shaped
   keep-paid =
@@ -182,24 +207,14 @@ module _ (w : World) (k : Kept w) (n p l : ℕ) (m : Slot) (j : ℕ) (r : Holds 
       let v = paidFor w n p l (m .0) j in
       let more = putCounters (y .net .ports .counters (m .0) j) in
       let user = userIf b (t .users n l) in
-      let gone = leaves w k n p r (λ d. never (cc)) in
       -- the link, who uses it, and the far port
       let hn = r .node in
       let named : legLink (w .net .ports .legs n p) ≡ One l = ap linkOf out in
-      let (hl, uses) = k .portLink .out n p hn (r .port) l named in
-      let by-port : peerOf (t .users n l) ≡ Port p = names-port (peerOf (t .users n l)) p uses in
+      let hl = link-there in
       let joined = k .cabled .agree n l hn hl m j leads in
       let hj = joined .link in
       let has-now = still w n p l has in
-      let room : Room y (m .0) j 1 =
-      record {
-        node = joined .node;
-        port = omega arith;
-        fair = gone .counters (m .0) j (joined .node) (omega arith);
-        room = omega (arith, has-now, gone .money .rooms n l hn hl m j leads);
-        reaches = reaches (left w n p) (gone .shape) (m .0) j (joined .node) (omega arith);
-      } in
-      let f = filled-one y (m .0) j x room in
+      let f = filled-one y (m .0) j x far-room in
       -- where the far port ended, and where the token takes it
       let front = frontAt w n p in
       let was : backAt y (m .0) j ≡ crossed front =

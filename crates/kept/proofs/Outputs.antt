@@ -37,7 +37,7 @@ use Rattle.grammar.proofs.Nexts.{plain}
 use Rattle.cells.specs.View.{Net, withPorts, withEnds, withCounters}
 use Rattle.cells.specs.World.{World, shaped, hop, queue}
 use Rattle.cells.specs.declared.end.Aim.{Aim}
-use Rattle.acts.specs.Acts.{withNet, widthAt, networked, untilClosed, pushedAll}
+use Rattle.acts.specs.Acts.{withNet, widthAt, networked, untilClosed, pushed, pushedAll}
 use Rattle.acts.specs.Needs.{Room}
 use Rattle.ends.specs.Plan.{targetOf, freePort}
 use Rattle.ends.specs.Output.{goesBy, goesBehind, opensBy}
@@ -222,7 +222,7 @@ module _ (w : World) (k : Kept w) (n e p t : ℕ) (s : Sender (w .net) n e) (til
       })
 
 -- BEHIND, in the port that the circuit goes by
-free-fresh : (w : World) (n p : ℕ) → Free (w .net .ports .legs n p) (w .net .ports .counters n p) → backAt w n p ≡ Fresh
+pub free-fresh : (w : World) (n p : ℕ) → Free (w .net .ports .legs n p) (w .net .ports .counters n p) → backAt w n p ≡ Fresh
 free-fresh w n p f = rw (nothing-held w n p (f .1), f .0)
 
 pub keep-behind : (w : World) → Kept w → (n c p t : ℕ) → Sender (w .net) n c → peerOf (w .net .ends .sendings n c) ≡ Port p
@@ -255,13 +255,13 @@ module _ (w : World) (n p : ℕ) (c : Counters) {m ts : List ℕ} (f : Filled w 
     first-back : backAt (after w n p c m) n p ≡ walk Fresh ts
     first-back = rw (shut, f .here, nothing-held w n p held)
 
-port-named : (x : Peer) (p : ℕ) → portOf x ≡ One p → x ≡ Port p
+pub port-named : (x : Peer) (p : ℕ) → portOf x ≡ One p → x ≡ Port p
 port-named Nobody p e = never (cc)
 port-named (Port q) p e = ap Port (cc)
 port-named (End d) p e = never (cc)
 
 -- no channel-end sends by it
-unsent : (w : World) → Kept w → (n p : ℕ) → n < w .net .nodes → p < ports → Free (w .net .ports .legs n p) (w .net .ports .counters n p)
+pub unsent : (w : World) → Kept w → (n p : ℕ) → n < w .net .nodes → p < ports → Free (w .net .ports .legs n p) (w .net .ports .counters n p)
     → endIn (w .net .ports .senders n p) ≡ Nothing
 unsent w k n p hn hp f = go (endIn (w .net .ports .senders n p)) refl
   where
@@ -279,6 +279,24 @@ aim-legal k f =
     (λ e. rw e (f .number, ⊎-elim (λ z. absurd (omega (arith, eqb-true (k .kind) 1 e))) (λ z. z .1) (f .place)))
     (λ e. rw e (f .number, refl))
 
+-- a port that an Output may take
+pub port-free : (w : World) (n p : ℕ) → freePort (w .net) n p ≡ true
+    → TilePort p × Free (w .net .ports .legs n p) (w .net .ports .counters n p)
+port-free w n p free =
+    let unused = also (equal (w .net .ports .legs n p .circuit .kind) 0) (equal (w .net .ports .counters n p .held) 0) in
+    also (also (at-most firstTilePort p) (below p replyPort)) unused .sure free
+
+-- a header and a token put into a port that is empty
+pub opens-filled : (w : World) → Kept w → (n p t : ℕ) (g : Target) (y : Width) → n < w .net .nodes → p < ports
+    → w .net .ports .counters n p .held ≡ 0
+    → let ws = words (headerOf g y) in Filled w (pushed (pushedAll w n p ws) n p t) n p (ws ++ (t ∷ []))
+opens-filled w k n p t g y hn hp empty =
+    let ws = words (headerOf g y) in
+    let size = header-size g y in
+    let room : (j : ℕ) → j ≤ capacity → Room w n p j = λ j h. has-room w k n p j hn hp (omega (arith, empty)) in
+    let header = filled-all ws w n p (room (length ws) (omega arith)) in
+    filled-then header (filled-one (pushedAll w n p ws) n p t (filled-room header (room (length ws + 1) (omega arith))))
+
 pub keep-opensBy : (w : World) → Kept w → (n c p t : ℕ) (g : Target) → Sender (w .net) n c
     → peerOf (w .net .ends .sendings n c) ≡ Nobody
     → g ≡ targetOf (w .net .ends .aims n c)
@@ -292,15 +310,10 @@ keep-opensBy w k n c p t g s o aim wide free l =
     let width = widthAt (w .net) n in
     let facts = ⊎-elim (λ e. absurd (s .aimed e)) (λ f. f) (k .aims n c (s .node) (s .end)) in
     let legal : (numberIn g .0 < numbers) × (legalTarget g ≡ true) = rw aim (aim-legal x facts) in
-    let unused = also (equal (w .net .ports .legs n p .circuit .kind) 0) (equal (w .net .ports .counters n p .held) 0) in
-    let (tile, none) = also (also (at-most firstTilePort p) (below p replyPort)) unused .sure free in
+    let (tile, none) = port-free w n p free in
     let hp : p < ports = omega (arith, tile .1) in
-    let room : (j : ℕ) → j ≤ capacity → Room w n p j = λ j h. has-room w k n p j (s .node) hp (omega (arith, none .1)) in
-    let ws = words (headerOf g width) in
-    let size = header-size g width in
-    let header = filled-all ws w n p (room (length ws) (omega arith)) in
-    let token = filled-one (pushedAll w n p ws) n p t (filled-room header (room (length ws + 1) (omega arith))) in
-    filled-as (filled-then header token) (λ z. Kept (withNet z (goesBy (networked (z .net) n p (x .network)) n c p t)))
+    filled-as (opens-filled w k n p t g width (s .node) hp (none .1))
+    (λ z. Kept (withNet z (goesBy (networked (z .net) n p (x .network)) n c p t)))
     (λ a m f. keep-by w k n c p t s tile (inr (o, unsent w k n p (s .node) hp none)) a f (upd nets n p (x .network))
     (upd-miss nets n p (x .network))
     (rw (upd-same nets n p (x .network)) (facts .network))
@@ -334,6 +347,22 @@ said-size Nack = omega arith
 said-size Ack = omega arith
 said-size (Value v) = omega arith
 
+-- header, what is said, and END, put into port 12, which is empty
+pub reply-filled : (w : World) → Kept w → (n : ℕ) (g : Target) (y : Width) (x : Reply) → n < w .net .nodes
+    → w .net .ports .counters n replyPort .held ≡ 0
+    → Filled w (replyPut w n (headerOf g y) x) n replyPort ((words (headerOf g y) ++ said x) ++ (controlWord end ∷ []))
+reply-filled w k n g y x hn empty =
+    let p = replyPort in
+    let ws = words (headerOf g y) in
+    let long = length-append ws (said x) in
+    let size = header-size g y in
+    let more = said-size x in
+    let room : (j : ℕ) → j ≤ capacity → Room w n p j = λ j h. has-room w k n p j hn (omega arith) (omega (arith, empty)) in
+    let header = filled-all ws w n p (room (length ws) (omega arith)) in
+    let rest = filled-all (said x) (pushedAll w n p ws) n p (filled-room header (room (length ws + length (said x)) (omega arith))) in
+    let both = filled-then header rest in
+    filled-then both (filled-one _ n p (controlWord end) (filled-room both (room (length (ws ++ said x) + 1) (omega arith))))
+
 pub keep-reply : (w : World) → Kept w → (n : ℕ) (g : Target) (y : Width) (x : Reply) → n < w .net .nodes
     → w .net .ports .counters n replyPort .held ≡ 0
     → w .net .units .serving n 0 .kind ≡ 0
@@ -345,16 +374,8 @@ keep-reply w k n g y x hn empty idle fits legal wide =
     let p = replyPort in
     let ws = words (headerOf g y) in
     let last = controlWord end ∷ [] in
-    let long = length-append ws (said x) in
-    let size = header-size g y in
-    let more = said-size x in
-    let room : (j : ℕ) → j ≤ capacity → Room w n p j = λ j h. has-room w k n p j hn (omega arith) (omega (arith, empty)) in
-    let header = filled-all ws w n p (room (length ws) (omega arith)) in
-    let rest = filled-all (said x) (pushedAll w n p ws) n p (filled-room header (room (length ws + length (said x)) (omega arith))) in
-    let both = filled-then header rest in
-    let ending = filled-one _ n p (controlWord end) (filled-room both (room (length (ws ++ said x) + 1) (omega arith))) in
     let shut = shut-empty (hop (w .net) n p) (rw (nothing-held w n p empty) at (k .backs .replied n hn)) in
-    filled-as (filled-then both ending) Kept
+    filled-as (reply-filled w k n g y x hn empty) Kept
     (λ c m f.
     let back =
     first-back w n p c f shut empty

@@ -48,7 +48,7 @@ pub record Loose (w : World) (n l : ℕ) : Type 0 where
   pub disabled : w .net .links .setups n l .enabled ≡ 1 → ⊥
 
 module _ (w : World) (k : Kept w) (n l : ℕ) (z : Loose w n l) where
-  nowhere : farOf (w .net .links .cables n l) ≡ Nowhere
+  pub nowhere : farOf (w .net .links .cables n l) ≡ Nowhere
   nowhere = rw (ne-eqb (w .net .links .cables n l .wired) 1 (z .unwired))
 
   not-greeted : w .net .links .flows n l .greeted ≡ 1 → ⊥
@@ -57,7 +57,7 @@ module _ (w : World) (k : Kept w) (n l : ℕ) (z : Loose w n l) where
   no-credit : w .net .links .flows n l .credit ≡ 0
   no-credit = ⊎-elim (λ e. e) (λ g. absurd (not-greeted g)) (k .money .credits n l (z .node) (z .link))
 
-  unused : peerOf (w .net .links .users n l) ≡ Nobody
+  pub unused : peerOf (w .net .links .users n l) ≡ Nobody
   unused = ⊎-elim (λ e. absurd (z .disabled e)) (λ e. rw e) (k .idle n l (z .node) (z .link))
 
   ended : reachedAt w n l ≡ Fresh

@@ -57,7 +57,7 @@ by-three P m a b c d =
     (by-test (eqb m (controlWord ssctrl)) (λ v. rw v (c (eqb-true m (controlWord ssctrl) v))) (λ v. rw v d)))))
 
 -- the first of three bytes, the second, the last
-two-due : (w : ℕ) → isThree w ≡ true → isBad (nextStage Fresh (shapeOf w)) ≡ false → nextStage Fresh (shapeOf w) ≡ TwoDue
+pub two-due : (w : ℕ) → isThree w ≡ true → isBad (nextStage Fresh (shapeOf w)) ≡ false → nextStage Fresh (shapeOf w) ≡ TwoDue
 two-due w t =
     by-shape (λ x. isBad (nextStage Fresh x) ≡ false → nextStage Fresh x ≡ TwoDue) w (λ b. clash b) (λ b. clash b) (λ b. clash b)
     (λ l b. absurd (small l (eqb-true (w / 1024 % 2) 1 t)))
@@ -70,7 +70,7 @@ two-due w t =
     small : {w : ℕ} → w < 0x300 → w / 1024 % 2 ≡ 1 → ⊥
     small l e = omega arith
 
-last-due : (x : Shape) → isBad (nextStage TwoDue x) ≡ false → nextStage TwoDue x ≡ LastDue
+pub last-due : (x : Shape) → isBad (nextStage TwoDue x) ≡ false → nextStage TwoDue x ≡ LastDue
 last-due S.Wrong b = clash b
 last-due S.Body b = clash b
 last-due S.Closing b = clash b
@@ -104,12 +104,12 @@ third a b c q e t n =
     let l = last-due (shapeOf b) (rw p at y) in
     last-legal c n (rw (p, l) at z)
 
-module _ (w : World) (s : sound w ≡ true) (n p : ℕ) (hn : n < w .net .nodes) (hp : p < ports) where
-  abbrev rest : List ℕ
+module _ (w : World) (n p : ℕ) where
+  abbrev pub rest : List ℕ
   rest = ring (stretch (w .memory) (place n p)) (w .net .ports .counters n p .head + 3) (w .net .ports .counters n p .held - 3)
 
   -- the first three tokens
-  front : 3 ≤ w .net .ports .counters n p .held → queue w n p
+  pub front : 3 ≤ w .net .ports .counters n p .held → queue w n p
       ≡ (wordAt w n p 0 ∷ wordAt w n p 1 ∷ wordAt w n p 2 ∷ rest)
   front h =
       let m = stretch (w .memory) (place n p) in
@@ -123,13 +123,14 @@ module _ (w : World) (s : sound w ≡ true) (n p : ℕ) (hn : n < w .net .nodes)
       ∙ ap (λ (q : List ℕ). getD m ((b + 1) % capacity) 0 ∷ q) (ring-next m b k 2 (omega arith)))
       ∙ rw (at 0, at 1, at 2)
 
+module _ (w : World) (s : sound w ≡ true) (n p : ℕ) (hn : n < w .net .nodes) (hp : p < ports) where
   -- the channel that a whole header names is there
   named-door : hop (w .net) n p ≡ Shut → isThree (wordAt w n p 0) ≡ true → 3 ≤ w .net .ports .counters n p .held
       → isControl (wordAt w n p 2) ≡ false
       → Door (valueOf (wordAt w n p 2))
   named-door e t h c =
       let f = contents-facts w s n hn p hp in
-      third (wordAt w n p 0) (wordAt w n p 1) (wordAt w n p 2) (rest) (rw (e, front h) at f) t c
+      third (wordAt w n p 0) (wordAt w n p 1) (wordAt w n p 2) (rest w n p) (rw (e, front w n p h) at f) t c
 
 -- a destination whose channel is there, or a control unit
 abbrev pub LegalDoor : Target → Type 0

@@ -1,0 +1,251 @@
+-- What the acts of a Step are, as events: each may happen, and does to the view what was done to the world. Assumes nothing.
+use Prim.Native.Nat.{ℕ, _<_}
+use mathlib.Core.Path.{_≡_, refl, sym, ap, _∙_}
+use mathlib.Core.Bool.{Bool, true, false}
+use mathlib.Core.List.{[], _∷_}
+use lib.Dec.{eqb}
+use Rattle.laws.specs.Pick.{pick}
+use Rattle.laws.specs.Table as Two
+use Rattle.names.specs.Size.{links, sink}
+use Rattle.names.specs.declared.Slot.{Slot}
+use Rattle.circuits.specs.Circuit.{peerOf, ofPeer}
+use Rattle.circuits.specs.declared.Cause.{Cause}
+use Rattle.circuits.specs.declared.Circuit.{Circuit}
+use Rattle.circuits.specs.declared.Hop.{Hop}
+use Rattle.circuits.specs.declared.Hop.the-variants as Hops
+use Rattle.circuits.specs.declared.Peer.{Peer}
+use Rattle.circuits.specs.declared.Peer.the-variants as Peers
+use Rattle.circuits.proofs.Backs.{hop-back}
+use Rattle.tokens.specs.Word.{closes}
+use Rattle.cells.specs.View as Cells
+use Rattle.cells.specs.World.{World, farOf, hop, queue}
+use Rattle.cells.specs.declared.link.Far.the-variants.{At}
+use Rattle.cells.specs.declared.port.Leg.{Leg}
+use Rattle.acts.specs.Acts.{withNet, popped, firstAt, legOf, hopped, shut, tiledTo, claimedBy, handed}
+use Rattle.acts.specs.Needs.{Holds}
+use Rattle.acts.proofs.Queues.{popped-queue}
+use Rattle.messages.specs.Heard.{listens}
+use Rattle.grants.specs.Grants.{considered}
+use Rattle.moves.specs.Moves.{took, opensOut, closesUnit, paid, crosses, movesOut, hands, drops}
+use Rattle.kept.specs.Kept.{Kept}
+use Rattle.kept.proofs.Fills.{filled-one}
+use Rattle.kept.proofs.Empties.{emptied-one}
+use Rattle.kept.proofs.Leaves.{taken-is, left, left-is}
+use Rattle.kept.proofs.Moves.{userIf, freed, putThere, freed-is, crosses-as, link-there, by-port, far-room}
+use Rattle.streams.specs.Model.{upd, tl, pop, push, portNo, isLink, Place, ToChannel, ToUnit, Out, Shut, Via, Into, Nobody, By, Net}
+use Rattle.streams.specs.Events.{Event, Takes, Refuses, Enters, Arrives, Hands, Loses, effect, Ok}
+use Rattle.streams.proofs.Basics.{upd-same, passes}
+use Rattle.streams.proofs.View.{view, farEnd, outBy, outOf, outs, useBy, queues, net-as, out-put, user-put, queue-emptied}
+use Rattle.streams.proofs.View.{filled-seen, view-cable, view-queue, alike}
+use Rattle.streams.proofs.View.{view-out, view-user, Alike, alike-all, alike-then, alike-pick, unseen}
+
+-- the event leads from the one world to the other: it may happen, and does what was done
+pub record Does (v : Event) (w z : World) : Type 0 where
+  pub ok : Ok isLink (view w) v
+  pub is : view z ≡ effect v (view w)
+
+-- nobody, where a circuit's kind is none
+pub nobody : (c : Circuit) → c .kind ≡ 0 → peerOf c ≡ Peers.Nobody
+nobody c e = rw e
+
+module _ (w : World) (n p : ℕ) (r : Holds w n p 1) where
+  -- the first token, as the view has it
+  pub first-seen : view w .queue (portNo n p) ≡ firstAt w n p ∷ queue (popped w n p) n p
+  first-seen = view-queue w n p (r .port) ∙ popped-queue w n p r
+
+  out-seen : (h : Hop) → hop (w .net) n p ≡ h → view w .out (portNo n p) ≡ outBy n h
+  out-seen h e = view-out w n p (r .port) ∙ ap (outBy n) e
+
+  -- A CIRCUIT OPENED OUTWARD, OR REFUSED
+  pub does-opensOut : (l : ℕ) → hop (w .net) n p ≡ Hops.Shut → l < links → w .net .links .users n l .kind ≡ 0
+      → Does (Takes (portNo n p) (portNo n l)) w (withNet w (opensOut (w .net) n p l))
+  unfolding effect
+  does-opensOut l e hl free =
+      record {
+        ok = (_, _, first-seen, out-seen Hops.Shut e, view-user w n l hl ∙ ap (useBy n) (nobody (w .net .links .users n l) free));
+        is = net-as refl (out-put n (w .net .ports .legs) p (legOf (Hops.Out l)) (r .port))
+            (user-put n (w .net .links .users) l (ofPeer (Peers.Port p)) hl) refl refl refl;
+      }
+
+  pub does-refused : (x : Cause) → hop (w .net) n p ≡ Hops.Shut
+      → Does (Refuses (portNo n p) x) w (withNet w (hopped (w .net) n p (Hops.Dropped x)))
+  unfolding effect
+  does-refused x e =
+      record {
+        ok = (_, _, first-seen, out-seen Hops.Shut e);
+        is = net-as refl
+            (out-put n (w .net .ports .legs) p (legOf (Hops.Dropped x)) (r .port)
+            ∙ ap (λ (h : Hop). upd (view w .out) (portNo n p) (outBy n h)) (hop-back (Hops.Dropped x)))
+            refl refl refl refl;
+      }
+
+  -- A TOKEN THAT LEAVES ITS PORT
+  left-queue : queues (left w n p) ≡ upd (view w .queue) (portNo n p) (tl (view w .queue (portNo n p)))
+  left-queue =
+      ap (λ (s : Cells.Net). queues (withNet (took w n p) s)) (sym (taken-is w n p))
+      ∙ queue-emptied w (took w n p) n p (firstAt w n p ∷ []) (r .port) (emptied-one w n p r)
+      ∙ ap (upd (queues w) (portNo n p)) (sym (ap tl (view-queue w n p (r .port) ∙ emptied-one w n p r .here)))
+
+  leg-if : (b : Bool) (k : Leg) → outOf n (pick b (legOf Hops.Shut) k) ≡ pick b Shut (outOf n k)
+  leg-if true k = refl
+  leg-if false k = refl
+
+  left-out : (h : Hop) → hop (w .net) n p ≡ h
+      → outs (left w n p .net .ports .legs) ≡ upd (view w .out) (portNo n p) (pick (closes (firstAt w n p)) Shut (outBy n h))
+  left-out h e =
+      let b = closes (firstAt w n p) in
+      out-put n (w .net .ports .legs) p (pick b (legOf Hops.Shut) (w .net .ports .legs n p)) (r .port)
+      ∙ ap (upd (view w .out) (portNo n p))
+      (leg-if b (w .net .ports .legs n p) ∙ ap (λ (x : Hop). pick b Shut (outBy n x)) e)
+
+  pub does-drops : (x : Cause) → hop (w .net) n p ≡ Hops.Dropped x → Does (Loses (portNo n p) x (firstAt w n p)) w (drops w n p)
+  unfolding effect
+  does-drops x e =
+      record {
+        ok = (_, first-seen, out-seen (Hops.Dropped x) e);
+        is = ap view (left-is w n p) ∙ net-as left-queue (left-out (Hops.Dropped x) e) refl refl refl refl;
+      }
+
+-- WHAT THE VIEW DOES NOT SEE of a handing: claims, tile links, buffers
+module _ (s : Cells.Net) (n c : ℕ) where
+  pub alike-claimed : (x : Peer) → Alike s (claimedBy s n c x)
+  alike-claimed x = alike-pick (eqb c sink) (alike-all s) (alike refl refl refl refl refl)
+
+  pub alike-handed : (x : ℕ) → Alike s (handed s n c x)
+  alike-handed x = alike-pick (eqb c sink) (alike-all s) (alike refl refl refl refl refl)
+
+alike-shut : {s z : Cells.Net} (n p : ℕ) → Alike s z → Alike (shut s n p) (shut z n p)
+alike-shut {s} {z} n p a =
+    record {
+      nodes = a .nodes;
+      ports = ap (λ (t : Cells.PortTables). shutIn t) (a .ports);
+      users = a .users;
+      cables = a .cables;
+      sendings = a .sendings;
+    }
+  where
+    shutIn : Cells.PortTables → Cells.PortTables
+    shutIn t =
+        record {
+          counters = t .counters;
+          legs = Two.upd (t .legs) n p (legOf Hops.Shut);
+          networks = Two.upd (t .networks) n p (pick (eqb (t .counters n p .held) 0) 0 (t .networks n p));
+          senders = t .senders;
+        }
+
+alike-closed : (b : Bool) (s : Cells.Net) (n p c t x : ℕ)
+    → Alike (pick b (shut s n p) s)
+    (pick b (claimedBy (tiledTo (shut (handed s n c x) n p) n t Peers.Nobody) n c Peers.Nobody) (handed s n c x))
+alike-closed true s n p c t x =
+    let z = shut (handed s n c x) n p in
+    let tiled : Alike z (tiledTo z n t Peers.Nobody) = alike refl refl refl refl refl in
+    alike-then (alike-shut n p (alike-handed s n c x)) (alike-then tiled (alike-claimed (tiledTo z n t Peers.Nobody) n c Peers.Nobody))
+alike-closed false s n p c t x = alike-handed s n c x
+
+-- A TOKEN HANDED
+module _ (w : World) (n p : ℕ) (r : Holds w n p 1) where
+  -- whatever the view does not see
+  does-hand : (a : Place) (h : Hop) → hop (w .net) n p ≡ h → outBy n h ≡ Into a
+      → (z : Cells.Net)
+      → Alike (pick (closes (firstAt w n p)) (shut (took w n p .net) n p) (took w n p .net)) z
+      → Does (Hands (portNo n p) a (firstAt w n p)) w (withNet (took w n p) z)
+  unfolding effect
+  does-hand a h e to z same =
+      record {
+        ok = (_, first-seen w n p r, out-seen w n p r h e ∙ to);
+        is =
+            unseen (took w n p) _ z same
+            ∙ ap view (left-is w n p)
+            ∙ net-as (left-queue w n p r)
+            (left-out w n p r h e ∙ ap (λ (x : Out). upd (view w .out) (portNo n p) (pick (closes (firstAt w n p)) Shut x)) to)
+            refl refl refl refl;
+      }
+
+  pub does-hands : (c t : ℕ) → hop (w .net) n p ≡ Hops.Channel c t
+      → Does (Hands (portNo n p) (ToChannel c) (firstAt w n p)) w (hands w n p c t)
+  does-hands c t e =
+      does-hand (ToChannel c) (Hops.Channel c t) e refl _
+      (alike-closed (closes (firstAt w n p)) (took w n p .net) n p c t (firstAt w n p))
+
+  -- to the control unit: heard, and the message goes on, or is at its end
+  pub does-listens : hop (w .net) n p ≡ Hops.Unit → closes (firstAt w n p) ≡ false
+      → Does (Hands (portNo n p) ToUnit (firstAt w n p)) w (withNet (took w n p) (listens (took w n p .net) n (firstAt w n p)))
+  does-listens e more =
+      does-hand ToUnit Hops.Unit e refl _ (rw more (alike refl refl refl refl refl))
+
+  pub does-freed : hop (w .net) n p ≡ Hops.Unit → closes (firstAt w n p) ≡ true
+      → Does (Hands (portNo n p) ToUnit (firstAt w n p)) w (withNet (took w n p) (closesUnit (took w n p .net) n p))
+  does-freed e ends =
+      does-hand ToUnit Hops.Unit e refl _ (rw ends (alike refl refl refl refl refl))
+
+-- A TOKEN OVER A CABLE: on to the line, and off it
+-- two events, one after the other
+pub record Both (u v : Event) (w z : World) : Type 0 where
+  pub first : Ok isLink (view w) u
+  pub second : Ok isLink (effect u (view w)) v
+  pub is : view z ≡ effect v (effect u (view w))
+
+user-if : (n p : ℕ) (b : Bool) (c : Circuit) → peerOf c ≡ Peers.Port p → useBy n (peerOf (userIf b c)) ≡ pick b Nobody (By (portNo n p))
+user-if n p true c e = refl
+user-if n p false c e = ap (useBy n) e
+
+module _ (w : World) (k : Kept w) (n p l : ℕ) (m : Slot) (j : ℕ) (r : Holds w n p 1) (out : hop (w .net) n p ≡ Hops.Out l)
+    (leads : farOf (w .net .links .cables n l) ≡ At m j) (has : 0 < w .net .links .flows n l .credit) where
+  abbrev x : ℕ
+  x = firstAt w n p
+
+  hl : l < links
+  hl = link-there w k n p l m j r out leads has
+
+  cable-seen : view w .cable (portNo n l) ≡ By (portNo (m .0) j)
+  cable-seen = view-cable w n l hl ∙ ap farEnd leads
+
+  -- the token is taken, and the link freed
+  freed-seen : view (freed w n p l) ≡ record {
+    queue = pop (view w .queue) (portNo n p);
+    out = upd (view w .out) (portNo n p) (pick (closes x) Shut (Via (portNo n l)));
+    user = upd (view w .user) (portNo n l) (pick (closes x) Nobody (By (portNo n p)));
+    busy = view w .busy;
+    cable = view w .cable;
+    line = view w .line;
+  }
+  freed-seen =
+      net-as (left-queue w n p r) (left-out w n p r (Hops.Out l) out)
+      (user-put n (w .net .links .users) l (userIf (closes x) (w .net .links .users n l)) hl
+      ∙ ap (upd (view w .user) (portNo n l)) (user-if n p (closes x) (w .net .links .users n l) (by-port w k n p l m j r out leads has)))
+      refl refl refl
+
+  -- and put at the far end
+  there-seen : view (putThere w n p l (m .0) j)
+      ≡ effect (Arrives (portNo n l) (portNo (m .0) j) x) (effect (Enters (portNo n p) (portNo n l) x) (view w))
+  unfolding effect
+  there-seen =
+      let room = far-room w k n p l m j r out leads has in
+      filled-seen (freed w n p l) (putThere w n p l (m .0) j) (m .0) j (x ∷ []) (room .port) (filled-one (freed w n p l) (m .0) j x room)
+      ∙ ap (λ (v : Net). record {
+        queue = push (v .queue) (portNo (m .0) j) x;
+        out = v .out;
+        user = v .user;
+        busy = v .busy;
+        cable = v .cable;
+        line = v .line;
+      }) freed-seen
+      ∙ net-as refl refl refl refl refl (sym (passes (view w .line) (portNo n l) x refl))
+
+  alike-paid : (s : Cells.Net) → Alike s (considered (paid s n l) n l)
+  unfolding considered
+  alike-paid s = alike refl refl refl refl refl
+
+  pub does-movesOut : Both (Enters (portNo n p) (portNo n l) x) (Arrives (portNo n l) (portNo (m .0) j) x) w (movesOut w n p l)
+  unfolding effect
+  does-movesOut =
+      let z = putThere w n p l (m .0) j in
+      record {
+        first = (_, first-seen w n p r, out-seen w n p r (Hops.Out l) out, (_, cable-seen));
+        second = ([], upd-same (view w .line) (portNo n l) (x ∷ []), cable-seen);
+        is =
+            ap (λ (y : World). view (crosses y n l x)) (freed-is w n p l)
+            ∙ ap view (crosses-as (freed w n p l) n l x m j leads)
+            ∙ unseen z (z .net) _ (alike-paid (z .net))
+            ∙ there-seen;
+      }

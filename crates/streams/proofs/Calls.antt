@@ -1,0 +1,329 @@
+-- EVERY CALL IS ITS EVENTS: they may happen, and do to the view what the call did to the world. Assumes nothing.
+use Prim.{tt}
+use Prim.Native.Nat.{ℕ, _/_, _%_, _<_}
+use mathlib.Core.Path.{_≡_, refl, sym, ap, _∙_, fun-ext}
+use mathlib.Core.Bool.{Bool, true, false, _&&_}
+use mathlib.Core.Logic.{⊎-elim}
+use mathlib.Core.List.{List, [], _∷_, _++_}
+use native.Mathlib.Omega.{arith}
+use lib.Arith.{digits-mod}
+use lib.Dec.{ltb}
+use lib.ListN.{take}
+use borrow.Author.Tests.{lt-ltb}
+use Rattle.laws.specs.Pick.{pick}
+use Rattle.laws.specs.Table as Two
+use Rattle.laws.proofs.Order.{by-test, clash}
+use Rattle.names.specs.Size.{links, ports, ends, replyPort}
+use Rattle.circuits.specs.Circuit.{peerOf}
+use Rattle.circuits.specs.declared.Cause.the-variants.{Split, NoRoute}
+use Rattle.circuits.specs.declared.Hop.the-variants as Hops
+use Rattle.circuits.specs.declared.Peer.{Peer}
+use Rattle.circuits.specs.declared.Peer.the-variants as Peers
+use Rattle.tokens.specs.Control.{end}
+use Rattle.tokens.specs.Word.{closes, controlWord}
+use Rattle.tokens.specs.Header.{Carried, headerOf, isNarrow}
+use Rattle.tokens.specs.declared.header.Target.{Target}
+use Rattle.answers.specs.Rows.{Passes}
+use Rattle.answers.proofs.Refusals.{passed}
+use Rattle.cells.specs.View as Cells
+use Rattle.cells.specs.World.{World, farOf, queue}
+use Rattle.cells.specs.declared.link.Far.{Far}
+use Rattle.cells.specs.declared.link.Far.the-variants.{Nowhere, At}
+use Rattle.cells.specs.Fresh.{freshWorld}
+use Rattle.acts.specs.Acts.{withNet, widthAt, numberAt, wordAt, firstAt}
+use Rattle.acts.specs.Needs.{Holds}
+use Rattle.plans.specs.Plan.{markedWidth, sizeOf, stepPlan}
+use Rattle.plans.proofs.Held.{size-some}
+use Rattle.plans.specs.declared.Plan.{Plan}
+use Rattle.plans.specs.declared.Plan.the-variants.{Idle, Wait, OpenOut, OpenChannel, OpenUnit, Refuse, MoveOut, Hand, Hear, Drop}
+use Rattle.messages.specs.Register.{fieldsOf, readOf}
+use Rattle.messages.specs.Heard.{messageOf}
+use Rattle.messages.specs.Write.{accepted, written}
+use Rattle.messages.specs.Ended.{said, replySent, obeyed, ended}
+use Rattle.messages.specs.declared.heard.Message.{Message}
+use Rattle.messages.specs.declared.heard.Message.the-variants.{Malformed, Wrong, Read, Write}
+use Rattle.messages.specs.declared.reply.Reply.{Reply}
+use Rattle.messages.specs.declared.reply.Reply.the-variants.{Nack, Ack, Value}
+use Rattle.messages.proofs.Writes.{write-leaves}
+use Rattle.settings.specs.Wire.{cableTo, wired}
+use Rattle.settings.specs.Set.{setMade}
+use Rattle.settings.proofs.Leaves.{Leaves, setting-leaves}
+use Rattle.ends.specs.Aim.{aimMade}
+use Rattle.ends.specs.Input.{inputMade}
+use Rattle.ends.specs.Plan.{targetOf, lowestFree, outputPlan}
+use Rattle.ends.specs.Output.{wordOf, outputPerformed}
+use Rattle.ends.specs.declared.plan.Plan as SentPlans
+use Rattle.ends.specs.declared.plan.Plan.the-variants as Sent
+use Rattle.switch.specs.Step.{stepPerformed}
+use Rattle.bench.specs.Calls.{Call, Fresh, Wire, Set, Aim, Output, Input, Step, rows, made, apply}
+use Rattle.bench.specs.Writes.{hopClosed}
+use Rattle.kept.specs.Kept.{Kept}
+use Rattle.kept.proofs.Opens.{Headed}
+use Rattle.kept.proofs.Found.{Going, Found, idle, waits, splits, unrouted, routes, landsChannel, landsUnit, step-found}
+use Rattle.kept.proofs.Found.{moves, hands, hears, drops}
+use Rattle.kept.proofs.Rooms.{kept-holds, has-room, nothing-held}
+use Rattle.kept.proofs.Stages.{tile-there}
+use Rattle.kept.proofs.Ends.{Sender}
+use Rattle.kept.proofs.Outputs.{port-free, aim-legal}
+use Rattle.kept.proofs.Chosen as Chosen
+use Rattle.kept.proofs.Wires.{Loose, nowhere, unused}
+use Rattle.kept.proofs.Calls.{wire-ends, output-sender, step-there}
+use Rattle.kept.proofs.Hears.{keep-freed, ready-after}
+use Rattle.kept.proofs.Sets.{keep-written}
+use Rattle.kept.proofs.Messages.{Address, Replied, replied, Ready, ready-written}
+use Rattle.streams.specs.Model.{upd, Use, Nobody, By, Closed, portNo, doorNo, doorsEach, unitDoor, isLink, ToChannel, ToUnit, Net}
+use Rattle.streams.specs.Events.{Event, Opens, Puts, Starts, Tells, Takes, Lands, Refuses, Enters, Arrives, Hands, Loses, Wires}
+use Rattle.streams.specs.Events.{effect, empty}
+use Rattle.streams.specs.Observer.{isFresh, done, anew}
+use Rattle.streams.proofs.Machine.{Leads, leads-append}
+use Rattle.streams.proofs.View.{view, farEnd, useBy, net-as, cable-put, view-cable, view-user, Alike, alike, unseen}
+use Rattle.streams.proofs.Acts.{Does, Both, does-opensOut, does-refused, does-drops, does-hands, does-listens, does-freed}
+use Rattle.streams.proofs.Acts.{does-movesOut}
+use Rattle.streams.proofs.Lands.{does-landsChannel, does-landsUnit}
+use Rattle.streams.proofs.Sends.{putEach}
+use Rattle.streams.proofs.Outputs.{carried, does-opensBy, does-behind, does-starts, does-goesOn, does-reply}
+
+-- no event, one, two
+pub leads-none : (n : Net) → Leads isLink [] n n
+leads-none n = record { view = refl; ok = tt }
+
+leads-one : {v : Event} {w z : World} → Does v w z → Leads isLink (v ∷ []) (view w) (view z)
+leads-one d = record { view = d .is; ok = (d .ok, tt) }
+
+leads-both : {u v : Event} {w z : World} → Both u v w z → Leads isLink (u ∷ v ∷ []) (view w) (view z)
+leads-both d = record { view = d .is; ok = (d .first, (d .second, tt)) }
+
+-- what the view does not see is no event
+leads-unseen : (w : World) (s : Cells.Net) → Alike (w .net) s → Leads isLink [] (view w) (view (withNet w s))
+leads-unseen w s a = record { view = unseen w (w .net) s a; ok = tt }
+
+-- no Set is an event
+set-alike : {s z : Cells.Net} → Leaves s z → Alike s z
+set-alike l = alike (l .nodes) (l .ports) (l .users) (l .cables) (ap (λ (t : Cells.EndTables). t .sendings) (l .ends))
+
+-- A REPLY
+abbrev pub replyEvents : World → ℕ → Target → Reply → List Event
+replyEvents w n g x =
+    pick (isNarrow (headerOf g (widthAt (w .net) n))) []
+    (Opens (doorNo n unitDoor) (portNo n replyPort) (widthAt (w .net) n) g
+    ∷ putEach (doorNo n unitDoor) (portNo n replyPort) (said x ++ (controlWord end ∷ [])))
+
+abbrev pub obeyEvents : World → ℕ → Message → List Event
+obeyEvents w n Malformed = []
+obeyEvents w n (Wrong g) = replyEvents w n g Nack
+obeyEvents w n (Read g r) = replyEvents w n g (Value (readOf (w .net) n r))
+obeyEvents w n (Write g r v) =
+    replyEvents (withNet w (written (w .net) n (fieldsOf r v))) n g (pick (accepted (w .net) n (fieldsOf r v)) Ack Nack)
+
+reply-leads : (w : World) → Kept w → (n : ℕ) → Ready w n → (g : Target) → Address g → (x : Reply)
+    → Leads isLink (replyEvents w n g x) (view w) (view (replySent w n g x .next))
+reply-leads w k n z g a x =
+    by-test (isNarrow (headerOf g (widthAt (w .net) n)))
+    (λ e. rw e (leads-none (view w)))
+    (λ e. rw e (does-reply w k n z g x (widthAt (w .net) n) a e))
+
+obey-leads : (w : World) → Kept w → (n : ℕ) → Ready w n → (m : Message) → Replied m
+    → Leads isLink (obeyEvents w n m) (view w) (view (obeyed w n m .next))
+obey-leads w k n z Malformed a = leads-none (view w)
+obey-leads w k n z (Wrong g) a = reply-leads w k n z g a Nack
+obey-leads w k n z (Read g r) a = reply-leads w k n z g a (Value (readOf (w .net) n r))
+obey-leads w k n z (Write g r v) a =
+    let xs = fieldsOf r v in
+    let y = withNet w (written (w .net) n xs) in
+    let r = reply-leads y (keep-written w k n xs) n (ready-written w n z xs) g a (pick (accepted (w .net) n xs) Ack Nack) in
+    leads-append isLink [] _ (view w) (view y) _ (leads-unseen w (y .net) (set-alike (write-leaves (w .net) n xs))) r
+
+-- A STEP, by its plan
+abbrev pub endEvents : World → ℕ → ℕ → List Event
+endEvents w n x = obeyEvents w n (messageOf (w .net .units .hearings n 0) x)
+
+abbrev pub crossEvents : ℕ → ℕ → ℕ → ℕ → Far → List Event
+crossEvents n p l x Nowhere = []
+crossEvents n p l x (At m j) = Enters (portNo n p) (portNo n l) x ∷ Arrives (portNo n l) (portNo (m .0) j) x ∷ []
+
+abbrev pub stepEvents : World → ℕ → ℕ → Plan → List Event
+stepEvents w n p Idle = []
+stepEvents w n p Wait = []
+stepEvents w n p (OpenOut l) = Takes (portNo n p) (portNo n l) ∷ []
+stepEvents w n p (OpenChannel c t) =
+    Lands (portNo n p) (widthAt (w .net) n) (take (sizeOf (widthAt (w .net) n)) (queue w n p)) (ToChannel c) (numberAt (w .net) n) ∷ []
+stepEvents w n p OpenUnit =
+    Lands (portNo n p) (widthAt (w .net) n) (take (sizeOf (widthAt (w .net) n)) (queue w n p)) ToUnit (numberAt (w .net) n) ∷ []
+stepEvents w n p (Refuse x) = Refuses (portNo n p) x ∷ []
+stepEvents w n p (MoveOut l) = crossEvents n p l (firstAt w n p) (farOf (w .net .links .cables n l))
+stepEvents w n p (Hand c t) = Hands (portNo n p) (ToChannel c) (firstAt w n p) ∷ []
+stepEvents w n p Hear =
+    Hands (portNo n p) ToUnit (firstAt w n p) ∷ pick (closes (firstAt w n p)) (endEvents (hopClosed w n p) n (firstAt w n p)) []
+stepEvents w n p (Drop x) = Loses (portNo n p) x (firstAt w n p) ∷ []
+
+module _ (w : World) (k : Kept w) (n p : ℕ) where
+  abbrev StepLeads : Plan → Type 0
+  StepLeads x = Leads isLink (stepEvents w n p x) (view w) (view (stepPerformed w n p x .next))
+
+  headed-holds : Headed w n p → Holds w n p 1
+  headed-holds z = kept-holds w k n p 1 (z .node) (z .port) (omega (arith, size-some (markedWidth (wordAt w n p 0)), z .whole))
+
+  hear-leads : Going w n p Hops.Unit → StepLeads Hear
+  unfolding ended
+  hear-leads g =
+      let x = firstAt w n p in
+      by-test (closes x)
+      (λ e.
+      let y = hopClosed w n p in
+      let h = y .net .units .hearings n 0 in
+      let free = keep-freed w k n p (g .holds) (g .goes) e in
+      let ready = ready-after w k n p (g .holds) (g .goes) e in
+      rw e (leads-append isLink (Hands (portNo n p) ToUnit x ∷ []) _ (view w) (view y) _
+      (leads-one (does-freed w n p (g .holds) (g .goes) e))
+      (obey-leads y free n ready (messageOf h x) (replied h x))))
+      (λ e. rw e (leads-one (does-listens w n p (g .holds) (g .goes) e)))
+
+  step-leads : {x : Plan} → Found w n p x → StepLeads x
+  step-leads (idle none) = leads-none (view w)
+  step-leads (waits unsplit) = leads-none (view w)
+  step-leads (splits z f) = leads-one (does-refused w n p (headed-holds z) Split (z .shut))
+  step-leads (unrouted z) = leads-one (does-refused w n p (headed-holds (z .headed)) NoRoute (z .headed .shut))
+  step-leads (routes z l hl free on) = leads-one (does-opensOut w n p (headed-holds (z .headed)) l (z .headed .shut) hl free)
+  step-leads (landsChannel z m c t named door there tile claim) = leads-one (does-landsChannel w k n p z m c t named)
+  step-leads (landsUnit z m named free empty) = leads-one (does-landsUnit w k n p z m named)
+  step-leads (moves l g m j leads credit) = rw leads (leads-both (does-movesOut w k n p l m j (g .holds) (g .goes) leads credit))
+  step-leads (hands c t g given) = leads-one (does-hands w n p (g .holds) c t (g .goes))
+  step-leads (hears g) = hear-leads g
+  step-leads (drops x g) = leads-one (does-drops w n p (g .holds) x (g .goes))
+
+-- AN OUTPUT, by its plan; straight to a channel, the first token opens the circuit
+abbrev pub straightEvents : World → ℕ → ℕ → Target → ℕ → ℕ → Peer → List Event
+straightEvents w n c g d t Peers.Nobody =
+    Starts (doorNo n c) (numberAt (w .net) n) (widthAt (w .net) n) g d ∷ Tells (doorNo n c) d t ∷ []
+straightEvents w n c g d t (Peers.Port p) = Tells (doorNo n c) d t ∷ []
+straightEvents w n c g d t (Peers.End e) = Tells (doorNo n c) d t ∷ []
+
+abbrev pub outputEvents : World → ℕ → ℕ → Target → ℕ → SentPlans.Plan → List Event
+outputEvents w n c g t Sent.Narrow = []
+outputEvents w n c g t Sent.Full = []
+outputEvents w n c g t (Sent.Opens p) =
+    Opens (doorNo n c) (portNo n p) (widthAt (w .net) n) g ∷ Puts (doorNo n c) (portNo n p) t ∷ []
+outputEvents w n c g t (Sent.Behind p) = Puts (doorNo n c) (portNo n p) t ∷ []
+outputEvents w n c g t (Sent.Straight d) = straightEvents w n c g d t (peerOf (w .net .ends .sendings n c))
+
+module _ (w : World) (k : Kept w) (n c t : ℕ) (s : Sender (w .net) n c) where
+  abbrev target : Target
+  target = targetOf (w .net .ends .aims n c)
+
+  fits : isNarrow (headerOf target (widthAt (w .net) n)) ≡ false → Carried (widthAt (w .net) n) target
+  fits wide =
+      let facts = ⊎-elim (λ e. absurd (s .aimed e)) (λ f. f) (k .aims n c (s .node) (s .end)) in
+      let legal = aim-legal (w .net .ends .aims n c) facts in
+      carried (widthAt (w .net) n) target (legal .0) (legal .1) wide
+
+  output-leads : {x : SentPlans.Plan} → Chosen.Found w n c t x
+      → Leads isLink (outputEvents w n c target t x) (view w) (view (outputPerformed w n c target t x))
+  output-leads Chosen.narrow = leads-none (view w)
+  output-leads Chosen.full = leads-none (view w)
+  output-leads (Chosen.opens z away free) =
+      let (tile, none) = port-free w n (lowestFree (w .net) n) free in
+      does-opensBy w n c (s .end) k (lowestFree (w .net) n) t target (s .node) (z .shut) tile none (fits (z .wide))
+  output-leads (Chosen.behind p e room) =
+      let tile = tile-there (peerOf (w .net .ends .sendings n c)) p (k .goes n c (s .node) (s .end)) e in
+      does-behind w n c (s .end) p t e (has-room w k n p 1 (s .node) (omega (arith, tile .1)) (omega (arith, room)))
+  output-leads (Chosen.starts z m d named here unclaimed given) =
+      rw (z .shut) (does-starts w n c (s .end) d t m target (z .shut) named here)
+  output-leads (Chosen.goesOn d e given) = rw e (does-goesOn w n c (s .end) d t e)
+
+-- WIRE
+module _ (w : World) (k : Kept w) (n l m j : ℕ) (a : Loose w n l) (b : Loose w m j) (off : Two.Off n l m j) where
+  is-link : (i h : ℕ) → h < links → isLink (portNo i h) ≡ true
+  is-link i h hh = ap (λ (x : ℕ). ltb x links) (digits-mod i (omega (arith, hh))) ∙ lt-ltb h links hh
+
+  wire-leads : Leads isLink (Wires (portNo n l) (portNo m j) ∷ []) (view w) (view (withNet w (wired (w .net) n l m j)))
+  unfolding effect
+  wire-leads =
+      let cables = w .net .links .cables in
+      let hl = a .link in
+      let hj = b .link in
+      record {
+        view = net-as refl refl refl refl
+            (cable-put m (Two.upd cables n l (cableTo m j)) j (cableTo n l) hj
+            ∙ ap (λ (t : ℕ → Use). upd t (portNo m j) (By (portNo n l))) (cable-put n cables l (cableTo m j) hl))
+            refl;
+        ok = (
+          (
+            λ e. off (omega (arith, e, hl, hj)) (omega (arith, e, hl, hj)),
+            is-link n l hl,
+            is-link m j hj,
+            view-cable w n l hl ∙ ap farEnd (nowhere w k n l a),
+            view-cable w m j hj ∙ ap farEnd (nowhere w k m j b),
+            view-user w n l hl ∙ ap (useBy n) (unused w k n l a),
+            view-user w m j hj ∙ ap (useBy m) (unused w k m j b),
+          ),
+          tt,
+        );
+      }
+
+-- A CALL that is not refused
+abbrev pub madeEvents : World → Call → List Event
+madeEvents w (Fresh n) = []
+madeEvents w (Wire a l b j) = Wires (portNo (a .0) l) (portNo (b .0) j) ∷ []
+madeEvents w (Set a x) = []
+madeEvents w (Aim a c g v) = []
+madeEvents w (Output a c x) =
+    let g = targetOf (w .net .ends .aims (a .0) c) in
+    outputEvents w (a .0) c g (wordOf x) (outputPlan (w .net) (a .0) c g (wordOf x))
+madeEvents w (Input a c x) = []
+madeEvents w (Step a p) = stepEvents w (a .0) p (stepPlan w (a .0) p)
+
+module _ (w : World) (k : Kept w) where
+  made-leads : (c : Call) → Passes (rows w c) → isFresh c ≡ false → Leads isLink (madeEvents w c) (view w) (view (made w c .next))
+  made-leads (Fresh n) p e = clash e
+  made-leads (Wire a l b j) p e =
+      let (x, y, off) = wire-ends w (a .0) l (b .0) j (p .1) in
+      wire-leads w k (a .0) l (b .0) j x y off
+  made-leads (Set a x) p e = leads-unseen w (setMade (w .net) (a .0) x) (set-alike (setting-leaves (w .net) (a .0) x))
+  made-leads (Aim a c g v) p e = leads-unseen w (aimMade (w .net) (a .0) c g v) (alike refl refl refl refl refl)
+  made-leads (Output a c x) p e =
+      let s = output-sender w (a .0) c x (p .1) in
+      output-leads w k (a .0) c (wordOf x) s (Chosen.output-found w k (a .0) c (wordOf x) s)
+  made-leads (Input a c x) p e = leads-unseen w (inputMade (w .net) (a .0) c) (alike refl refl refl refl refl)
+  made-leads (Step a p) q e =
+      let there = step-there w (a .0) p (q .1) in
+      step-leads w k (a .0) p (step-found w k (a .0) p (there .0) (there .1))
+
+-- EVERY CALL
+abbrev pub eventsOf : World → Call → List Event
+eventsOf w c = pick (done w c) (madeEvents w c) []
+
+-- a call that is done and not anew is no Fresh
+pub not-fresh : (w : World) (c : Call) → done w c ≡ true → anew w c ≡ false → isFresh c ≡ false
+not-fresh w c t e = go (isFresh c) e
+  where
+    go : (b : Bool) → (b && done w c) ≡ false → b ≡ false
+    go true f = clash (sym t ∙ f)
+    go false f = refl
+
+pub call-leads : (w : World) → Kept w → (c : Call) → anew w c ≡ false → Leads isLink (eventsOf w c) (view w) (view (apply w c .next))
+unfolding apply
+call-leads w k c e =
+    by-test (done w c)
+    (λ t. rw t (made-leads w k c (passed (rows w c) .sure t) (not-fresh w c t e)))
+    (λ t. rw t (leads-none (view w)))
+
+either : {A : Type 0} (b : Bool) (x : A) → pick b x x ≡ x
+either true x = refl
+either false x = refl
+
+pub fresh-view : (n : ℕ) → view (freshWorld n) ≡ empty
+unfolding empty
+fresh-view n =
+    net-as (fun-ext (λ j. nothing-held (freshWorld n) (j / ports) (j % ports) refl)) refl
+    (fun-ext (λ l. either (ltb (l % ports) links) Nobody)) (fun-ext (λ d. either (ltb (d % doorsEach) ends) Closed))
+    (fun-ext (λ l. either (ltb (l % ports) links) Nobody)) refl
+
+pub fresh-seen : (w : World) (c : Call) → anew w c ≡ true → view (apply w c .next) ≡ empty
+unfolding apply
+fresh-seen w (Fresh n) e = rw e (fresh-view n)
+fresh-seen w (Wire a l b j) e = clash (sym e)
+fresh-seen w (Set a x) e = clash (sym e)
+fresh-seen w (Aim a c g v) e = clash (sym e)
+fresh-seen w (Output a c x) e = clash (sym e)
+fresh-seen w (Input a c x) e = clash (sym e)
+fresh-seen w (Step a p) e = clash (sym e)

@@ -1,0 +1,62 @@
+-- DEMAND 3, of the bench: for every number of boards and every run of calls from Fresh, Fresh among them. Assumes nothing.
+use Prim.Native.Nat.{ℕ, _≤_}
+use mathlib.Core.Path.{_≡_, refl}
+use mathlib.Core.List.{List, [], _∷_}
+use Rattle.names.specs.Size.{nodes}
+use Rattle.cells.specs.World.{World}
+use Rattle.cells.specs.Fresh.{freshWorld}
+use Rattle.bench.specs.Calls.{Call, apply}
+use Rattle.bench.specs.Runs.{run}
+use Rattle.bench.proofs.Lasts.{call-keeps, fresh-keeps}
+use Rattle.kept.specs.Kept.{Kept}
+use Rattle.streams.specs.Model.{isLink}
+use Rattle.streams.specs.Demand.{Demand3}
+use Rattle.streams.specs.Watch.{runAll}
+use Rattle.streams.specs.Observer.{write, anew, misreads, portIn}
+use Rattle.streams.specs.Statement.{written}
+use Rattle.streams.proofs.Machine.{Machine}
+use Rattle.streams.proofs.Splits.{Reading}
+use Rattle.streams.proofs.Seen.{Observer, demand-3}
+use Rattle.streams.proofs.View.{view}
+use Rattle.streams.proofs.Calls.{eventsOf, call-leads, fresh-view, fresh-seen}
+use Rattle.streams.proofs.Agree.{call-agrees}
+use Rattle.streams.proofs.Misreads.{call-splits}
+
+module _ (n : ℕ) (some : 1 ≤ n) (few : n ≤ nodes) where
+  abbrev machine : Machine isLink
+  machine =
+      record {
+        State = World;
+        Call = Call;
+        apply = λ w c. apply w c .next;
+        events = eventsOf;
+        view = view;
+        Sane = Kept;
+        anew = anew;
+        anew-view = λ w c k e. fresh-seen w c e;
+        law = λ w c k e. call-leads w k c e;
+        stays-sane = λ w c k. call-keeps w k c;
+        fresh = freshWorld n;
+        fresh-sane = fresh-keeps n some few;
+        fresh-view = fresh-view n;
+      }
+
+  abbrev observer : Observer isLink machine
+  observer =
+      record {
+        Answer = _;
+        answer = λ w c. apply w c .answer;
+        write = write;
+        agrees = λ w g c k e. call-agrees w (k .sane) g (k .inv) c e;
+      }
+
+  abbrev reading : Reading isLink machine
+  reading = record { misreads = misreads; portIn = portIn; answers = λ w c k e. call-splits w k c }
+
+  left : (cs : List Call) (w : World) → run w cs .last ≡ runAll (λ (w : World) (c : Call). apply w c .next) w cs
+  left [] w = refl
+  left (c ∷ cs) w = left cs (apply w c .next)
+
+  -- after any calls: what the bench holds, what was written down, and the circuits whose header a switch of the other width has read
+  pub bench-3 : (cs : List Call) → Demand3 (view (run (freshWorld n) cs .last)) (written n cs .books) (written n cs .misread)
+  bench-3 cs = rw (left cs (freshWorld n)) (demand-3 isLink machine observer reading cs)

@@ -1,0 +1,24 @@
+-- That the books are what is promised.
+pub mod Basics
+pub mod Headers
+pub mod Inv
+pub mod Keep
+pub mod Ports
+pub mod Senders
+pub mod Theorem
+pub mod Places
+pub mod Logs
+pub mod Machine
+pub mod Splits
+pub mod Seen
+pub mod Flat
+pub mod View
+pub mod Acts
+pub mod Fronts
+pub mod Lands
+pub mod Sends
+pub mod Outputs
+pub mod Calls
+pub mod Agree
+pub mod Misreads
+pub mod Faithfully
