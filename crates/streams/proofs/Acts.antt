@@ -34,8 +34,9 @@ use Rattle.kept.proofs.Leaves.{taken-is, left, left-is}
 use Rattle.kept.proofs.Moves.{userIf, freed, putThere, freed-is, crosses-as, link-there, by-port, far-room}
 use Rattle.streams.specs.Model.{upd, tl, pop, push, portNo, isLink, Place, ToChannel, ToUnit, Out, Shut, Via, Into, Nobody, By, Net}
 use Rattle.streams.specs.Events.{Event, Takes, Refuses, Enters, Arrives, Hands, Loses, effect, Ok}
+use Rattle.streams.specs.View.{view, farEnd, outBy, outOf, outs, useBy, queues}
 use Rattle.streams.proofs.Basics.{upd-same, passes}
-use Rattle.streams.proofs.View.{view, farEnd, outBy, outOf, outs, useBy, queues, net-as, out-put, user-put, queue-emptied}
+use Rattle.streams.proofs.View.{net-as, out-put, user-put, queue-emptied}
 use Rattle.streams.proofs.View.{filled-seen, view-cable, view-queue, alike}
 use Rattle.streams.proofs.View.{view-out, view-user, Alike, alike-all, alike-then, alike-pick, unseen}
 

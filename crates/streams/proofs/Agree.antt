@@ -54,10 +54,10 @@ use Rattle.streams.specs.Events.{Opens, Lands, Hands, Ghost, booksOf, no
 use Rattle.streams.specs.Demand.{tokensOf}
 use Rattle.streams.specs.Observer.{putAll, landed, writeThrough, writeWay, writeFirst, writeOutput}
 use Rattle.streams.specs.Observer.{writeReply, writeObeyed, writeStep, write, isFresh, done, anew}
+use Rattle.streams.specs.View.{view}
 use Rattle.streams.proofs.Basics.{upd-same, passes}
 use Rattle.streams.proofs.Inv.{Inv}
 use Rattle.streams.proofs.Machine.{line-tokens}
-use Rattle.streams.proofs.View.{view}
 use Rattle.streams.proofs.Fronts.{reads}
 use Rattle.streams.proofs.Sends.{putEach}
 use Rattle.streams.proofs.Calls.{replyEvents, obeyEvents, stepEvents, outputEvents, madeEvents, eventsOf, not-fresh}

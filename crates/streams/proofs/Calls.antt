@@ -75,8 +75,9 @@ use Rattle.streams.specs.Model.{upd, Use, Nobody, By, Closed, portNo, do
 use Rattle.streams.specs.Events.{Event, Opens, Puts, Starts, Tells, Takes, Lands, Refuses, Enters, Arrives, Hands, Loses, Wires}
 use Rattle.streams.specs.Events.{effect, empty}
 use Rattle.streams.specs.Observer.{isFresh, done, anew}
+use Rattle.streams.specs.View.{view, farEnd, useBy}
 use Rattle.streams.proofs.Machine.{Leads, leads-append}
-use Rattle.streams.proofs.View.{view, farEnd, useBy, net-as, cable-put, view-cable, view-user, Alike, alike, unseen}
+use Rattle.streams.proofs.View.{net-as, cable-put, view-cable, view-user, Alike, alike, unseen}
 use Rattle.streams.proofs.Acts.{Does, Both, does-opensOut, does-refused, does-drops, does-hands, does-listens, does-freed}
 use Rattle.streams.proofs.Acts.{does-movesOut}
 use Rattle.streams.proofs.Lands.{does-landsChannel, does-landsUnit}

@@ -1,7 +1,7 @@
 -- DEMAND 3, of the bench: for every number of boards and every run of calls from Fresh, Fresh among them. Assumes nothing.
 use Prim.Native.Nat.{ℕ, _≤_}
 use mathlib.Core.Path.{_≡_, refl}
-use mathlib.Core.List.{List, [], _∷_}
+use mathlib.Core.List.{List, [], _∷_, _++_}
 use Rattle.names.specs.Size.{nodes}
 use Rattle.cells.specs.World.{World}
 use Rattle.cells.specs.Fresh.{freshWorld}
@@ -9,15 +9,15 @@ use Rattle.bench.specs.Calls.{Call, apply}
 use Rattle.bench.specs.Runs.{run}
 use Rattle.bench.proofs.Lasts.{call-keeps, fresh-keeps}
 use Rattle.kept.specs.Kept.{Kept}
-use Rattle.streams.specs.Model.{isLink}
+use Rattle.streams.specs.Model.{isLink, Fate, Flying}
 use Rattle.streams.specs.Demand.{Demand3}
-use Rattle.streams.specs.Watch.{runAll}
+use Rattle.streams.specs.Watch.{NoneAnew, runAll}
 use Rattle.streams.specs.Observer.{write, anew, misreads, portIn}
-use Rattle.streams.specs.Statement.{written}
+use Rattle.streams.specs.Statement.{observed}
+use Rattle.streams.specs.View.{view}
 use Rattle.streams.proofs.Machine.{Machine}
 use Rattle.streams.proofs.Splits.{Reading}
-use Rattle.streams.proofs.Seen.{Observer, demand-3}
-use Rattle.streams.proofs.View.{view}
+use Rattle.streams.proofs.Seen.{Observer, fate-once, demand-3}
 use Rattle.streams.proofs.Calls.{eventsOf, call-leads, fresh-view, fresh-seen}
 use Rattle.streams.proofs.Agree.{call-agrees}
 use Rattle.streams.proofs.Misreads.{call-splits}
@@ -58,5 +58,12 @@ module _ (n : ℕ) (some : 1 ≤ n) (few : n ≤ nodes) where
   left (c ∷ cs) w = left cs (apply w c .next)
 
   -- after any calls: what the bench holds, what was written down, and the circuits whose header a switch of the other width has read
-  pub bench-3 : (cs : List Call) → Demand3 (view (run (freshWorld n) cs .last)) (written n cs .books) (written n cs .misread)
+  pub bench-3 : (cs : List Call) → Demand3 (view (run (freshWorld n) cs .last)) (observed n cs .books) (observed n cs .misread)
   bench-3 cs = rw (left cs (freshWorld n)) (demand-3 isLink machine observer reading cs)
+
+  -- what became of a circuit stays, until a Fresh is done: it is handed at one place only
+  pub fate-stays : (cs ds : List Call) (c : ℕ) (f : Fate) → (f ≡ Flying → ⊥)
+      → NoneAnew (λ (w : World) (c : Call). apply w c .next) anew (run (freshWorld n) cs .last) ds
+      → observed n cs .books .fate c ≡ f
+      → observed n (cs ++ ds) .books .fate c ≡ f
+  fate-stays cs ds c f ne = rw (left cs (freshWorld n)) (fate-once isLink machine observer reading cs ds c f ne)

@@ -8,13 +8,7 @@ use lib.Arith.{digits-div, digits-mod}
 use borrow.Author.Tests.{eq-eqb, ne-eqb}
 use Rattle.laws.specs.Table as Two
 use Rattle.streams.specs.Model.{upd}
-
--- k places a node: the place of a number, and the number of a place
-abbrev pub flat : {A : Type 0} → ℕ → (ℕ → ℕ → A) → ℕ → A
-flat k f j = f (j / k) (j % k)
-
-abbrev pub nth : ℕ → ℕ → ℕ → ℕ
-nth k n i = n * k + i
+use Rattle.streams.specs.View.{flat, nth}
 
 module _ {A : Type 0} (k n i : ℕ) (h : i < k) (f : ℕ → ℕ → A) where
   pub flat-at : flat k f (nth k n i) ≡ f n i

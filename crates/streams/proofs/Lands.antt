@@ -30,7 +30,8 @@ use Rattle.kept.proofs.Found.{Ours}
 use Rattle.kept.proofs.Steps.{as-long}
 use Rattle.streams.specs.Model.{upd, portNo, Place, ToChannel, ToUnit, placeOf, Into, Net}
 use Rattle.streams.specs.Events.{Lands, effect}
-use Rattle.streams.proofs.View.{view, outBy, outs, net-as, out-put, view-queue, view-out, emptied-seen}
+use Rattle.streams.specs.View.{view, outBy, outs}
+use Rattle.streams.proofs.View.{net-as, out-put, view-queue, view-out, emptied-seen}
 use Rattle.streams.proofs.View.{Alike, alike, alike-then, unseen}
 use Rattle.streams.proofs.Acts.{Does, alike-claimed}
 use Rattle.streams.proofs.Fronts.{Reads, reads, this-node}

@@ -22,3 +22,4 @@ pub mod Calls
 pub mod Agree
 pub mod Misreads
 pub mod Faithfully
+pub mod Answers

@@ -44,6 +44,7 @@ use Rattle.bench.specs.Calls.{Call, Fresh, Wire, Set, Aim, Output, Input, Step,
 use Rattle.bench.specs.Writes.{hopClosed}
 use Rattle.kept.specs.Kept.{Kept}
 use Rattle.kept.proofs.Parts.{kept-sound}
+use Rattle.kept.proofs.Opens.{Headed}
 use Rattle.kept.proofs.Found.{Found, idle, waits, splits, unrouted, routes, landsChannel, landsUnit, step-found}
 use Rattle.kept.proofs.Found.{moves, hands, hears, drops}
 use Rattle.kept.proofs.Calls.{step-there}
@@ -97,7 +98,7 @@ module _ (w : World) (n p : ℕ) where
   shut-is Hops.Unit e = clash (sym e)
   shut-is (Hops.Dropped x) e = clash (sym e)
 
-  not-misread : Unsplit → misread w n p ≡ false
+  pub not-misread : Unsplit → misread w n p ≡ false
   not-misread h =
       by-test (portAt (w .net) n p)
       (λ a. rw a (by-test (isShut (hop (w .net) n p))
@@ -107,7 +108,12 @@ module _ (w : World) (n p : ℕ) where
       (λ b. rw b)))
       (λ a. rw a)
 
-  goes-on : {x : Hop} → hop (w .net) n p ≡ x → (Hops.Shut ≡ x → ⊥) → Unsplit
+  pub is-misread : n < w .net .nodes → p < ports → Headed w n p
+      → sameWidth (markedWidth (wordAt w n p 0)) (widthAt (w .net) n) ≡ false
+      → misread w n p ≡ true
+  is-misread hn hp z f = rw (lt-ltb n (w .net .nodes) hn, lt-ltb p ports hp, z .shut, le-leb _ _ (z .whole), f)
+
+  pub goes-on : {x : Hop} → hop (w .net) n p ≡ x → (Hops.Shut ≡ x → ⊥) → Unsplit
   goes-on e ne shut whole = absurd (ne (sym shut ∙ e))
 
   mild : (vs : List Event) → Unsplit → MildAll vs → SplitBy (misread w n p) (portNo n p) vs
@@ -118,9 +124,7 @@ module _ (w : World) (n p : ℕ) where
       mild [] (λ shut whole. absurd (omega (arith, size-some (markedWidth (wordAt w n p 0)), whole, none))) tt
   split-found hn hp (waits unsplit) = mild [] unsplit tt
   split-found hn hp (splits z f) =
-      let is : misread w n p ≡ true =
-      rw (lt-ltb n (w .net .nodes) hn, lt-ltb p ports hp, z .shut, le-leb _ _ (z .whole), f) in
-      rw is ([], refl, tt)
+      rw (is-misread hn hp z f) ([], refl, tt)
   split-found hn hp (unrouted z) = mild _ (λ shut whole. z .fits) (tt, tt)
   split-found hn hp (routes z l hl free on) = mild _ (λ shut whole. z .fits) (tt, tt)
   split-found hn hp (landsChannel z m c t named door there tile claim) = mild _ (λ shut whole. z .legible .fits) (tt, tt)

@@ -43,10 +43,11 @@ use Rattle.kept.proofs.Messages.{Address, Ready}
 use Rattle.streams.specs.Model.{upd, pushAll, Plain, placeOf, portNo, doorNo, doorsEach, unitDoor, isLink, Closed, Through}
 use Rattle.streams.specs.Model.{Direct, Net}
 use Rattle.streams.specs.Events.{Event, Opens, Puts, Starts, Tells, effect}
+use Rattle.streams.specs.View.{view, senderBy, senderOf}
 use Rattle.streams.proofs.Machine.{Leads}
 use Rattle.streams.proofs.Basics.{upd-same}
 use Rattle.streams.proofs.Flat.{flat-at}
-use Rattle.streams.proofs.View.{view, senderBy, senderOf, net-as, busy-put, view-busy, filled-seen, Alike, alike-then, unseen}
+use Rattle.streams.proofs.View.{net-as, busy-put, view-busy, filled-seen, Alike, alike-then, unseen}
 use Rattle.streams.proofs.Acts.{alike-claimed, alike-handed}
 use Rattle.streams.proofs.Fronts.{this-node}
 use Rattle.streams.proofs.Sends.{upd-upd, upd-own, behindIn, putEach, puts-all, opens-all}

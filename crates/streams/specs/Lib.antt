@@ -3,5 +3,6 @@ pub mod Model
 pub mod Events
 pub mod Demand
 pub mod Watch
+pub mod View
 pub mod Observer
 pub mod Statement

@@ -1,4 +1,4 @@
--- What is written down of a run of calls on a bench of n boards, from Fresh on.
+-- What an observer has written down of a run of calls on a bench of n boards, from Fresh on.
 use Prim.Native.Nat.{ℕ}
 use mathlib.Core.List.{List}
 use Rattle.cells.specs.World.{World}
@@ -7,6 +7,6 @@ use Rattle.bench.specs.Calls.{Call, apply}
 use Rattle.streams.specs.Watch.{Seen, unseen, seen}
 use Rattle.streams.specs.Observer.{write, anew, misreads, portIn}
 
-abbrev pub written : ℕ → List Call → Seen
-written n cs =
+abbrev pub observed : ℕ → List Call → Seen
+observed n cs =
     seen (λ (w : World) (c : Call). apply w c .next) anew (λ w c. apply w c .answer) write misreads portIn (freshWorld n) unseen cs
