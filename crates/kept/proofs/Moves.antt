@@ -18,8 +18,7 @@ use Rattle.circuits.specs.declared.Cause.{Cause}
 use Rattle.circuits.specs.declared.Circuit.{Circuit}
 use Rattle.circuits.specs.declared.Hop.{Hop}
 use Rattle.circuits.specs.declared.Hop.the-variants.{Shut, Out, Dropped}
-use Rattle.circuits.specs.declared.Peer.{Peer}
-use Rattle.circuits.specs.declared.Peer.the-variants.{Nobody, Port, End}
+use Rattle.circuits.specs.declared.Peer.the-variants.{Nobody, Port}
 use Rattle.tokens.specs.Word.{closes}
 use Rattle.tokens.specs.Shape.{shapeOf}
 use Rattle.ports.specs.Queue.{Fair, putCounters}
@@ -33,7 +32,7 @@ use Rattle.cells.specs.World.{World, shaped, farOf, hop, queue}
 use Rattle.cells.specs.declared.link.Cable.{Cable}
 use Rattle.cells.specs.declared.link.Far.{Far}
 use Rattle.cells.specs.declared.link.Far.the-variants.{Nowhere, At}
-use Rattle.clauses.specs.Pairs.{portOf, linkOf, tileOf, unitOf, claimOf}
+use Rattle.clauses.specs.Pairs.{linkOf, tileOf, unitOf, claimOf}
 use Rattle.clauses.specs.declared.pairs.Named.the-variants.{One}
 use Rattle.acts.specs.Acts.{withNet, pushed, popped, firstAt, legOf, shut, linkedTo}
 use Rattle.acts.specs.Needs.{Room, Holds}
@@ -44,7 +43,7 @@ use Rattle.kept.proofs.Money.{money-cross, greeted-credit, up-more}
 use Rattle.kept.proofs.Fills.{Filled, filled-one}
 use Rattle.kept.proofs.Links.{keep-considered}
 use Rattle.kept.proofs.Rooms.{reaches}
-use Rattle.kept.proofs.Stages.{tile-there, carried-same, fed-away, used-by}
+use Rattle.kept.proofs.Stages.{tile-there, carried-same, fed-away, used-by, names-port}
 use Rattle.kept.proofs.Walks.{Put, put, closes-fresh, crossed-next, crossed-after}
 use Rattle.kept.proofs.Leaves.{taken-is, shutIf, left, left-is, Left, pair-left, leaves}
 
@@ -106,12 +105,6 @@ module _ {y u : World} {n p x : ℕ} (f : Filled y u n p (x ∷ [])) (good : isB
 
   pub put-off : (a i : ℕ) → i < ports → Off n p a i → backAt u a i ≡ backAt y a i
   put-off a i h o = off-port backOf a i h o
-
--- a peer that names a port is that port
-names-port : (x : Peer) (p : ℕ) → portOf x ≡ One p → x ≡ Port p
-names-port Nobody p e = never (cc)
-names-port (Port q) p e = let d : q ≡ p = cc in ap Port d
-names-port (End c) p e = never (cc)
 
 -- a cable that leads somewhere is there
 leads-wired : (k : Cable) (m : Slot) (j : ℕ) → farOf k ≡ At m j → k .wired ≡ 1

@@ -57,7 +57,7 @@ use Rattle.kept.proofs.Headers.{header-walk, header-size, past-header, 
 use Rattle.kept.proofs.Tables.{all-upd, pair-first}
 use Rattle.kept.proofs.Money.{money-free}
 use Rattle.kept.proofs.Fills.{Filled, filled-one, filled-then, filled-all, filled-room}
-use Rattle.kept.proofs.Stages.{tile-there, carried-same}
+use Rattle.kept.proofs.Stages.{tile-there, carried-same, names-port}
 use Rattle.kept.proofs.Ends.{Sender, until, pair-until, sending-ok, sending-aimed, sending-goes}
 
 -- A PORT THAT NO CABLE LEADS TO IS FILLED
@@ -255,11 +255,6 @@ module _ (w : World) (n p : ℕ) (c : Counters) {m ts : List ℕ} (f : Filled w 
     first-back : backAt (after w n p c m) n p ≡ walk Fresh ts
     first-back = rw (shut, f .here, nothing-held w n p held)
 
-pub port-named : (x : Peer) (p : ℕ) → portOf x ≡ One p → x ≡ Port p
-port-named Nobody p e = never (cc)
-port-named (Port q) p e = ap Port (cc)
-port-named (End d) p e = never (cc)
-
 -- no channel-end sends by it
 pub unsent : (w : World) → Kept w → (n p : ℕ) → n < w .net .nodes → p < ports → Free (w .net .ports .legs n p) (w .net .ports .counters n p)
     → endIn (w .net .ports .senders n p) ≡ Nothing
@@ -269,7 +264,7 @@ unsent w k n p hn hp f = go (endIn (w .net .ports .senders n p)) refl
     go Nothing e = refl
     go (One d) e =
         let y = k .endPort .back n p hn hp d e in
-        let body = k .backs .sends n d hn (y .0) p (port-named (peerOf (w .net .ends .sendings n d)) p (y .1)) in
+        let body = k .backs .sends n d hn (y .0) p (names-port (peerOf (w .net .ends .sendings n d)) p (y .1)) in
         never (let fresh = free-fresh w n p f in cc)
 
 -- what is aimed at can be named

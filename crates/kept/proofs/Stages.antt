@@ -66,6 +66,12 @@ carried-same (End e) f f′ h = refl
 pub used-by : (x : Peer) (q : ℕ) → x ≡ Port q → portOf x ≡ One q
 used-by x q e = ap portOf e
 
+-- a peer that names a port is that port
+pub names-port : (x : Peer) (p : ℕ) → portOf x ≡ One p → x ≡ Port p
+names-port Nobody p e = never (cc)
+names-port (Port q) p e = let d : q ≡ p = cc in ap Port d
+names-port (End c) p e = never (cc)
+
 -- port p of node n sends over no link, and ports end where they did
 pub fed-away : {N : ℕ} {cables : ℕ → ℕ → Cable} {legs : ℕ → ℕ → Leg} {users : ℕ → ℕ → Circuit} {f f′ b b′ : ℕ → ℕ → Stage} (n p : ℕ)
     → Pair N ports links legLink portIn legs users
