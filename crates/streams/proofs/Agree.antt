@@ -49,7 +49,7 @@ use Rattle.kept.proofs.Found.{Ours, Going, Found, idle, waits, splits, unrouted
 use Rattle.kept.proofs.Found.{moves, hands, hears, drops}
 use Rattle.kept.proofs.Chosen as Chosen
 use Rattle.kept.proofs.Calls.{output-sender, step-there}
-use Rattle.streams.specs.Model.{hd, push, Place, ToChannel, ToUnit, portNo, doorNo, unitDoor, isLink, Cell, Books}
+use Rattle.streams.specs.Model.{hd, push, Place, ToChannel, ToUnit, portNo, doorNo, unitDoor, isLink, Cell, Books, Notes}
 use Rattle.streams.specs.Events.{Opens, Lands, Hands, Ghost, booksOf, note, notes}
 use Rattle.streams.specs.Demand.{tokensOf}
 use Rattle.streams.specs.Observer.{putAll, landed, writeThrough, writeWay, writeFirst, writeOutput}
@@ -57,9 +57,10 @@ use Rattle.streams.specs.Observer.{writeReply, writeObeyed, writeStep, w
 use Rattle.streams.specs.View.{view}
 use Rattle.streams.proofs.Basics.{upd-same, passes}
 use Rattle.streams.proofs.Inv.{Inv}
-use Rattle.streams.proofs.Machine.{line-tokens}
+use Rattle.streams.proofs.Machine.{line-tokens, no-cells}
 use Rattle.streams.proofs.Fronts.{reads}
 use Rattle.streams.proofs.Sends.{putEach}
+use Rattle.streams.proofs.Tells.{AimsNoted}
 use Rattle.streams.proofs.Calls.{replyEvents, obeyEvents, stepEvents, outputEvents, madeEvents, eventsOf, not-fresh}
 
 -- tokens put one by one
@@ -84,7 +85,7 @@ module _ (w : World) (n c t : ℕ) where
   first-here g m d k named here = rw (named, here)
 
   output-agrees : (g : Ghost) {x : Sents.Plan} → Chosen.Found w n c t x → isNarrowPlan x ≡ false → isFullPlan x ≡ false
-      → writeOutput w n c t (peerOf (w .net .ends .sendings n c)) (booksOf g)
+      → writeOutput w n c (targetOf (w .net .ends .aims n c)) t (peerOf (w .net .ends .sendings n c)) (booksOf g)
       ≡ booksOf (notes (outputEvents w n c (targetOf (w .net .ends .aims n c)) t x) g)
   unfolding note
   output-agrees g Chosen.narrow e f = clash e
@@ -121,10 +122,6 @@ obey-agrees w n (Write g r v) k write malformed unheard sent =
     reply-agrees (withNet w (written (w .net) n xs)) n k write unheard g (pick (accepted (w .net) n xs) Ack Nack) sent
 
 -- STEP
-no-cells : (cs : List Cell) → [] ≡ tokensOf cs → cs ≡ []
-no-cells [] e = refl
-no-cells (x ∷ cs) e = never (cc)
-
 module _ (w : World) (k : Kept w) (n p : ℕ) (g : Ghost) (iv : Inv isLink (view w) g) where
   abbrev Agrees : Steps.Plan → Type 0
   Agrees x = writeStep w n p (stepPerformed w n p x .answer) (booksOf g) ≡ booksOf (notes (stepEvents w n p x) g)
@@ -173,10 +170,10 @@ module _ (w : World) (k : Kept w) (n p : ℕ) (g : Ghost) (iv : Inv isLink (view
   step-agrees (hears z) = hear-agrees z
   step-agrees (drops x z) = refl
 
--- EVERY CALL
-module _ (w : World) (k : Kept w) (g : Ghost) (iv : Inv isLink (view w) g) where
+-- EVERY CALL; a channel-end that is aimed is aimed where the notes say
+module _ (w : World) (k : Kept w) (g : Ghost) (iv : Inv isLink (view w) g) (o : Notes) (aims : AimsNoted w o) where
   made-agrees : (c : Call) → Passes (rows w c) → isFresh c ≡ false
-      → write w c (made w c .answer) (booksOf g) ≡ booksOf (notes (madeEvents w c) g)
+      → write o w c (made w c .answer) (booksOf g) ≡ booksOf (notes (madeEvents w c) g)
   unfolding note
   made-agrees (Fresh n) p e = clash e
   made-agrees (Wire a l b j) p e = refl
@@ -185,13 +182,14 @@ module _ (w : World) (k : Kept w) (g : Ghost) (iv : Inv isLink (view w) g) where
   made-agrees (Output a c x) p e =
       let s = output-sender w (a .0) c x (p .1) in
       let plan = p .1 .1 .1 .1 .1 in
-      output-agrees w (a .0) c (wordOf x) g (Chosen.output-found w k (a .0) c (wordOf x) s) (plan .0) (plan .1 .0)
+      rw (aims (a .0) c (s .end) (s .aimed))
+      (output-agrees w (a .0) c (wordOf x) g (Chosen.output-found w k (a .0) c (wordOf x) s) (plan .0) (plan .1 .0))
   made-agrees (Input a c x) p e = refl
   made-agrees (Step a p) q e =
       let there = step-there w (a .0) p (q .1) in
       step-agrees w k (a .0) p g iv (step-found w k (a .0) p (there .0) (there .1))
 
-  refused-agrees : (c : Call) (r : ℕ) → write w c (Answers.No r) (booksOf g) ≡ booksOf g
+  refused-agrees : (c : Call) (r : ℕ) → write o w c (Answers.No r) (booksOf g) ≡ booksOf g
   refused-agrees (Fresh n) r = refl
   refused-agrees (Wire a l b j) r = refl
   refused-agrees (Set a x) r = refl
@@ -200,7 +198,7 @@ module _ (w : World) (k : Kept w) (g : Ghost) (iv : Inv isLink (view w) g) where
   refused-agrees (Input a c x) r = refl
   refused-agrees (Step a p) r = refl
 
-  pub call-agrees : (c : Call) → anew w c ≡ false → write w c (apply w c .answer) (booksOf g) ≡ booksOf (notes (eventsOf w c) g)
+  pub call-agrees : (c : Call) → anew w c ≡ false → write o w c (apply w c .answer) (booksOf g) ≡ booksOf (notes (eventsOf w c) g)
   unfolding apply
   call-agrees c e =
       by-test (done w c)

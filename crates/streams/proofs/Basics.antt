@@ -1,5 +1,6 @@
 -- What the proof of demand 3 is made of: entries of tables; chains, which are cells that follow each other in their circuits' streams;
 -- heads, which are the first cells of circuits; stretches of a stream. Assumes nothing.
+use Prim.{tt}
 use Prim.Native.Nat.{ℕ, zero, suc, _+_, _≤_, _<_}
 use mathlib.Core.Path.{_≡_, refl, sym, ap, _∙_, fun-ext}
 use mathlib.Core.Bool.{true, false}
@@ -11,11 +12,12 @@ use lib.Dec.{eqb}
 use lib.ListN.{length, drop, getD, length-append, List·getD-append}
 use lib.Seq.{drop-cons}
 use borrow.Author.Tests.{eq-eqb, ne-eqb}
+use Rattle.laws.specs.All.{Each}
 use Rattle.laws.specs.Pick.{pick}
 use Rattle.laws.proofs.Order.{by-test, never}
 use Rattle.names.specs.declared.NodeNumber.{NodeNumber}
 use Rattle.tokens.specs.Word.{closes}
-use Rattle.streams.specs.Model.{Plain, Via, Nobody, By, Through, Cell, Landed, Here, upd, tl, pop, push, cellsOf}
+use Rattle.streams.specs.Model.{Plain, Via, Nobody, By, Through, Cell, Landed, Here, upd, tl, pop, push, pushAll, cellsOf}
 use Rattle.streams.specs.Events.{Cursor, Idle, At, next, headTo}
 use Rattle.streams.specs.Demand.{tokensOf}
 
@@ -42,6 +44,21 @@ module _ {ℓ} {A : Type ℓ} where
 pub at-or : (P : ℕ → Type 0) (i : ℕ) → P i → ((j : ℕ) → (j ≡ i → ⊥) → P j) → (j : ℕ) → P j
 at-or P i h k j = elim (ℕ-discrete j i) [ yes e ↦ rw e h | no ne ↦ k j ne ]
 
+-- an entry written twice, and one written as it was
+pub upd-upd : {A : Type 0} (f : ℕ → A) (i : ℕ) (a b : A) → upd (upd f i a) i b ≡ upd f i b
+upd-upd f i a b =
+    fun-ext (λ j. elim (ℕ-discrete j i) [
+      | yes e ↦ upd-hit (upd f i a) i b j e ∙ sym (upd-hit f i b j e)
+      | no e ↦ upd-miss (upd f i a) i b j e ∙ upd-miss f i a j e ∙ sym (upd-miss f i b j e)
+    ])
+
+pub upd-own : {A : Type 0} (f : ℕ → A) (i : ℕ) (a : A) → f i ≡ a → upd f i a ≡ f
+upd-own f i a e =
+    fun-ext (λ j. elim (ℕ-discrete j i) [
+      | yes d ↦ upd-hit f i a j d ∙ sym e ∙ ap f (sym d)
+      | no d ↦ upd-miss f i a j d
+    ])
+
 -- what is put at the back of an empty list and taken off its front
 pub passes : {A : Type 0} (f : ℕ → List A) (l : ℕ) (x : A) → f l ≡ [] → pop (push f l x) l ≡ f
 passes f l x e =
@@ -50,6 +67,23 @@ passes f l x e =
       | yes d ↦ upd-hit (push f l x) l (tl (push f l x l)) j d ∙ ap tl q ∙ sym e ∙ ap f (sym d)
       | no ne ↦ upd-miss (push f l x) l (tl (push f l x l)) j ne ∙ upd-miss f l (f l ++ (x ∷ [])) j ne
     ])
+
+-- what is put at the back of one list of a table
+pub pushed-at {ℓ} : {A : Type ℓ} (f : ℕ → List A) (d : ℕ) (xs : List A) (j : ℕ) → pushAll f d xs j ≡ f j ++ pick (eqb d j) xs []
+pushed-at f d xs j =
+    elim (ℕ-discrete j d) [
+      | yes e ↦ rw (e, upd-same f d (f d ++ xs), eq-eqb d d refl)
+      | no ne ↦ rw (upd-miss f d (f d ++ xs) j ne, ne-eqb d j (λ e. ne (sym e))) (sym (append-nil (f j)))
+    ]
+
+-- what holds of each of a list
+pub each-map : {A : Type 0} (P Q : A → Type 0) → ((x : A) → P x → Q x) → (xs : List A) → Each P xs → Each Q xs
+each-map P Q f [] h = tt
+each-map P Q f (x ∷ xs) (h, hs) = (f x h, each-map P Q f xs hs)
+
+pub each-append : {A : Type 0} (P : A → Type 0) (xs ys : List A) → Each P xs → Each P ys → Each P (xs ++ ys)
+each-append P [] ys h k = k
+each-append P (x ∷ xs) ys (h, hs) k = (h, each-append P xs ys hs k)
 
 -- WHAT IS THE SAME, OF THE SAME
 pub via-same : {l m : ℕ} → Via l ≡ Via m → l ≡ m

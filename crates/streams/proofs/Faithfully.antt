@@ -10,15 +10,16 @@ use Rattle.bench.specs.Runs.{run}
 use Rattle.bench.proofs.Lasts.{call-keeps, fresh-keeps}
 use Rattle.kept.specs.Kept.{Kept}
 use Rattle.streams.specs.Model.{isLink, Fate, Flying}
-use Rattle.streams.specs.Demand.{Demand3}
+use Rattle.streams.specs.Demand.{Demand3, Ties}
 use Rattle.streams.specs.Watch.{NoneAnew, runAll}
-use Rattle.streams.specs.Observer.{write, anew, misreads, portIn}
+use Rattle.streams.specs.Observer.{write, jot, anew, misreads, portIn}
 use Rattle.streams.specs.Statement.{observed}
 use Rattle.streams.specs.View.{view}
 use Rattle.streams.proofs.Machine.{Machine}
 use Rattle.streams.proofs.Splits.{Reading}
-use Rattle.streams.proofs.Seen.{Observer, fate-once, demand-3}
+use Rattle.streams.proofs.Seen.{Observer, fate-once, demand-3, so-tied}
 use Rattle.streams.proofs.Calls.{eventsOf, call-leads, fresh-view, fresh-seen}
+use Rattle.streams.proofs.Ties.{Tied, tied-fresh, tied-anew, tied-call, ties-so}
 use Rattle.streams.proofs.Agree.{call-agrees}
 use Rattle.streams.proofs.Misreads.{call-splits}
 
@@ -47,7 +48,12 @@ module _ (n : ℕ) (some : 1 ≤ n) (few : n ≤ nodes) where
         Answer = _;
         answer = λ w c. apply w c .answer;
         write = write;
-        agrees = λ w g c k e. call-agrees w (k .sane) g (k .inv) c e;
+        jot = jot;
+        Tied = Tied;
+        tied-fresh = tied-fresh n;
+        tied-anew = tied-anew;
+        tied-call = λ w g c o k t e. tied-call w (k .sane) g (k .inv) o t c e;
+        agrees = λ w g c o k t e. call-agrees w (k .sane) g (k .inv) o (t .aims) c e;
       }
 
   abbrev reading : Reading isLink machine
@@ -57,9 +63,15 @@ module _ (n : ℕ) (some : 1 ≤ n) (few : n ≤ nodes) where
   left [] w = refl
   left (c ∷ cs) w = left cs (apply w c .next)
 
-  -- after any calls: what the bench holds, what was written down, and the circuits whose header a switch of the other width has read
-  pub bench-3 : (cs : List Call) → Demand3 (view (run (freshWorld n) cs .last)) (observed n cs .books) (observed n cs .misread)
-  bench-3 cs = rw (left cs (freshWorld n)) (demand-3 isLink machine observer reading cs)
+  -- after any calls: what was written down is what the order demands
+  pub bench-3 : (cs : List Call) → Demand3 (observed n cs .books) (observed n cs .misread)
+  bench-3 cs = demand-3 isLink machine observer reading cs
+
+  -- .. and is of the bench that the calls were made on
+  pub bench-ties : (cs : List Call) → Ties (run (freshWorld n) cs .last) (observed n cs .books) (observed n cs .notes)
+  bench-ties cs =
+      rw (left cs (freshWorld n)) (so-tied isLink machine observer reading Ties
+      (λ w g o k t. ties-so w (k .sane) g (k .inv) o t) cs)
 
   -- what became of a circuit stays, until a Fresh is done: it is handed at one place only
   pub fate-stays : (cs ds : List Call) (c : ℕ) (f : Fate) → (f ≡ Flying → ⊥)

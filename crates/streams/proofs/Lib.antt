@@ -8,6 +8,9 @@ pub mod Senders
 pub mod Theorem
 pub mod Places
 pub mod Logs
+pub mod Sendings
+pub mod Handings
+pub mod Indoors
 pub mod Machine
 pub mod Splits
 pub mod Seen
@@ -19,6 +22,10 @@ pub mod Lands
 pub mod Sends
 pub mod Outputs
 pub mod Calls
+pub mod Filling
+pub mod Tells
+pub mod Hearing
+pub mod Ties
 pub mod Agree
 pub mod Misreads
 pub mod Faithfully

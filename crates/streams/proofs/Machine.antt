@@ -5,8 +5,8 @@ use mathlib.Core.Path.{_≡_, refl, sym, ap, _∙_}
 use mathlib.Core.Bool.{Bool, true, false}
 use mathlib.Core.List.{List, [], _∷_, _++_}
 use Rattle.laws.specs.Pick.{pick}
-use Rattle.laws.proofs.Order.{by-test}
-use Rattle.streams.specs.Model.{Use, Nobody, By, Net, Fate, Flying}
+use Rattle.laws.proofs.Order.{by-test, never}
+use Rattle.streams.specs.Model.{Use, Nobody, By, Net, Cell, Fate, Flying}
 use Rattle.streams.specs.Events.{Event, Ghost, booksOf, effect, note, effects, notes, empty, blank, OkAll}
 use Rattle.streams.specs.Demand.{Faithful, tokensOf}
 use Rattle.streams.specs.Watch.{runAll, NoneAnew}
@@ -23,6 +23,11 @@ effects-append (v ∷ vs) ws n = effects-append vs ws (effect v n)
 pub notes-append : (vs ws : List Event) (g : Ghost) → notes (vs ++ ws) g ≡ notes ws (notes vs g)
 notes-append [] ws g = refl
 notes-append (v ∷ vs) ws g = notes-append vs ws (note v g)
+
+-- where there are no tokens there are no cells
+pub no-cells : (cs : List Cell) → [] ≡ tokensOf cs → cs ≡ []
+no-cells [] e = refl
+no-cells (x ∷ cs) e = never (cc)
 
 module _ (link : ℕ → Bool) where
   ok-append : (vs ws : List Event) (n : Net) → OkAll link vs n → OkAll link ws (effects vs n) → OkAll link (vs ++ ws) n
@@ -144,13 +149,6 @@ module _ (link : ℕ → Bool) (m : Machine link) where
 
     pub circuits-true : (c : ℕ) → Faithful (booksOf watched) c
     circuits-true = faithful link (m .view reached) watched reached-inv
-
-    -- the books' cells, their marks taken off, are the tokens of the ports and of the lines
-    pub ports-true : (p : ℕ) → m .view reached .queue p ≡ tokensOf (watched .cells p)
-    ports-true p = reached-inv .ports p .tokens
-
-    pub lines-true : (l : ℕ) → m .view reached .line l ≡ tokensOf (watched .on l)
-    lines-true = line-tokens link (m .view reached) watched reached-inv
 
     pub logs-true : LoggedIn watched
     logs-true = logs-run cs (m .fresh) blank fresh-good start-log

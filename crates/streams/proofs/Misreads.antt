@@ -8,6 +8,7 @@ use mathlib.Core.List.{List, [], _∷_, _++_}
 use native.Mathlib.Omega.{arith}
 use lib.Dec.{leb}
 use borrow.Author.Tests.{lt-ltb, le-leb, leb-true}
+use Rattle.laws.specs.All.{Each}
 use Rattle.laws.specs.Pick.{pick}
 use Rattle.laws.proofs.Order.{by-test, clash, never}
 use Rattle.names.specs.Size.{ports, replyPort}
@@ -51,34 +52,19 @@ use Rattle.kept.proofs.Calls.{step-there}
 use Rattle.streams.specs.Model.{portNo, doorNo, unitDoor}
 use Rattle.streams.specs.Events.{Event}
 use Rattle.streams.specs.Observer.{done, isShut, misread, misreads, portIn}
-use Rattle.streams.proofs.Splits.{MildAll, SplitBy}
+use Rattle.streams.proofs.Basics.{each-map}
+use Rattle.streams.proofs.Splits.{Mild, SplitBy}
 use Rattle.streams.proofs.Sends.{putEach}
-use Rattle.streams.proofs.Calls.{replyEvents, obeyEvents, straightEvents, stepEvents, outputEvents, madeEvents, eventsOf}
+use Rattle.streams.proofs.Filling.{Fills, obey-fills, fills-mild}
+use Rattle.streams.proofs.Calls.{obeyEvents, straightEvents, stepEvents, outputEvents, madeEvents, eventsOf}
 
 -- what senders do refuses nothing
-mild-puts : (ts : List ℕ) (e d : ℕ) → MildAll (putEach e d ts)
-mild-puts [] e d = tt
-mild-puts (t ∷ ts) e d = (tt, mild-puts ts e d)
-
-mild-reply : (w : World) (n : ℕ) (g : Target) (x : Reply) → MildAll (replyEvents w n g x)
-mild-reply w n g x =
-    by-test (isNarrow (headerOf g (widthAt (w .net) n)))
-    (λ e. rw e tt)
-    (λ e. rw e (tt, mild-puts (said x ++ (controlWord end ∷ [])) (doorNo n unitDoor) (portNo n replyPort)))
-
-mild-obeyed : (w : World) (n : ℕ) (m : Message) → MildAll (obeyEvents w n m)
-mild-obeyed w n Malformed = tt
-mild-obeyed w n (Wrong g) = mild-reply w n g Nack
-mild-obeyed w n (Read g r) = mild-reply w n g (Value (readOf (w .net) n r))
-mild-obeyed w n (Write g r v) =
-    mild-reply (withNet w (written (w .net) n (fieldsOf r v))) n g (pick (accepted (w .net) n (fieldsOf r v)) Ack Nack)
-
-mild-straight : (w : World) (n c : ℕ) (g : Target) (d t : ℕ) (x : Peer) → MildAll (straightEvents w n c g d t x)
+mild-straight : (w : World) (n c : ℕ) (g : Target) (d t : ℕ) (x : Peer) → Each Mild (straightEvents w n c g d t x)
 mild-straight w n c g d t Peers.Nobody = (tt, (tt, tt))
 mild-straight w n c g d t (Peers.Port p) = (tt, tt)
 mild-straight w n c g d t (Peers.End e) = (tt, tt)
 
-mild-output : (w : World) (n c : ℕ) (g : Target) (t : ℕ) (x : Sents.Plan) → MildAll (outputEvents w n c g t x)
+mild-output : (w : World) (n c : ℕ) (g : Target) (t : ℕ) (x : Sents.Plan) → Each Mild (outputEvents w n c g t x)
 mild-output w n c g t Sent.Narrow = tt
 mild-output w n c g t Sent.Full = tt
 mild-output w n c g t (Sent.Opens p) = (tt, (tt, tt))
@@ -116,7 +102,7 @@ module _ (w : World) (n p : ℕ) where
   pub goes-on : {x : Hop} → hop (w .net) n p ≡ x → (Hops.Shut ≡ x → ⊥) → Unsplit
   goes-on e ne shut whole = absurd (ne (sym shut ∙ e))
 
-  mild : (vs : List Event) → Unsplit → MildAll vs → SplitBy (misread w n p) (portNo n p) vs
+  mild : (vs : List Event) → Unsplit → Each Mild vs → SplitBy (misread w n p) (portNo n p) vs
   mild vs h m = rw (not-misread h) m
 
   split-found : n < w .net .nodes → p < ports → {x : Plan} → Found w n p x → SplitBy (misread w n p) (portNo n p) (stepEvents w n p x)
@@ -135,7 +121,10 @@ module _ (w : World) (n p : ℕ) where
       mild _ (goes-on (z .goes) (λ e. never (cc))) (
         tt,
         by-test (closes (firstAt w n p))
-            (λ e. rw e (mild-obeyed (hopClosed w n p) n (messageOf (hopClosed w n p .net .units .hearings n 0) (firstAt w n p))))
+            (λ e.
+            let y = hopClosed w n p in
+            let m = messageOf (y .net .units .hearings n 0) (firstAt w n p) in
+            rw e (each-map (Fills (doorNo n unitDoor)) Mild (λ v h. fills-mild h) (obeyEvents y n m) (obey-fills y n m)))
             (λ e. rw e tt),
       )
   split-found hn hp (drops x z) = mild _ (goes-on (z .goes) (λ e. never (cc))) (tt, tt)

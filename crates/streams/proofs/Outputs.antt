@@ -45,12 +45,12 @@ use Rattle.streams.specs.Model.{Direct, Net}
 use Rattle.streams.specs.Events.{Event, Opens, Puts, Starts, Tells, effect}
 use Rattle.streams.specs.View.{view, senderBy, senderOf}
 use Rattle.streams.proofs.Machine.{Leads}
-use Rattle.streams.proofs.Basics.{upd-same}
+use Rattle.streams.proofs.Basics.{upd-same, upd-upd, upd-own}
 use Rattle.streams.proofs.Flat.{flat-at}
 use Rattle.streams.proofs.View.{net-as, busy-put, view-busy, filled-seen, Alike, alike-then, unseen}
 use Rattle.streams.proofs.Acts.{alike-claimed, alike-handed}
 use Rattle.streams.proofs.Fronts.{this-node}
-use Rattle.streams.proofs.Sends.{upd-upd, upd-own, behindIn, putEach, puts-all, opens-all}
+use Rattle.streams.proofs.Sends.{behindIn, putEach, puts-all, opens-all}
 
 -- the same events, to a view that is the same
 pub leads-to : {vs : List Event} {n n′ n″ : Net} → n″ ≡ n′ → Leads isLink vs n n′ → Leads isLink vs n n″

@@ -7,23 +7,29 @@ use mathlib.Core.List.{List, [], _∷_, _++_}
 use Rattle.laws.specs.Pick.{pick}
 use Rattle.laws.proofs.Order.{by-test}
 use Rattle.circuits.specs.declared.Cause.the-variants.{Split}
-use Rattle.streams.specs.Model.{Fate, Flying, Books, noBooks, upd, hd}
+use Rattle.streams.specs.Model.{Fate, Flying, Books, noBooks, Notes, noNotes, upd, hd}
 use Rattle.streams.specs.Events.{Ghost, booksOf, notes, blank}
 use Rattle.streams.specs.Demand.{Demand3}
-use Rattle.streams.specs.Watch.{Seen, unseen, NoneAnew, sees, seen}
-use Rattle.streams.proofs.Places.{handed-there}
+use Rattle.streams.specs.Watch.{Seen, unseen, NoneAnew, runAll, sees, seen}
 use Rattle.streams.proofs.Machine.{Machine, noted, watch, Good-state, call-keeps, always, fresh-good, fate-stays-run, watch-append}
-use Rattle.streams.proofs.Machine.{reached, watched, reached-inv, circuits-true, ports-true, lines-true, logs-true}
+use Rattle.streams.proofs.Machine.{reached, watched, circuits-true, logs-true}
 use Rattle.streams.proofs.Splits.{Marks, blank-marks, marks-call, Reading}
 
 module _ (link : ℕ → Bool) (m : Machine link) where
   pub record Observer : Type 1 where
     pub Answer : Type 0
     pub answer : m .State → m .Call → Answer
-    pub write : m .State → m .Call → Answer → Books → Books
+    pub write : Notes → m .State → m .Call → Answer → Books → Books
+    pub jot : m .Call → Answer → Notes → Notes
+    -- what the state, the proof's books and the notes have to do with each other: so from the start on, and after every call
+    pub Tied : m .State → Ghost → Notes → Type 0
+    pub tied-fresh : Tied (m .fresh) blank noNotes
+    pub tied-anew : (s : m .State) (c : m .Call) → m .anew s c ≡ true → Tied (m .apply s c) blank noNotes
+    pub tied-call : (s : m .State) (g : Ghost) (c : m .Call) (k : Notes) → Good-state link m s g → Tied s g k → m .anew s c ≡ false
+        → Tied (m .apply s c) (notes (m .events s c) g) (jot c (answer s c) k)
     -- what the proof's observer writes
-    pub agrees : (s : m .State) (g : Ghost) (c : m .Call) → Good-state link m s g → m .anew s c ≡ false
-        → write s c (answer s c) (booksOf g) ≡ booksOf (notes (m .events s c) g)
+    pub agrees : (s : m .State) (g : Ghost) (c : m .Call) (k : Notes) → Good-state link m s g → Tied s g k → m .anew s c ≡ false
+        → write k s c (answer s c) (booksOf g) ≡ booksOf (notes (m .events s c) g)
 
 no-books : noBooks ≡ booksOf blank
 unfolding noBooks blank
@@ -32,42 +38,48 @@ no-books = refl
 module _ (link : ℕ → Bool) (m : Machine link) (o : Observer link m) (r : Reading link m) where
   -- what it has written after some calls
   abbrev pub sights : m .State → Seen → List (m .Call) → Seen
-  sights s k cs = seen (m .apply) (m .anew) (o .answer) (o .write) (r .misreads) (r .portIn) s k cs
+  sights s k cs = seen (m .apply) (m .anew) (o .answer) (o .write) (o .jot) (r .misreads) (r .portIn) s k cs
 
-  -- the proof's books, and a table beside them
-  abbrev both : Ghost → (ℕ → Bool) → Seen
-  both g t = record { books = booksOf g; misread = t }
+  -- the proof's books, and a table and notes beside them
+  abbrev beside : Ghost → (ℕ → Bool) → Notes → Seen
+  beside g t k = record { books = booksOf g; misread = t; notes = k }
 
-  record Same (k : Seen) (g : Ghost) : Type 0 where
+  record Same (k : Seen) (s : m .State) (g : Ghost) : Type 0 where
     table : ℕ → Bool
-    is : k ≡ both g table
+    notes : Notes
+    is : k ≡ beside g table notes
     marks : Marks g table
+    tied : o .Tied s g notes
 
-  same-call : (c : m .Call) (s : m .State) (g : Ghost) (t : ℕ → Bool) → Good-state link m s g → Marks g t
-      → Same (sees (m .apply) (m .anew) (o .answer) (o .write) (r .misreads) (r .portIn) s c (both g t)) (noted link m s c g)
-  same-call c s g t k mk =
+  same-call : (c : m .Call) (s : m .State) (g : Ghost) (t : ℕ → Bool) (k : Notes) → Good-state link m s g → Marks g t → o .Tied s g k
+      → Same (sees (m .apply) (m .anew) (o .answer) (o .write) (o .jot) (r .misreads) (r .portIn) s c (beside g t k)) (m .apply s c)
+      (noted link m s c g)
+  same-call c s g t k good mk ties =
       by-test (m .anew s c)
-      (λ e. rw e (record { table = λ c. false; is = rw no-books; marks = blank-marks }))
+      (λ e. rw e (record { table = λ c. false; notes = noNotes; is = rw no-books; marks = blank-marks; tied = o .tied-anew s c e }))
       (λ e. rw e (record {
         table = pick (r .misreads s c) (upd t (hd (g .cells (r .portIn c)) .circuit) true) t;
-        is = rw (o .agrees s g c k e);
-        marks = marks-call link (m .events s c) (m .view s) g (k .inv) (m .law s c (k .sane) e .ok) t mk (r .misreads s c) (r .portIn c)
-            (r .answers s c (k .sane) e);
+        notes = o .jot c (o .answer s c) k;
+        is = rw (o .agrees s g c k good ties e);
+        marks = marks-call link (m .events s c) (m .view s) g (good .inv) (m .law s c (good .sane) e .ok) t mk (r .misreads s c)
+            (r .portIn c) (r .answers s c (good .sane) e);
+        tied = o .tied-call s g c k good ties e;
       }))
 
-  same-run : (cs : List (m .Call)) (s : m .State) (g : Ghost) (t : ℕ → Bool) → Good-state link m s g → Marks g t
-      → Same (sights s (both g t) cs) (watch link m s g cs)
-  same-run [] s g t k mk = record { table = t; is = refl; marks = mk }
-  same-run (c ∷ cs) s g t k mk =
-      let now = same-call c s g t k mk in
-      rw (now .is) (same-run cs (m .apply s c) (noted link m s c g) (now .table) (call-keeps link m c s g k) (now .marks))
+  same-run : (cs : List (m .Call)) (s : m .State) (g : Ghost) (t : ℕ → Bool) (k : Notes) → Good-state link m s g → Marks g t → o .Tied s g k
+      → Same (sights s (beside g t k) cs) (runAll (m .apply) s cs) (watch link m s g cs)
+  same-run [] s g t k good mk ties = record { table = t; notes = k; is = refl; marks = mk; tied = ties }
+  same-run (c ∷ cs) s g t k good mk ties =
+      let now = same-call c s g t k good mk ties in
+      rw (now .is) (same-run cs (m .apply s c) (noted link m s c g) (now .table) (now .notes) (call-keeps link m c s g good) (now .marks)
+      (now .tied))
 
   -- after any calls from the start
   abbrev pub sighted : List (m .Call) → Seen
   sighted cs = sights (m .fresh) unseen cs
 
-  same : (cs : List (m .Call)) → Same (sighted cs) (watched link m cs)
-  same cs = rw no-books (same-run cs (m .fresh) blank (λ c. false) (fresh-good link m) blank-marks)
+  same : (cs : List (m .Call)) → Same (sighted cs) (reached link m cs) (watched link m cs)
+  same cs = rw no-books (same-run cs (m .fresh) blank (λ c. false) noNotes (fresh-good link m) blank-marks (o .tied-fresh))
 
   pub books-watched : (cs : List (m .Call)) → sighted cs .books ≡ booksOf (watched link m cs)
   books-watched cs = ap (λ (k : Seen). k .books) (same cs .is)
@@ -84,18 +96,22 @@ module _ (link : ℕ → Bool) (m : Machine link) (o : Observer link m) (r : Rea
       (fate-stays-run link m ds (reached link m cs) (watched link m cs) k old c f ne z′)
 
   -- THE THEOREM, of any machine
-  pub demand-3 : (cs : List (m .Call)) → Demand3 (m .view (reached link m cs)) (sighted cs .books) (sighted cs .misread)
+  pub demand-3 : (cs : List (m .Call)) → Demand3 (sighted cs .books) (sighted cs .misread)
   demand-3 cs =
-      let n = m .view (reached link m cs) in
-      let g = watched link m cs in
       let all = same cs in
       let true-of = circuits-true link m cs in
       rw (all .is) (record {
         circuits = true-of;
-        ports = ports-true link m cs;
-        lines = lines-true link m cs;
+        doors = logs-true link m cs;
         split = λ c z. all .marks c .0 z;
         split-so = λ c h. let gone = all .marks c .1 h in (gone, true-of c .refused Split gone);
-        hands-there = λ p a t q eo eq. handed-there link n g p a t (reached-inv link m cs) (q, eq, eo);
-        doors = logs-true link m cs;
       })
+
+  -- .. and what follows from the ties, whatever follows of the proof's books
+  pub so-tied : (P : m .State → Books → Notes → Type 0)
+      → ((s : m .State) (g : Ghost) (k : Notes) → Good-state link m s g → o .Tied s g k → P s (booksOf g) k)
+      → (cs : List (m .Call))
+      → P (reached link m cs) (sighted cs .books) (sighted cs .notes)
+  so-tied P h cs =
+      let all = same cs in
+      rw (all .is) (h (reached link m cs) (watched link m cs) (all .notes) (always link m cs (m .fresh) blank (fresh-good link m)) (all .tied))

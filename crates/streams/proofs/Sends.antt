@@ -1,33 +1,17 @@
 -- What a sender does, as events: a circuit opened with its header, and tokens behind it. Assumes nothing.
 use Prim.{tt}
 use Prim.Native.Nat.{ℕ, _+_}
-use mathlib.Core.Path.{_≡_, refl, sym, ap, _∙_, fun-ext}
+use mathlib.Core.Path.{_≡_, refl, sym, ap, _∙_}
 use mathlib.Core.List.{List, [], _∷_, _++_, append-assoc}
-use native.Mathlib.Decide.{ℕ-discrete}
 use Rattle.laws.specs.Pick.{pick}
 use Rattle.tokens.specs.Word.{closes}
 use Rattle.tokens.specs.declared.header.Width.{Width}
 use Rattle.tokens.specs.declared.header.Target.{Target}
 use Rattle.streams.specs.Model.{upd, pushAll, Plain, encode, isLink, Closed, Through, Net}
 use Rattle.streams.specs.Events.{Event, Opens, Puts, effect, Ok}
-use Rattle.streams.proofs.Basics.{upd-same, upd-hit, upd-miss}
+use Rattle.streams.proofs.Basics.{upd-same, upd-upd}
 use Rattle.streams.proofs.Machine.{Leads}
 use Rattle.streams.proofs.View.{net-as}
-
--- AN ENTRY WRITTEN TWICE, AND ONE WRITTEN AS IT WAS
-pub upd-upd : {A : Type 0} (f : ℕ → A) (i : ℕ) (a b : A) → upd (upd f i a) i b ≡ upd f i b
-upd-upd f i a b =
-    fun-ext (λ j. elim (ℕ-discrete j i) [
-      | yes e ↦ upd-hit (upd f i a) i b j e ∙ sym (upd-hit f i b j e)
-      | no e ↦ upd-miss (upd f i a) i b j e ∙ upd-miss f i a j e ∙ sym (upd-miss f i b j e)
-    ])
-
-pub upd-own : {A : Type 0} (f : ℕ → A) (i : ℕ) (a : A) → f i ≡ a → upd f i a ≡ f
-upd-own f i a e =
-    fun-ext (λ j. elim (ℕ-discrete j i) [
-      | yes d ↦ upd-hit f i a j d ∙ sym e ∙ ap f (sym d)
-      | no d ↦ upd-miss f i a j d
-    ])
 
 -- tokens put behind tokens
 pub push-push : (q : ℕ → List ℕ) (d : ℕ) (xs ys : List ℕ) → pushAll (pushAll q d xs) d ys ≡ pushAll q d (xs ++ ys)

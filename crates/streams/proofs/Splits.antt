@@ -6,6 +6,7 @@ use mathlib.Core.Path.{_≡_, sym, _∙_}
 use mathlib.Core.Bool.{Bool, true, false}
 use mathlib.Core.List.{List, [], _∷_, _++_}
 use native.Mathlib.Decide.{ℕ-discrete}
+use Rattle.laws.specs.All.{Each}
 use Rattle.laws.specs.Pick.{pick}
 use Rattle.laws.proofs.Order.{never, clash}
 use Rattle.circuits.specs.declared.Cause.{Cause}
@@ -34,14 +35,6 @@ Mild (Hands p a x) = Unit
 Mild (Loses p q x) = Unit
 Mild (Wires l m) = Unit
 
-abbrev pub MildAll : List Event → Type 0
-MildAll [] = Unit
-MildAll (v ∷ vs) = Mild v × MildAll vs
-
-pub mild-append : (vs ws : List Event) → MildAll vs → MildAll ws → MildAll (vs ++ ws)
-mild-append [] ws h k = k
-mild-append (v ∷ vs) ws h k = (h .0, mild-append vs ws (h .1) k)
-
 other-fate : (fate : ℕ → Fate) (c c′ : ℕ) (f : Fate) → (f ≡ Lost Split → ⊥) → upd fate c f c′ ≡ Lost Split → fate c′ ≡ Lost Split
 other-fate fate c c′ f not-so z =
     elim (ℕ-discrete c′ c) [
@@ -65,7 +58,7 @@ mild-lost (Hands p a x) g c h z = z
 mild-lost (Loses p q x) g c h z = z
 mild-lost (Wires l m) g c h z = z
 
-mild-lost-all : (vs : List Event) (g : Ghost) (c : ℕ) → MildAll vs → notes vs g .fate c ≡ Lost Split → g .fate c ≡ Lost Split
+mild-lost-all : (vs : List Event) (g : Ghost) (c : ℕ) → Each Mild vs → notes vs g .fate c ≡ Lost Split → g .fate c ≡ Lost Split
 mild-lost-all [] g c h z = z
 mild-lost-all (v ∷ vs) g c h z = mild-lost v g c (h .0) (mild-lost-all vs (note v g) c (h .1) z)
 
@@ -80,8 +73,8 @@ module _ (g : Ghost) (p c : ℕ) where
 
 -- a call refuses a circuit as Split first of all and at the port p, or not at all
 abbrev pub SplitBy : Bool → ℕ → List Event → Type 0
-SplitBy true p vs = (ws : List Event) × (vs ≡ Refuses p Split ∷ ws) × MildAll ws
-SplitBy false p vs = MildAll vs
+SplitBy true p vs = (ws : List Event) × (vs ≡ Refuses p Split ∷ ws) × Each Mild ws
+SplitBy false p vs = Each Mild vs
 
 module _ (link : ℕ → Bool) (m : Machine link) where
   -- where the calls' own rule says that a switch of the other width reads a whole header

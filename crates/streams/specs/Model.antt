@@ -1,12 +1,12 @@
 -- The moving parts of a network without its settings, and the books that an observer of a run keeps of them. A token is a word of token
 -- memory. Ports and doors are numbered through all slots. Demand.antt says what is promised of the books.
-use Prim.{Unit}
 use Prim.Native.Nat.{ℕ, suc, _+_, _*_, _/_, _%_}
 use mathlib.Core.Path.{_≡_}
 use mathlib.Core.Bool.{Bool, false}
 use mathlib.Core.List.{List, [], _∷_, _++_}
 use lib.Dec.{eqb, ltb}
 use lib.ListN.{drop, getD}
+use Rattle.laws.specs.All.{Each}
 use Rattle.laws.specs.Pick.{pick}
 use Rattle.names.specs.Size.{links, ports, ends}
 use Rattle.names.specs.declared.NodeNumber.{NodeNumber}
@@ -33,8 +33,7 @@ body k s = noPause (drop k s)
 
 -- none of them closes
 abbrev pub Plain : List ℕ → Type 0
-Plain [] = Unit
-Plain (t ∷ ts) = (closes t ≡ false) × Plain ts
+Plain ts = Each (λ t. closes t ≡ false) ts
 
 -- HEADERS
 -- where in a node a destination is: a channel, of which the sink is one, or the control unit
@@ -177,6 +176,16 @@ noBooks =
       now = 0;
       log = λ d. [];
     }
+
+-- NOTES: what an observer writes down who sees the calls and their answers, and nothing else
+pub record Notes : Type 0 where
+  -- of a channel-end, by its door: the destination that its latest Aim gave; all that its Outputs put out; all that Input took of it
+  pub aimed : ℕ → Target
+  pub put : ℕ → List ℕ
+  pub taken : ℕ → List ℕ
+
+abbrev pub noNotes : Notes
+noNotes = record { aimed = λ e. Targets.Unit (record { 0 = 0 }); put = λ e. []; taken = λ e. [] }
 
 -- WRITING
 -- entry i is a, and every other is as it was

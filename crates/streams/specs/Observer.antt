@@ -17,7 +17,7 @@ use Rattle.circuits.specs.declared.Hop.the-variants as Hops
 use Rattle.circuits.specs.declared.Peer.{Peer}
 use Rattle.circuits.specs.declared.Peer.the-variants as Peers
 use Rattle.tokens.specs.Control.{end}
-use Rattle.tokens.specs.Word.{closes, controlWord}
+use Rattle.tokens.specs.Word.{closes, dataWord, controlWord}
 use Rattle.tokens.specs.declared.header.Width.{Width}
 use Rattle.tokens.specs.declared.header.Target.{Target}
 use Rattle.tokens.specs.declared.header.Target.the-variants.{Channel, Unit}
@@ -40,13 +40,17 @@ use Rattle.messages.specs.declared.heard.Message.{Message}
 use Rattle.messages.specs.declared.heard.Message.the-variants.{Malformed, Wrong, Read, Write}
 use Rattle.messages.specs.declared.reply.Reply.{Reply}
 use Rattle.messages.specs.declared.reply.Reply.the-variants.{Nack, Ack, Value}
-use Rattle.ends.specs.Plan.{targetOf, lowestFree}
+use Rattle.ends.specs.Plan.{lowestFree}
 use Rattle.ends.specs.Output.{wordOf}
+use Rattle.ends.specs.declared.Wanted.{Wanted}
+use Rattle.ends.specs.declared.Wanted.the-variants as Wants
+use Rattle.ends.specs.declared.aim.Goal.{Goal}
+use Rattle.ends.specs.declared.aim.Goal.the-variants as Goals
 use Rattle.switch.specs.Step.{portAt}
 use Rattle.bench.specs.Calls.{Call, Fresh, Wire, Set, Aim, Output, Input, Step, rows}
 use Rattle.bench.specs.Writes.{hopClosed}
 use Rattle.streams.specs.Model.{keeps, Place, ToChannel, ToUnit, encode, portNo, doorNo, unitDoor, nodeOfPort, nodeOfDoor, endAt}
-use Rattle.streams.specs.Model.{Lost, Landed, Here, Books, upd, hd, pop, push, pushAll, cellsOf, marks}
+use Rattle.streams.specs.Model.{Lost, Landed, Here, Books, Notes, upd, hd, pop, push, pushAll, cellsOf, marks}
 
 -- WHAT CAN BE WRITTEN
 -- the door opens a circuit through the port: the header goes in
@@ -205,11 +209,11 @@ writeFirst w n c t (Channel m d) k =
     writeWay w n c (Channel m d) d t (wayTo (widthAt (w .net) n) m (numberAt (w .net) n)) k
 writeFirst w n c t (Unit m) k = writeThrough w n c (Unit m) t k
 
--- by what the channel-end has open
-abbrev pub writeOutput : World → ℕ → ℕ → ℕ → Peer → Books → Books
-writeOutput w n c t Peers.Nobody k = writeFirst w n c t (targetOf (w .net .ends .aims n c)) k
-writeOutput w n c t (Peers.Port p) k = putOut (doorNo n c) (portNo n p) t k
-writeOutput w n c t (Peers.End d) k = told (doorNo n c) d t k
+-- by what the channel-end has open; the first token opens towards g
+abbrev pub writeOutput : World → ℕ → ℕ → Target → ℕ → Peer → Books → Books
+writeOutput w n c g t Peers.Nobody k = writeFirst w n c t g k
+writeOutput w n c g t (Peers.Port p) k = putOut (doorNo n c) (portNo n p) t k
+writeOutput w n c g t (Peers.End d) k = told (doorNo n c) d t k
 
 -- A REPLY: its header and what it says, by port 12
 abbrev pub writeReply : World → ℕ → Target → Reply → Books → Books
@@ -261,7 +265,7 @@ writeStep w n p Answers.Malformed k = handedOn (portNo n p) ToUnit (firstAt w n 
 writeStep w n p Answers.Unheard k = handedOn (portNo n p) ToUnit (firstAt w n p) k
 
 -- where a call is done
-abbrev pub whenDone : Answer → Books → Books → Books
+abbrev pub whenDone : {A : Type 0} → Answer → A → A → A
 whenDone (Answers.No x) k old = old
 whenDone Answers.Done k old = k
 whenDone (Answers.Granted x) k old = old
@@ -277,15 +281,61 @@ whenDone (Answers.Dropped x) k old = old
 whenDone Answers.Malformed k old = old
 whenDone Answers.Unheard k old = old
 
--- THE BOOKS AFTER A CALL. A Fresh that is done opens new ones (Watch.antt)
-abbrev pub write : World → Call → Answer → Books → Books
-write w (Fresh n) x k = k
-write w (Wire a l b j) x k = k
-write w (Set a y) x k = k
-write w (Aim a c g v) x k = k
-write w (Output a c t) x k = whenDone x (writeOutput w (a .0) c (wordOf t) (peerOf (w .net .ends .sendings (a .0) c)) k) k
-write w (Input a c y) x k = k
-write w (Step a p) x k = writeStep w (a .0) p x k
+-- THE BOOKS AFTER A CALL. A circuit's destination is what the channel-end's latest Aim gave, by the notes (o). A Fresh that is done opens
+-- new books (Watch.antt)
+abbrev pub write : Notes → World → Call → Answer → Books → Books
+write o w (Fresh n) x k = k
+write o w (Wire a l b j) x k = k
+write o w (Set a y) x k = k
+write o w (Aim a c g v) x k = k
+write o w (Output a c t) x k =
+    whenDone x (writeOutput w (a .0) c (o .aimed (doorNo (a .0) c)) (wordOf t) (peerOf (w .net .ends .sendings (a .0) c)) k) k
+write o w (Input a c y) x k = k
+write o w (Step a p) x k = writeStep w (a .0) p x k
+
+-- THE NOTES AFTER A CALL: of the call and its answer alone
+abbrev pub given : Goal → Target
+given (Goals.Channel m c) = Channel (record { 0 = m }) c
+given (Goals.Unit m) = Unit (record { 0 = m })
+
+-- the token of a value that was asked for as data or as control
+abbrev pub wordAs : Wanted → ℕ → ℕ
+wordAs Wants.Data v = dataWord v
+wordAs Wants.Control v = controlWord v
+
+abbrev pub jotAimed : ℕ → Target → Notes → Notes
+jotAimed e g k = record { aimed = upd (k .aimed) e g; put = k .put; taken = k .taken }
+
+abbrev pub jotPut : ℕ → ℕ → Notes → Notes
+jotPut e t k = record { aimed = k .aimed; put = push (k .put) e t; taken = k .taken }
+
+abbrev pub jotTaken : ℕ → ℕ → Notes → Notes
+jotTaken e t k = record { aimed = k .aimed; put = k .put; taken = push (k .taken) e t }
+
+abbrev pub jotInput : ℕ → Wanted → Answer → Notes → Notes
+jotInput e y (Answers.No x) k = k
+jotInput e y Answers.Done k = k
+jotInput e y (Answers.Granted x) k = k
+jotInput e y (Answers.Token v) k = jotTaken e (wordAs y v) k
+jotInput e y Answers.Idle k = k
+jotInput e y Answers.Waiting k = k
+jotInput e y Answers.Moved k = k
+jotInput e y (Answers.OpenedLink l) k = k
+jotInput e y Answers.OpenedChannel k = k
+jotInput e y Answers.OpenedUnit k = k
+jotInput e y (Answers.Refused x) k = k
+jotInput e y (Answers.Dropped x) k = k
+jotInput e y Answers.Malformed k = k
+jotInput e y Answers.Unheard k = k
+
+abbrev pub jot : Call → Answer → Notes → Notes
+jot (Fresh n) x k = k
+jot (Wire a l b j) x k = k
+jot (Set a y) x k = k
+jot (Aim a c g v) x k = whenDone x (jotAimed (doorNo (a .0) c) (given g) k) k
+jot (Output a c t) x k = whenDone x (jotPut (doorNo (a .0) c) (wordOf t) k) k
+jot (Input a c y) x k = jotInput (doorNo (a .0) c) y x k
+jot (Step a p) x k = k
 
 -- NEW BOOKS: a Fresh that is done; one that is refused changes none
 abbrev pub isFresh : Call → Bool

@@ -5,8 +5,8 @@ use Rattle.cells.specs.World.{World}
 use Rattle.cells.specs.Fresh.{freshWorld}
 use Rattle.bench.specs.Calls.{Call, apply}
 use Rattle.streams.specs.Watch.{Seen, unseen, seen}
-use Rattle.streams.specs.Observer.{write, anew, misreads, portIn}
+use Rattle.streams.specs.Observer.{write, jot, anew, misreads, portIn}
 
 abbrev pub observed : ℕ → List Call → Seen
 observed n cs =
-    seen (λ (w : World) (c : Call). apply w c .next) anew (λ w c. apply w c .answer) write misreads portIn (freshWorld n) unseen cs
+    seen (λ (w : World) (c : Call). apply w c .next) anew (λ w c. apply w c .answer) write jot misreads portIn (freshWorld n) unseen cs

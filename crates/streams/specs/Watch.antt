@@ -5,16 +5,17 @@ use mathlib.Core.Path.{_≡_}
 use mathlib.Core.Bool.{Bool, true, false}
 use mathlib.Core.List.{List, [], _∷_}
 use Rattle.laws.specs.Pick.{pick}
-use Rattle.streams.specs.Model.{Books, noBooks, upd, hd}
+use Rattle.streams.specs.Model.{Books, noBooks, Notes, noNotes, upd, hd}
 
--- the books and, beside them, the circuits whose header a switch of the other width has read
+-- the books; the circuits whose header a switch of the other width has read; the notes of calls and answers
 pub record Seen : Type 0 where
   pub books : Books
   pub misread : ℕ → Bool
+  pub notes : Notes
 
 -- before any call
 abbrev pub unseen : Seen
-unseen = record { books = noBooks; misread = λ c. false }
+unseen = record { books = noBooks; misread = λ c. false; notes = noNotes }
 
 -- what a call leaves
 module _ {S C : Type 0} (apply : S → C → S) where
@@ -30,14 +31,16 @@ module _ {S C : Type 0} (apply : S → C → S) where
 
     -- what a call answers, and what the observer writes in the books; the calls by which a switch of the other width reads the whole
     -- header in front of a port, and the port
-    module _ {A : Type 0} (answer : S → C → A) (write : S → C → A → Books → Books) (misreads : S → C → Bool) (portIn : C → ℕ) where
+    module _ {A : Type 0} (answer : S → C → A) (write : Notes → S → C → A → Books → Books) (jot : C → A → Notes → Notes)
+        (misreads : S → C → Bool) (portIn : C → ℕ) where
       -- after one more call; where it is anew, all begins again
       abbrev pub sees : S → C → Seen → Seen
       sees s c k =
           let front = hd (k .books .cells (portIn c)) .circuit in
           pick (anew s c) unseen (record {
-            books = write s c (answer s c) (k .books);
+            books = write (k .notes) s c (answer s c) (k .books);
             misread = pick (misreads s c) (upd (k .misread) front true) (k .misread);
+            notes = jot c (answer s c) (k .notes);
           })
 
       abbrev pub seen : S → Seen → List C → Seen
