@@ -5,20 +5,25 @@ use Rattle.laws.specs.All.{first}
 use Rattle.tokens.specs.Control.{outputNo}
 use Rattle.tokens.specs.Word.{closes}
 use Rattle.tokens.specs.Shape.{legalChannel, threeShape, shapeOf}
-use Rattle.tokens.specs.Header.{headerOf, readThree}
+use Rattle.tokens.specs.Header.{headerOf, readOne, readThree}
 use Rattle.routing.specs.Way.{highest}
-use Rattle.routing.specs.Direction.{field, entryOf}
+use Rattle.routing.specs.Direction.{field, withField, entryOf, withEntry}
 use Rattle.ports.specs.Ring.{ring}
 use Rattle.credits.specs.Grant.{grantOf}
 use Rattle.cells.specs.World.{shaped}
 use Rattle.acts.specs.Acts.{pushed, popped}
 use Rattle.grants.specs.Grants.{grantTo, considered, helloed, helloGrant, disabled}
+use Rattle.settings.specs.Set.{setCall}
+use Rattle.messages.specs.Heard.{messageOf}
+use Rattle.messages.specs.Write.{written}
+use Rattle.messages.specs.Ended.{ended}
 use Rattle.moves.specs.Moves.{took, crosses}
 use Rattle.ends.specs.Plan.{outputPlan}
 use Rattle.plans.specs.Plan.{stepPlan}
 
 unfoldable pub computes : Unit {0}
 unfolding
-    upd first outputNo closes legalChannel threeShape shapeOf headerOf readThree highest field entryOf ring grantOf shaped pushed popped
-    grantTo considered helloed helloGrant disabled took crosses outputPlan stepPlan
+    upd first outputNo closes legalChannel threeShape shapeOf headerOf readOne readThree highest field withField entryOf withEntry ring
+    grantOf shaped pushed popped grantTo considered helloed helloGrant disabled setCall messageOf written ended took crosses outputPlan
+    stepPlan
 computes = tt
