@@ -7,4 +7,5 @@ pub mod Started
 pub mod Waits
 pub mod Written
 pub mod Lasts
+pub mod Computed
 pub mod Example
