@@ -9,3 +9,4 @@ pub mod Written
 pub mod Lasts
 pub mod Computed
 pub mod Example
+pub mod Runs

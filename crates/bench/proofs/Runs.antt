@@ -1,0 +1,158 @@
+-- Three runs of calls on two boards, computed: an update during which circuits are open, and the two examples of document 01, "Both sides
+-- of the line", that need a network. What an observer has then written down is in streams/proofs/Runs.antt. Assumes nothing.
+use Prim.Native.Nat.{ℕ}
+use mathlib.Core.Path.{refl}
+use mathlib.Core.List.{List, [], _∷_, _++_, map}
+use lib.ListN.{replicate}
+use Rattle.names.specs.declared.Slot.{Slot}
+use Rattle.circuits.specs.declared.Cause.the-variants.{Split}
+use Rattle.answers.specs.declared.Answer.{Answer}
+use Rattle.answers.specs.declared.Answer.the-variants.{No, Done, Granted, Idle, Moved, OpenedLink, OpenedChannel}
+use Rattle.answers.specs.declared.Answer.the-variants.{OpenedUnit, Refused, Dropped}
+use Rattle.answers.specs.declared.Answer.the-variants as Answers
+use Rattle.settings.specs.declared.Setting.the-variants.{Number, Width, Enable, Hello}
+use Rattle.ends.specs.declared.Token.{Token}
+use Rattle.ends.specs.declared.Token.the-variants.{Data, Control}
+use Rattle.ends.specs.declared.Wanted.the-variants as Wanted
+use Rattle.ends.specs.declared.aim.Goal.the-variants.{Channel, Unit}
+use Rattle.kept.proofs.Computes.{computes}
+use Rattle.bench.specs.Calls.{Call, Wire, Set, Aim, Output, Input, Step}
+use Rattle.bench.proofs.Computed.{Script, Runs, runs}
+
+-- CALLS OF ONE KIND
+-- so many Steps of a port, all with one answer
+abbrev steps : ℕ → Slot → ℕ → Answer → Script
+steps k a p x = replicate k (Step a p, x)
+
+-- tokens put out by a channel-end
+abbrev outputs : Slot → ℕ → List Token → Script
+outputs a c ts = map (λ t. (Output a c t, Done)) ts
+
+-- tokens that a channel-end holds, taken
+abbrev taken : Slot → ℕ → Token → Call × Answer
+taken a c (Data v) = (Input a c Wanted.Data, Answers.Token v)
+taken a c (Control v) = (Input a c Wanted.Control, Answers.Token v)
+
+abbrev inputs : Slot → ℕ → List Token → Script
+inputs a c ts = map (taken a c) ts
+
+-- TWO BOARDS
+abbrev hub : Slot
+hub = record { 0 = 0 }
+
+abbrev lane : Slot
+lane = record { 0 = 1 }
+
+-- joined by their links A, which are enabled and greet each other: number 0 and number 1
+abbrev joined : Script
+joined =
+    (Wire hub 0 lane 0, Done)
+    ∷ (Set hub (Enable 0 1), Done)
+    ∷ (Set lane (Enable 0 1), Done)
+    ∷ (Set hub (Hello 0), Granted 64)
+    ∷ (Set lane (Hello 0), Granted 64)
+    ∷ (Set lane (Number 1), Done)
+    ∷ []
+
+-- to a control unit, reply to channel 3 of number 0, that is to the hub. READC, register 5: the number. WRITEC, register 4, value 1: the
+-- width, one-byte
+abbrev readNumber : List Token
+readNumber = Control 0xC1 ∷ Data 0 ∷ Data 0 ∷ Data 3 ∷ Data 0 ∷ Data 5 ∷ Control 1 ∷ []
+
+abbrev writeWidth : List Token
+writeWidth = Control 0xC0 ∷ Data 0 ∷ Data 0 ∷ Data 3 ∷ Data 0 ∷ Data 4 ∷ Data 0 ∷ Data 0 ∷ Data 0 ∷ Data 1 ∷ Control 1 ∷ []
+
+-- AN UPDATE: the lane is renumbered and the hub set to one-byte width, each while a circuit is on its way to it
+abbrev pub update : Script
+update =
+    joined
+    -- the hub opens a circuit to channel 5 of number 2, which no board has
+    ++ ((Aim hub 0 (Channel 2 5) 0, Done) ∷ [])
+    ++ outputs hub 0 (Data 7 ∷ Control 1 ∷ [])
+    ++ ((Step hub 8, OpenedLink 0) ∷ [])
+    ++ steps 3 hub 8 Moved
+    -- its header is at the lane, not yet read, when the lane becomes number 2
+    ++ ((Set lane (Number 2), Done) ∷ [])
+    ++ steps 2 hub 8 Moved
+    ++ ((Step lane 0, OpenedChannel) ∷ [])
+    ++ steps 2 lane 0 Moved
+    ++ inputs lane 5 (Data 7 ∷ Control 1 ∷ [])
+    -- a message to the lane's control unit, and its answer: ACK, the number 2, END
+    ++ ((Aim hub 1 (Unit 2) 0, Done) ∷ [])
+    ++ outputs hub 1 readNumber
+    ++ ((Step hub 8, OpenedLink 0) ∷ [])
+    ++ steps 10 hub 8 Moved
+    ++ ((Step lane 0, OpenedUnit) ∷ [])
+    ++ steps 7 lane 0 Moved
+    ++ ((Step lane 12, OpenedLink 0) ∷ [])
+    ++ steps 9 lane 12 Moved
+    ++ ((Step hub 0, OpenedChannel) ∷ [])
+    ++ steps 6 hub 0 Moved
+    ++ inputs hub 3 (Control 3 ∷ Data 0 ∷ Data 0 ∷ Data 0 ∷ Data 2 ∷ Control 1 ∷ [])
+    -- the lane opens a circuit to the hub, and halfway over the link the hub is set to one-byte width
+    ++ ((Aim lane 0 (Channel 0 6) 0, Done) ∷ [])
+    ++ outputs lane 0 (Data 9 ∷ Control 1 ∷ [])
+    ++ ((Step lane 8, OpenedLink 0) ∷ [])
+    ++ steps 2 lane 8 Moved
+    ++ ((Set hub (Width 1), Done) ∷ [])
+    ++ steps 3 lane 8 Moved
+    ++ ((Step hub 0, Refused Split) ∷ [])
+    ++ steps 5 hub 0 (Dropped Split)
+    ++ ((Step hub 0, Idle) ∷ [])
+    -- a circuit within the hub: at one-byte width number 8 is the hub's own
+    ++ ((Aim hub 2 (Channel 8 4) 0, Done) ∷ [])
+    ++ outputs hub 2 (Data 1 ∷ Control 1 ∷ [])
+    ++ inputs hub 4 (Data 1 ∷ Control 1 ∷ [])
+    -- both boards at one-byte width: in the bits compared number 10 is the lane's, while that is 2 and when it has become 18. PAUSE closes
+    -- the circuit and is not handed
+    ++ ((Set lane (Width 1), Done) ∷ (Aim hub 0 (Channel 10 5) 0, Done) ∷ [])
+    ++ outputs hub 0 (Data 6 ∷ Control 2 ∷ [])
+    ++ ((Step hub 8, OpenedLink 0) ∷ [])
+    ++ steps 3 hub 8 Moved
+    ++ ((Set lane (Number 18), Done) ∷ (Step lane 0, OpenedChannel) ∷ [])
+    ++ steps 2 lane 0 Moved
+    ++ inputs lane 5 (Data 6 ∷ [])
+    ++ ((Input lane 5 Wanted.Control, No 11) ∷ [])
+
+-- "Hub at one-byte, lane at three-byte: the lane opens, the hub's step says Refused, Split; three header tokens and the rest are Dropped."
+abbrev pub halfway : Script
+halfway =
+    joined
+    ++ ((Set hub (Width 1), Done) ∷ (Aim lane 0 (Channel 0 5) 0, Done) ∷ [])
+    ++ outputs lane 0 (Data 7 ∷ Control 1 ∷ [])
+    ++ ((Step lane 8, OpenedLink 0) ∷ [])
+    ++ steps 5 lane 8 Moved
+    ++ ((Step hub 0, Refused Split) ∷ [])
+    ++ steps 5 hub 0 (Dropped Split)
+    ++ ((Step hub 0, Idle) ∷ [])
+
+-- "A message sets a node to one-byte: the ACK leaves with a one-byte header and is Split at a neighbour still at three.": the
+-- node is the lane, the neighbour the hub
+abbrev pub narrowed : Script
+narrowed =
+    joined
+    ++ ((Aim hub 0 (Unit 1) 0, Done) ∷ [])
+    ++ outputs hub 0 writeWidth
+    ++ ((Step hub 8, OpenedLink 0) ∷ [])
+    ++ steps 14 hub 8 Moved
+    ++ ((Step lane 0, OpenedUnit) ∷ [])
+    ++ steps 11 lane 0 Moved
+    -- the reply: one header token, ACK, END
+    ++ ((Step lane 12, OpenedLink 0) ∷ [])
+    ++ steps 3 lane 12 Moved
+    ++ ((Step lane 12, Idle) ∷ (Step hub 0, Refused Split) ∷ [])
+    ++ steps 3 hub 0 (Dropped Split)
+    ++ ((Step hub 0, Idle) ∷ [])
+
+-- THE ANSWERS, one by one
+pub update-answers : Runs 2 update
+unfolding computes
+update-answers = runs 2 update refl refl refl
+
+pub halfway-answers : Runs 2 halfway
+unfolding computes
+halfway-answers = runs 2 halfway refl refl refl
+
+pub narrowed-answers : Runs 2 narrowed
+unfolding computes
+narrowed-answers = runs 2 narrowed refl refl refl
