@@ -30,3 +30,4 @@ pub mod Agree
 pub mod Misreads
 pub mod Faithfully
 pub mod Answers
+pub mod Runs

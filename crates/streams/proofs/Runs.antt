@@ -1,0 +1,185 @@
+-- What an observer has written down of the three runs of bench/proofs/Runs.antt, computed: circuits land, are handed on, are Split and
+-- are answered, so that demand 3 is no statement about nothing. Assumes nothing.
+use Prim.Native.Nat.{ℕ}
+use mathlib.Core.Path.{_≡_, refl, ap, _∙_}
+use mathlib.Core.Bool.{Bool, true, false}
+use mathlib.Core.List.{List, [], _∷_, _++_, map}
+use Rattle.laws.specs.Row.{tab}
+use Rattle.circuits.specs.declared.Cause.the-variants.{Split}
+use Rattle.tokens.specs.declared.header.Width.{Width}
+use Rattle.tokens.specs.declared.header.Width.the-variants.{One, Three}
+use Rattle.tokens.specs.declared.header.Target.{Target}
+use Rattle.tokens.specs.declared.header.Target.the-variants.{Channel, Unit}
+use Rattle.answers.specs.Out.{Out}
+use Rattle.cells.specs.World.{World}
+use Rattle.cells.specs.Fresh.{freshWorld}
+use Rattle.kept.specs.Kept.{Kept}
+use Rattle.kept.proofs.Computes.{computes}
+use Rattle.bench.specs.Calls.{Call, apply}
+use Rattle.bench.proofs.Lasts.{call-keeps}
+use Rattle.bench.proofs.Computed.{applied, sound-row, Script, calls, fresh-kept}
+use Rattle.bench.proofs.Runs.{update, halfway, narrowed}
+use Rattle.streams.specs.Model.{Info, Given, Fate, Lost, Landed, Here, noBooks, upd, portNo, doorNo, unitDoor, marks}
+use Rattle.streams.specs.Watch.{Seen, unseen, sees, seen}
+use Rattle.streams.specs.Observer.{write, anew, misreads, portIn}
+use Rattle.streams.specs.Statement.{observed}
+
+-- HOW THEY ARE COMPUTED: what is seen of a run whose calls come to `act`
+abbrev watched : (World → Call → Out World) → World → Seen → List Call → Seen
+watched act = seen (λ (w : World) (c : Call). act w c .next) anew (λ w c. act w c .answer) write misreads portIn
+
+-- .. of one call that comes to o
+abbrev after : Out World → World → Call → Seen → Seen
+after o = sees (λ (w : World) (c : Call). o .next) anew (λ w c. o .answer) write misreads portIn
+
+watched-so : (cs : List Call) (w : World) (k : Seen) → Kept w → watched apply w k cs ≡ watched applied w k cs
+watched-so [] w k s = refl
+watched-so (c ∷ cs) w k s =
+    watched-so cs (apply w c .next) (after (apply w c) w c k) (call-keeps w s c)
+    ∙ ap (λ (o : Out World). watched applied (o .next) (after o w c k) cs) (sound-row w s c)
+
+-- AN ACCOUNT of a circuit, as the books have it: its opening, all that was put out, what became of it, all that was handed; and whether a
+-- switch of the other width has read its header
+pub record Account : Type 0 where
+  pub opening : Info
+  pub put : List ℕ
+  pub fate : Fate
+  pub handed : List ℕ
+  pub misread : Bool
+
+-- of every circuit, in the order in which they were opened
+abbrev pub accounts : Seen → List Account
+accounts s =
+    tab (s .books .now) (λ c. record {
+      opening = s .books .info c;
+      put = s .books .stream c;
+      fate = s .books .fate c;
+      handed = s .books .handed c;
+      misread = s .misread c;
+    })
+
+-- what doors were handed, in the order of the run
+abbrev pub logs : List ℕ → Seen → List (List Given)
+logs ds s = map (s .books .log) ds
+
+-- what an observer of a script on two boards has in the end, read by f
+abbrev Tells : Script → {A : Type 0} → (Seen → A) → A → Type 0
+Tells s f a = f (observed 2 (calls s)) ≡ a
+
+abbrev told : (s : Script) {A : Type 0} (f : Seen → A) {a : A}
+    → f (watched applied (freshWorld 2) unseen (calls s)) ≡ a
+    → Tells s f a
+told s f computed =
+    ap f (watched-so (calls s) (freshWorld 2) unseen (fresh-kept 2 refl refl)) ∙ computed
+
+-- openings: at three-byte width, at one-byte width, within a node
+abbrev three : ℕ → Target → Info
+three e d = record { sender = e; dest = d; width = Three; skip = 3 }
+
+abbrev one : ℕ → Target → Info
+one e d = record { sender = e; dest = d; width = One; skip = 1 }
+
+abbrev within : ℕ → Target → Info
+within e d = record { sender = e; dest = d; width = One; skip = 0 }
+
+-- THE UPDATE. Board 0 is the hub, board 1 the lane. Words: 0x600 and more is a header token of three, 0x200 and more of one, 0x100 and more
+-- a control token
+pub update-books : Tells update accounts
+    -- landed by port 0 of the lane, whose number was 1 when it was opened and is 2
+    (record {
+      opening = three (doorNo 0 0) (Channel (record { 0 = 2 }) 5);
+      put = 0x600 ∷ 0x602 ∷ 0x605 ∷ 7 ∷ 0x101 ∷ [];
+      fate = Landed (portNo 1 0) (record { 0 = 2 });
+      handed = 7 ∷ 0x101 ∷ [];
+      misread = false;
+    }
+    -- the message
+    ∷ record {
+      opening = three (doorNo 0 1) (Unit (record { 0 = 2 }));
+      put = 0x600 ∷ 0x602 ∷ 0x7C3 ∷ 0x1C1 ∷ 0 ∷ 0 ∷ 3 ∷ 0 ∷ 5 ∷ 0x101 ∷ [];
+      fate = Landed (portNo 1 0) (record { 0 = 2 });
+      handed = 0x1C1 ∷ 0 ∷ 0 ∷ 3 ∷ 0 ∷ 5 ∷ 0x101 ∷ [];
+      misread = false;
+    }
+    -- the reply, whose sender is the lane's control unit
+    ∷ record {
+      opening = three (doorNo 1 unitDoor) (Channel (record { 0 = 0 }) 3);
+      put = 0x600 ∷ 0x600 ∷ 0x603 ∷ 0x103 ∷ 0 ∷ 0 ∷ 0 ∷ 2 ∷ 0x101 ∷ [];
+      fate = Landed (portNo 0 0) (record { 0 = 0 });
+      handed = 0x103 ∷ 0 ∷ 0 ∷ 0 ∷ 2 ∷ 0x101 ∷ [];
+      misread = false;
+    }
+    -- Split at the hub
+    ∷ record {
+      opening = three (doorNo 1 0) (Channel (record { 0 = 0 }) 6);
+      put = 0x600 ∷ 0x600 ∷ 0x606 ∷ 9 ∷ 0x101 ∷ [];
+      fate = Lost Split;
+      handed = [];
+      misread = true;
+    }
+    -- within the hub
+    ∷ record {
+      opening = within (doorNo 0 2) (Channel (record { 0 = 8 }) 4);
+      put = 1 ∷ 0x101 ∷ [];
+      fate = Here (record { 0 = 0 });
+      handed = 1 ∷ 0x101 ∷ [];
+      misread = false;
+    }
+    -- landed at the lane, whose number was 2 when it was opened and is 18. PAUSE was put out and not handed
+    ∷ record {
+      opening = one (doorNo 0 0) (Channel (record { 0 = 10 }) 5);
+      put = 0x245 ∷ 6 ∷ 0x102 ∷ [];
+      fate = Landed (portNo 1 0) (record { 0 = 18 });
+      handed = 6 ∷ [];
+      misread = false;
+    }
+    ∷ [])
+unfolding computes upd noBooks
+update-books = told update accounts refl
+
+-- the doors that they name: channel 5 and the control unit of the lane; channels 3, 6 and 4 of the hub
+abbrev pub named : List ℕ
+named = doorNo 1 5 ∷ doorNo 1 unitDoor ∷ doorNo 0 3 ∷ doorNo 0 6 ∷ doorNo 0 4 ∷ []
+
+pub update-doors : Tells update (logs named)
+    ((marks 0 (7 ∷ 0x101 ∷ []) ++ marks 5 (6 ∷ []))
+    ∷ marks 1 (0x1C1 ∷ 0 ∷ 0 ∷ 3 ∷ 0 ∷ 5 ∷ 0x101 ∷ [])
+    ∷ marks 2 (0x103 ∷ 0 ∷ 0 ∷ 0 ∷ 2 ∷ 0x101 ∷ [])
+    ∷ []
+    ∷ marks 4 (1 ∷ 0x101 ∷ [])
+    ∷ [])
+unfolding computes upd noBooks
+update-doors = told update (logs named) refl
+
+-- "Hub at one-byte, lane at three-byte": nothing was handed
+pub halfway-books : Tells halfway accounts
+    (record {
+      opening = three (doorNo 1 0) (Channel (record { 0 = 0 }) 5);
+      put = 0x600 ∷ 0x600 ∷ 0x605 ∷ 7 ∷ 0x101 ∷ [];
+      fate = Lost Split;
+      handed = [];
+      misread = true;
+    }
+    ∷ [])
+unfolding computes upd noBooks
+halfway-books = told halfway accounts refl
+
+-- "A message sets a node to one-byte": the message was heard, and nothing of the reply was handed
+pub narrowed-books : Tells narrowed accounts
+    (record {
+      opening = three (doorNo 0 0) (Unit (record { 0 = 1 }));
+      put = 0x600 ∷ 0x601 ∷ 0x7C3 ∷ 0x1C0 ∷ 0 ∷ 0 ∷ 3 ∷ 0 ∷ 4 ∷ 0 ∷ 0 ∷ 0 ∷ 1 ∷ 0x101 ∷ [];
+      fate = Landed (portNo 1 0) (record { 0 = 1 });
+      handed = 0x1C0 ∷ 0 ∷ 0 ∷ 3 ∷ 0 ∷ 4 ∷ 0 ∷ 0 ∷ 0 ∷ 1 ∷ 0x101 ∷ [];
+      misread = false;
+    }
+    ∷ record {
+      opening = one (doorNo 1 unitDoor) (Channel (record { 0 = 0 }) 3);
+      put = 0x203 ∷ 0x103 ∷ 0x101 ∷ [];
+      fate = Lost Split;
+      handed = [];
+      misread = true;
+    }
+    ∷ [])
+unfolding computes upd noBooks
+narrowed-books = told narrowed accounts refl
