@@ -53,15 +53,15 @@ use Rattle.streams.specs.Model.{hd, push, Place, ToChannel, ToUnit, port
 use Rattle.streams.specs.Events.{Opens, Lands, Hands, Ghost, booksOf, note, notes}
 use Rattle.streams.specs.Demand.{tokensOf}
 use Rattle.streams.specs.Observer.{putAll, landed, writeThrough, writeWay, writeFirst, writeOutput}
-use Rattle.streams.specs.Observer.{writeReply, writeObeyed, writeStep, write, isFresh, done, anew}
+use Rattle.streams.specs.Observer.{writeReply, writeObeyed, writeStep, write, anew}
 use Rattle.streams.specs.View.{view}
 use Rattle.streams.proofs.Basics.{upd-same, passes}
 use Rattle.streams.proofs.Inv.{Inv}
 use Rattle.streams.proofs.Machine.{line-tokens, no-cells}
 use Rattle.streams.proofs.Fronts.{reads}
 use Rattle.streams.proofs.Sends.{putEach}
-use Rattle.streams.proofs.Tells.{AimsNoted}
-use Rattle.streams.proofs.Calls.{replyEvents, obeyEvents, stepEvents, outputEvents, madeEvents, eventsOf, not-fresh}
+use Rattle.streams.proofs.Noted.{AimsNoted}
+use Rattle.streams.proofs.Calls.{replyEvents, obeyEvents, stepEvents, outputEvents, done, isFresh, madeEvents, eventsOf, not-fresh}
 
 -- tokens put one by one
 puts-noted : (ts : List ℕ) (e d : ℕ) (g : Ghost) → booksOf (notes (putEach e d ts) g) ≡ putAll e d ts (booksOf g)

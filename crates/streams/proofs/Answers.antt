@@ -46,7 +46,8 @@ use Rattle.kept.proofs.Found.{Found, idle, waits, splits, unrouted, routes, lan
 use Rattle.plans.specs.Plan.{markedWidth}
 use Rattle.plans.proofs.Held.{size-some}
 use Rattle.acts.specs.Acts.{wordAt}
-use Rattle.streams.specs.Observer.{done, misread}
+use Rattle.streams.specs.Observer.{misread}
+use Rattle.streams.proofs.Calls.{done}
 use Rattle.streams.proofs.Misreads.{not-misread, is-misread, goes-on}
 
 -- SPLIT

@@ -7,13 +7,14 @@ use mathlib.Core.Logic.{⊎-elim}
 use mathlib.Core.List.{List, [], _∷_, _++_}
 use native.Mathlib.Omega.{arith}
 use lib.Arith.{digits-mod}
-use lib.Dec.{ltb}
+use lib.Dec.{eqb, ltb}
 use lib.ListN.{take}
 use borrow.Author.Tests.{lt-ltb}
 use Rattle.laws.specs.Pick.{pick}
 use Rattle.laws.specs.Table as Two
 use Rattle.laws.proofs.Order.{by-test, clash}
 use Rattle.names.specs.Size.{links, ports, ends, replyPort}
+use Rattle.names.specs.No.{passes}
 use Rattle.circuits.specs.Circuit.{peerOf}
 use Rattle.circuits.specs.declared.Cause.the-variants.{Split, NoRoute}
 use Rattle.circuits.specs.declared.Hop.the-variants as Hops
@@ -23,7 +24,7 @@ use Rattle.tokens.specs.Control.{end}
 use Rattle.tokens.specs.Word.{closes, controlWord}
 use Rattle.tokens.specs.Header.{Carried, headerOf, isNarrow}
 use Rattle.tokens.specs.declared.header.Target.{Target}
-use Rattle.answers.specs.Rows.{Passes}
+use Rattle.answers.specs.Rows.{refusal, Passes}
 use Rattle.answers.proofs.Refusals.{passed}
 use Rattle.cells.specs.View as Cells
 use Rattle.cells.specs.World.{World, farOf, queue}
@@ -74,7 +75,7 @@ use Rattle.kept.proofs.Messages.{Address, Replied, replied, Ready, ready-writte
 use Rattle.streams.specs.Model.{upd, Use, Nobody, By, Closed, portNo, doorNo, doorsEach, unitDoor, isLink, ToChannel, ToUnit, Net}
 use Rattle.streams.specs.Events.{Event, Opens, Puts, Starts, Tells, Takes, Lands, Refuses, Enters, Arrives, Hands, Loses, Wires}
 use Rattle.streams.specs.Events.{effect, empty}
-use Rattle.streams.specs.Observer.{isFresh, done, anew}
+use Rattle.streams.specs.Observer.{anew}
 use Rattle.streams.specs.View.{view, farEnd, useBy}
 use Rattle.streams.proofs.Machine.{Leads, leads-append}
 use Rattle.streams.proofs.View.{net-as, cable-put, view-cable, view-user, Alike, alike, unseen}
@@ -262,6 +263,18 @@ module _ (w : World) (k : Kept w) (n l m j : ℕ) (a : Loose w n l) (b : Loose w
       }
 
 -- A CALL that is not refused
+abbrev pub done : World → Call → Bool
+done w c = eqb (refusal (rows w c)) passes
+
+abbrev pub isFresh : Call → Bool
+isFresh (Fresh n) = true
+isFresh (Wire a l b j) = false
+isFresh (Set a x) = false
+isFresh (Aim a c g v) = false
+isFresh (Output a c x) = false
+isFresh (Input a c x) = false
+isFresh (Step a p) = false
+
 abbrev pub madeEvents : World → Call → List Event
 madeEvents w (Fresh n) = []
 madeEvents w (Wire a l b j) = Wires (portNo (a .0) l) (portNo (b .0) j) ∷ []
@@ -293,13 +306,37 @@ module _ (w : World) (k : Kept w) where
 abbrev pub eventsOf : World → Call → List Event
 eventsOf w c = pick (done w c) (madeEvents w c) []
 
--- a call that is done and not anew is no Fresh
+-- new books are opened exactly by a Fresh that is not refused
+pub anew-done : (w : World) (c : Call) → anew w c ≡ (isFresh c && done w c)
+unfolding apply
+anew-done w (Fresh n) = by-test (done w (Fresh n)) (λ t. rw t) (λ t. rw t)
+anew-done w (Wire a l b j) = refl
+anew-done w (Set a x) = refl
+anew-done w (Aim a c g v) = refl
+anew-done w (Output a c x) = refl
+anew-done w (Input a c x) = refl
+anew-done w (Step a p) = refl
+
 pub not-fresh : (w : World) (c : Call) → done w c ≡ true → anew w c ≡ false → isFresh c ≡ false
-not-fresh w c t e = go (isFresh c) e
+not-fresh w c t e = go (isFresh c) (sym (anew-done w c) ∙ e)
   where
     go : (b : Bool) → (b && done w c) ≡ false → b ≡ false
     go true f = clash (sym t ∙ f)
     go false f = refl
+
+-- what a call leaves that opens new books
+pub anew-case : (P : World → Type 0) → ((n : ℕ) → P (freshWorld n)) → (w : World) (c : Call) → anew w c ≡ true → P (apply w c .next)
+unfolding apply
+anew-case P h w c e = go c (sym (anew-done w c) ∙ e)
+  where
+    go : (c : Call) → (isFresh c && done w c) ≡ true → P (apply w c .next)
+    go (Fresh n) f = rw f (h n)
+    go (Wire a l b j) f = clash (sym f)
+    go (Set a x) f = clash (sym f)
+    go (Aim a c g v) f = clash (sym f)
+    go (Output a c x) f = clash (sym f)
+    go (Input a c x) f = clash (sym f)
+    go (Step a p) f = clash (sym f)
 
 pub call-leads : (w : World) → Kept w → (c : Call) → anew w c ≡ false → Leads isLink (eventsOf w c) (view w) (view (apply w c .next))
 unfolding apply
@@ -320,11 +357,4 @@ fresh-view n =
     (fun-ext (λ l. either (ltb (l % ports) links) Nobody)) refl
 
 pub fresh-seen : (w : World) (c : Call) → anew w c ≡ true → view (apply w c .next) ≡ empty
-unfolding apply
-fresh-seen w (Fresh n) e = rw e (fresh-view n)
-fresh-seen w (Wire a l b j) e = clash (sym e)
-fresh-seen w (Set a x) e = clash (sym e)
-fresh-seen w (Aim a c g v) e = clash (sym e)
-fresh-seen w (Output a c x) e = clash (sym e)
-fresh-seen w (Input a c x) e = clash (sym e)
-fresh-seen w (Step a p) e = clash (sym e)
+fresh-seen = anew-case (λ z. view z ≡ empty) fresh-view

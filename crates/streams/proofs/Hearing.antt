@@ -53,7 +53,6 @@ use Rattle.kept.proofs.Calls.{step-there}
 use Rattle.streams.specs.Model.{keeps, ToUnit, portNo, doorNo, unitDoor, isLink, Into, Books, upd, hd}
 use Rattle.streams.specs.Events.{Event, Hands, Cursor, At, Ghost, booksOf, after, next, note, notes, OkAll}
 use Rattle.streams.specs.Demand.{heardAt, Hears}
-use Rattle.streams.specs.Observer.{isFresh}
 use Rattle.streams.specs.View.{view, outBy}
 use Rattle.streams.proofs.Basics.{at-same, Fits, each-map}
 use Rattle.streams.proofs.Basics as Basics
@@ -62,12 +61,12 @@ use Rattle.streams.proofs.Keep.{front-at}
 use Rattle.streams.proofs.Theorem.{faithful}
 use Rattle.streams.proofs.Places.{landing-flies}
 use Rattle.streams.proofs.Handings.{Elsewhere, Into-place, stays}
-use Rattle.streams.proofs.View.{view-out}
+use Rattle.streams.proofs.View.{view-out, view-queue}
 use Rattle.streams.proofs.Acts.{first-seen}
 use Rattle.streams.proofs.Indoors.{Indoors, indoors-all, indoors-then, indoors-pick, indoors-set, indoors-pushed, indoors-pushedAll}
 use Rattle.streams.proofs.Indoors.{indoors-took, indoors-stripped, indoors-crosses, indoors-claimed, indoors-opens}
 use Rattle.streams.proofs.Indoors.{indoors-closesOut, indoors-dropped, indoors-obeyed, heardIn, heard-more}
-use Rattle.streams.proofs.Calls.{straightEvents, stepEvents, outputEvents, madeEvents, obeyEvents}
+use Rattle.streams.proofs.Calls.{straightEvents, stepEvents, outputEvents, isFresh, madeEvents, obeyEvents}
 use Rattle.streams.proofs.Filling.{Fills, obey-fills, fills-elsewhere}
 
 -- what the control unit of node n has heard, by the proof's books
@@ -116,7 +115,17 @@ pub hears-so : (w : World) → Kept w → (g : Ghost) → Inv isLink (view w) g 
 hears-so w k g iv n p hn e heard =
     let (hp, to) = serves-port w k n hn p e in
     let z = going w g iv n p hp to in
-    record { circuit = z .c; number = z .number; landed = z .to; named = z .place; words = heard p e (z .c) (z .i) (z .front) }
+    record {
+      circuit = z .c;
+      number = z .number;
+      landed = z .to;
+      named = z .place;
+      words = heard p e (z .c) (z .i) (z .front);
+      next = λ x q held.
+          let ft : Fits (At (z .c) (z .i)) (hd (g .cells (portNo n p))) =
+          rw (z .front) at (front-at isLink (view w) g iv (portNo n p) x q (view-queue w n p hp ∙ held) .fits) in
+          ft .0;
+    }
 
 -- A CALL THAT LEAVES A CONTROL UNIT ALONE
 module _ (w z : World) (k : Kept w) (g : Ghost) (iv : Inv isLink (view w) g) (vs : List Event) (ok : OkAll isLink vs (view w)) (n : ℕ)

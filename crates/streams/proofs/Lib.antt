@@ -23,7 +23,7 @@ pub mod Sends
 pub mod Outputs
 pub mod Calls
 pub mod Filling
-pub mod Tells
+pub mod Noted
 pub mod Hearing
 pub mod Ties
 pub mod Agree

@@ -51,12 +51,12 @@ use Rattle.kept.proofs.Found.{moves, hands, hears, drops}
 use Rattle.kept.proofs.Calls.{step-there}
 use Rattle.streams.specs.Model.{portNo, doorNo, unitDoor}
 use Rattle.streams.specs.Events.{Event}
-use Rattle.streams.specs.Observer.{done, isShut, misread, misreads, portIn}
+use Rattle.streams.specs.Observer.{isShut, misread, misreads, portIn}
 use Rattle.streams.proofs.Basics.{each-map}
 use Rattle.streams.proofs.Splits.{Mild, SplitBy}
 use Rattle.streams.proofs.Sends.{putEach}
 use Rattle.streams.proofs.Filling.{Fills, obey-fills, fills-mild}
-use Rattle.streams.proofs.Calls.{obeyEvents, straightEvents, stepEvents, outputEvents, madeEvents, eventsOf}
+use Rattle.streams.proofs.Calls.{obeyEvents, straightEvents, stepEvents, outputEvents, done, madeEvents, eventsOf}
 
 -- what senders do refuses nothing
 mild-straight : (w : World) (n c : ℕ) (g : Target) (d t : ℕ) (x : Peer) → Each Mild (straightEvents w n c g d t x)

@@ -21,16 +21,16 @@ use Rattle.bench.proofs.Computed.{applied, sound-row, Script, calls, fresh-kept
 use Rattle.bench.proofs.Runs.{update, halfway, narrowed}
 use Rattle.streams.specs.Model.{Info, Given, Fate, Lost, Landed, Here, noBooks, upd, portNo, doorNo, unitDoor, marks}
 use Rattle.streams.specs.Watch.{Seen, unseen, sees, seen}
-use Rattle.streams.specs.Observer.{write, anew, misreads, portIn}
+use Rattle.streams.specs.Observer.{write, jot, anew, misreads, portIn}
 use Rattle.streams.specs.Statement.{observed}
 
 -- HOW THEY ARE COMPUTED: what is seen of a run whose calls come to `act`
 abbrev watched : (World → Call → Out World) → World → Seen → List Call → Seen
-watched act = seen (λ (w : World) (c : Call). act w c .next) anew (λ w c. act w c .answer) write misreads portIn
+watched act = seen (λ (w : World) (c : Call). act w c .next) anew (λ w c. act w c .answer) write jot misreads portIn
 
 -- .. of one call that comes to o
 abbrev after : Out World → World → Call → Seen → Seen
-after o = sees (λ (w : World) (c : Call). o .next) anew (λ w c. o .answer) write misreads portIn
+after o = sees (λ (w : World) (c : Call). o .next) anew (λ w c. o .answer) write jot misreads portIn
 
 watched-so : (cs : List Call) (w : World) (k : Seen) → Kept w → watched apply w k cs ≡ watched applied w k cs
 watched-so [] w k s = refl
@@ -63,13 +63,13 @@ abbrev pub logs : List ℕ → Seen → List (List Given)
 logs ds s = map (s .books .log) ds
 
 -- what an observer of a script on two boards has in the end, read by f
-abbrev Tells : Script → {A : Type 0} → (Seen → A) → A → Type 0
-Tells s f a = f (observed 2 (calls s)) ≡ a
+abbrev Shows : Script → {A : Type 0} → (Seen → A) → A → Type 0
+Shows s f a = f (observed 2 (calls s)) ≡ a
 
-abbrev told : (s : Script) {A : Type 0} (f : Seen → A) {a : A}
+abbrev shown : (s : Script) {A : Type 0} (f : Seen → A) {a : A}
     → f (watched applied (freshWorld 2) unseen (calls s)) ≡ a
-    → Tells s f a
-told s f computed =
+    → Shows s f a
+shown s f computed =
     ap f (watched-so (calls s) (freshWorld 2) unseen (fresh-kept 2 refl refl)) ∙ computed
 
 -- openings: at three-byte width, at one-byte width, within a node
@@ -84,7 +84,7 @@ within e d = record { sender = e; dest = d; width = One; skip = 0 }
 
 -- THE UPDATE. Board 0 is the hub, board 1 the lane. Words: 0x600 and more is a header token of three, 0x200 and more of one, 0x100 and more
 -- a control token
-pub update-books : Tells update accounts
+pub update-books : Shows update accounts
     -- landed by port 0 of the lane, whose number was 1 when it was opened and is 2
     (record {
       opening = three (doorNo 0 0) (Channel (record { 0 = 2 }) 5);
@@ -135,13 +135,13 @@ pub update-books : Tells update accounts
     }
     ∷ [])
 unfolding computes upd noBooks
-update-books = told update accounts refl
+update-books = shown update accounts refl
 
 -- the doors that they name: channel 5 and the control unit of the lane; channels 3, 6 and 4 of the hub
 abbrev pub named : List ℕ
 named = doorNo 1 5 ∷ doorNo 1 unitDoor ∷ doorNo 0 3 ∷ doorNo 0 6 ∷ doorNo 0 4 ∷ []
 
-pub update-doors : Tells update (logs named)
+pub update-doors : Shows update (logs named)
     ((marks 0 (7 ∷ 0x101 ∷ []) ++ marks 5 (6 ∷ []))
     ∷ marks 1 (0x1C1 ∷ 0 ∷ 0 ∷ 3 ∷ 0 ∷ 5 ∷ 0x101 ∷ [])
     ∷ marks 2 (0x103 ∷ 0 ∷ 0 ∷ 0 ∷ 2 ∷ 0x101 ∷ [])
@@ -149,10 +149,10 @@ pub update-doors : Tells update (logs named)
     ∷ marks 4 (1 ∷ 0x101 ∷ [])
     ∷ [])
 unfolding computes upd noBooks
-update-doors = told update (logs named) refl
+update-doors = shown update (logs named) refl
 
 -- "Hub at one-byte, lane at three-byte": nothing was handed
-pub halfway-books : Tells halfway accounts
+pub halfway-books : Shows halfway accounts
     (record {
       opening = three (doorNo 1 0) (Channel (record { 0 = 0 }) 5);
       put = 0x600 ∷ 0x600 ∷ 0x605 ∷ 7 ∷ 0x101 ∷ [];
@@ -162,10 +162,10 @@ pub halfway-books : Tells halfway accounts
     }
     ∷ [])
 unfolding computes upd noBooks
-halfway-books = told halfway accounts refl
+halfway-books = shown halfway accounts refl
 
 -- "A message sets a node to one-byte": the message was heard, and nothing of the reply was handed
-pub narrowed-books : Tells narrowed accounts
+pub narrowed-books : Shows narrowed accounts
     (record {
       opening = three (doorNo 0 0) (Unit (record { 0 = 1 }));
       put = 0x600 ∷ 0x601 ∷ 0x7C3 ∷ 0x1C0 ∷ 0 ∷ 0 ∷ 3 ∷ 0 ∷ 4 ∷ 0 ∷ 0 ∷ 0 ∷ 1 ∷ 0x101 ∷ [];
@@ -182,4 +182,4 @@ pub narrowed-books : Tells narrowed accounts
     }
     ∷ [])
 unfolding computes upd noBooks
-narrowed-books = told narrowed accounts refl
+narrowed-books = shown narrowed accounts refl

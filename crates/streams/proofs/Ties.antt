@@ -21,7 +21,7 @@ use Rattle.kept.specs.Kept.{Kept}
 use Rattle.streams.specs.Model.{portNo, doorNo, isLink, Cell, Books, Notes, noNotes}
 use Rattle.streams.specs.Events.{Cursor, Ghost, booksOf, notes, blank, next, OkAll}
 use Rattle.streams.specs.Demand.{sentBy, tokensGiven, tokensOf, heldAt, Intact, Ties}
-use Rattle.streams.specs.Observer.{isFresh, done, anew, jot}
+use Rattle.streams.specs.Observer.{anew, jot}
 use Rattle.streams.specs.View.{view}
 use Rattle.streams.proofs.Basics.{Streams, Chain}
 use Rattle.streams.proofs.Inv.{Inv}
@@ -29,8 +29,8 @@ use Rattle.streams.proofs.Machine.{line-tokens, no-cells}
 use Rattle.streams.proofs.Sendings.{putsAt, SendingIn, MarkedIn, keep-sendings, sent-steps, start-sending}
 use Rattle.streams.proofs.Handings.{handsAt, log-steps}
 use Rattle.streams.proofs.View.{view-queue}
-use Rattle.streams.proofs.Calls.{madeEvents, eventsOf, not-fresh, call-leads}
-use Rattle.streams.proofs.Tells.{AimsNoted, Long, made-told}
+use Rattle.streams.proofs.Calls.{done, isFresh, madeEvents, eventsOf, not-fresh, anew-case, call-leads}
+use Rattle.streams.proofs.Noted.{AimsNoted, Long, made-told}
 use Rattle.streams.proofs.Hearing.{HeardAt, Wide, made-heard, hears-so}
 
 pub record Tied (w : World) (g : Ghost) (o : Notes) : Type 0 where
@@ -61,14 +61,7 @@ tied-fresh n =
 
 -- where a Fresh is done
 pub tied-anew : (w : World) (c : Call) → anew w c ≡ true → Tied (apply w c .next) blank noNotes
-unfolding apply
-tied-anew w (Fresh n) e = rw e (tied-fresh n)
-tied-anew w (Wire a l b j) e = clash (sym e)
-tied-anew w (Set a x) e = clash (sym e)
-tied-anew w (Aim a c g v) e = clash (sym e)
-tied-anew w (Output a c x) e = clash (sym e)
-tied-anew w (Input a c x) e = clash (sym e)
-tied-anew w (Step a p) e = clash (sym e)
+tied-anew = anew-case (λ z. Tied z blank noNotes) tied-fresh
 
 -- EVERY OTHER CALL
 module _ (w : World) (k : Kept w) (g : Ghost) (iv : Inv isLink (view w) g) (o : Notes) (t : Tied w g o) where

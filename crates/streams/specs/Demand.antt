@@ -19,7 +19,7 @@ use Rattle.tokens.specs.Header.{compared}
 use Rattle.cells.specs.World.{World, queue}
 use Rattle.plans.specs.Plan.{numberIn}
 use Rattle.streams.specs.Model.{body, placeOf, ToUnit, portNo, doorNo, nodeOfPort, nodeOfDoor, endAt, Cell, Fate, Flying, Lost}
-use Rattle.streams.specs.Model.{Landed, Here, Info, Given, Books, Notes}
+use Rattle.streams.specs.Model.{Landed, Here, Info, Given, Books, Notes, hd}
 
 -- A CIRCUIT
 -- the destination named that number, in the bits that its width compares
@@ -90,6 +90,8 @@ pub record Hears (w : World) (k : Books) (n p : ℕ) : Type 0 where
   pub landed : k .fate circuit ≡ Landed (portNo n p) number
   pub named : placeOf (k .info circuit .dest) ≡ ToUnit
   pub words : heardAt w n ≡ take unitBuffer (k .handed circuit)
+  -- what it will hear next is of that circuit too
+  pub next : (x : ℕ) (q : List ℕ) → queue w n p ≡ x ∷ q → hd (k .cells (portNo n p)) .circuit ≡ circuit
 
 -- cells with their marks taken off
 abbrev pub tokensOf : List Cell → List ℕ

@@ -4,11 +4,10 @@
 use Prim.Native.Nat.{ℕ, suc}
 use mathlib.Core.Bool.{Bool, true, false, not, _&&_}
 use mathlib.Core.List.{List, [], _∷_, _++_}
-use lib.Dec.{eqb, leb}
+use lib.Dec.{leb}
 use lib.ListN.{length, drop}
 use Rattle.laws.specs.Pick.{pick}
 use Rattle.names.specs.Size.{replyPort}
-use Rattle.names.specs.No.{passes}
 use Rattle.names.specs.declared.NodeNumber.{NodeNumber}
 use Rattle.circuits.specs.Circuit.{peerOf}
 use Rattle.circuits.specs.declared.Cause.{Cause}
@@ -24,7 +23,6 @@ use Rattle.tokens.specs.declared.header.Target.the-variants.{Channel, Unit}
 use Rattle.routing.specs.Way.{wayTo}
 use Rattle.routing.specs.declared.way.Way.{Way}
 use Rattle.routing.specs.declared.way.Way.the-variants.{ThisNode, OtherNode}
-use Rattle.answers.specs.Rows.{refusal}
 use Rattle.answers.specs.declared.Answer.{Answer}
 use Rattle.answers.specs.declared.Answer.the-variants as Answers
 use Rattle.cells.specs.World.{World, farOf, hop}
@@ -47,7 +45,7 @@ use Rattle.ends.specs.declared.Wanted.the-variants as Wants
 use Rattle.ends.specs.declared.aim.Goal.{Goal}
 use Rattle.ends.specs.declared.aim.Goal.the-variants as Goals
 use Rattle.switch.specs.Step.{portAt}
-use Rattle.bench.specs.Calls.{Call, Fresh, Wire, Set, Aim, Output, Input, Step, rows}
+use Rattle.bench.specs.Calls.{Call, Fresh, Wire, Set, Aim, Output, Input, Step, apply}
 use Rattle.bench.specs.Writes.{hopClosed}
 use Rattle.streams.specs.Model.{keeps, Place, ToChannel, ToUnit, encode, portNo, doorNo, unitDoor, nodeOfPort, nodeOfDoor, endAt}
 use Rattle.streams.specs.Model.{Lost, Landed, Here, Books, Notes, upd, hd, pop, push, pushAll, cellsOf, marks}
@@ -337,22 +335,18 @@ jot (Output a c t) x k = whenDone x (jotPut (doorNo (a .0) c) (wordOf t) k) k
 jot (Input a c y) x k = jotInput (doorNo (a .0) c) y x k
 jot (Step a p) x k = k
 
--- NEW BOOKS: a Fresh that is done; one that is refused changes none
-abbrev pub isFresh : Call → Bool
-isFresh (Fresh n) = true
-isFresh (Wire a l b j) = false
-isFresh (Set a x) = false
-isFresh (Aim a c g v) = false
-isFresh (Output a c x) = false
-isFresh (Input a c x) = false
-isFresh (Step a p) = false
-
--- no row refuses it
-abbrev pub done : World → Call → Bool
-done w c = eqb (refusal (rows w c)) passes
+-- NEW BOOKS: after a Fresh that is done; one that is refused changes none
+abbrev pub renews : Call → Answer → Bool
+renews (Fresh n) x = whenDone x true false
+renews (Wire a l b j) x = false
+renews (Set a y) x = false
+renews (Aim a c g v) x = false
+renews (Output a c t) x = false
+renews (Input a c y) x = false
+renews (Step a p) x = false
 
 abbrev pub anew : World → Call → Bool
-anew w c = isFresh c && done w c
+anew w c = renews c (apply w c .answer)
 
 -- "READS", said over the state: a Step that is not refused, of a port without a circuit, whose front is a whole header. Here: one of the
 -- other width than the switch's

@@ -63,7 +63,7 @@ use Rattle.kept.proofs.Calls.{output-sender, step-there}
 use Rattle.streams.specs.Model.{keeps, ToChannel, ToUnit, portNo, doorNo, unitDoor, doorsEach, endAt, Notes, upd, push, pushAll}
 use Rattle.streams.specs.Events.{Event}
 use Rattle.streams.specs.Demand.{heldAt}
-use Rattle.streams.specs.Observer.{given, wordAs, isFresh, jot}
+use Rattle.streams.specs.Observer.{given, wordAs, jot}
 use Rattle.streams.proofs.Basics.{upd-hit, upd-same, upd-miss, each-map, pushed-at}
 use Rattle.streams.proofs.Sendings.{putsAt, Unmarked}
 use Rattle.streams.proofs.Handings.{handsAt}
@@ -71,7 +71,7 @@ use Rattle.streams.proofs.Indoors.{Indoors, indoors-all, indoors-then, 
 use Rattle.streams.proofs.Indoors.{indoors-took, indoors-stripped, indoors-crosses, indoors-claimed, indoors-opens}
 use Rattle.streams.proofs.Indoors.{indoors-closesOut, indoors-dropped, indoors-obeyed, heldIn, long-took, held-took}
 use Rattle.streams.proofs.Indoors.{handed-held, handed-long, door-off}
-use Rattle.streams.proofs.Calls.{obeyEvents, straightEvents, stepEvents, outputEvents, madeEvents}
+use Rattle.streams.proofs.Calls.{obeyEvents, straightEvents, stepEvents, outputEvents, isFresh, madeEvents}
 use Rattle.streams.proofs.Filling.{Fills, obey-fills, fills-unmarked, fills-hands, fills-puts}
 
 -- what a channel-end that is aimed is aimed at, by the notes
