@@ -29,5 +29,6 @@ pub mod Ties
 pub mod Agree
 pub mod Misreads
 pub mod Faithfully
+pub mod LetBy
 pub mod Answers
 pub mod Runs
