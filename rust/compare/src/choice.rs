@@ -14,6 +14,23 @@ use model::sizes::{
 
 use crate::layout::NODE_TOKENS;
 
+/// A run of that many calls. The first half is one of the model's own runs, which leaves circuits
+/// under way; what follows makes no sense, and is mostly refused. The same seed gives the same run.
+pub fn calls(seed: u64, count: usize) -> Vec<Call> {
+    let mut random = Random::new(seed);
+    let mut calls = model::runs::calls(seed, count / 2);
+    let mut network = None;
+    for call in &calls {
+        model::apply(&mut network, call);
+    }
+    while calls.len() < count {
+        let call = any(&mut random, network.as_ref());
+        model::apply(&mut network, &call);
+        calls.push(call);
+    }
+    calls
+}
+
 /// Any call, often of a link or channel-end whose circuits make a difference.
 pub fn any(random: &mut Random, network: Option<&Network>) -> Call {
     let nodes = network.map_or(3, |network| network.nodes.len());

@@ -10,7 +10,9 @@
 //! does all of it for one seed, and [`reduce`] makes a run that differs as short as it can be.
 
 pub mod asking;
+pub mod books;
 pub mod calls;
+pub mod changing;
 pub mod choice;
 pub mod damage;
 pub mod damaged;
@@ -22,3 +24,4 @@ pub mod reading;
 pub mod reduce;
 pub mod soak;
 pub mod verdict;
+pub mod watch;

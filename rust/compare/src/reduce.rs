@@ -10,23 +10,31 @@ use model::words::parse_call;
 use crate::calls::Apply;
 use crate::pair::{differing, script, Differing};
 
+/// Runs calls from nothing, and gives the run up to the first call in which something is wrong.
+pub type Fails<'a> = &'a dyn Fn(&[Call]) -> Option<Differing>;
+
 /// The run with no call that can be left out, no number that may as well be 0 and no node too many,
 /// and with nothing behind the call in which the sides differ.
 pub fn reduce(apply: Apply, found: Differing) -> Differing {
-    let mut shortest = leave_all_out(apply, found);
-    while let Some(plainer) = plainer(apply, &shortest.calls) {
-        shortest = leave_all_out(apply, plainer);
+    reduce_by(&|calls| differing(apply, calls), found)
+}
+
+/// The same of a run that is wrong in another way.
+pub fn reduce_by(fails: Fails, found: Differing) -> Differing {
+    let mut shortest = leave_all_out(fails, found);
+    while let Some(plainer) = plainer(fails, &shortest.calls) {
+        shortest = leave_all_out(fails, plainer);
     }
     shortest
 }
 
-/// Leaves calls out as long as the sides still differ somewhere: large parts first, then single
-/// calls, until none can be left out.
-fn leave_all_out(apply: Apply, found: Differing) -> Differing {
+/// Leaves calls out as long as something is still wrong: large parts first, then single calls,
+/// until none can be left out.
+fn leave_all_out(fails: Fails, found: Differing) -> Differing {
     let mut shortest = found;
     let mut part = shortest.calls.len() / 2;
     while part > 0 {
-        match leave_out(apply, &shortest.calls, part) {
+        match leave_out(fails, &shortest.calls, part) {
             Some(shorter) => shortest = shorter,
             None => part /= 2,
         }
@@ -36,18 +44,18 @@ fn leave_all_out(apply: Apply, found: Differing) -> Differing {
 }
 
 /// The run without one part of so many calls, the first such part from the end that is not needed.
-fn leave_out(apply: Apply, calls: &[Call], part: usize) -> Option<Differing> {
+fn leave_out(fails: Fails, calls: &[Call], part: usize) -> Option<Differing> {
     let starts = (0..=calls.len() - part).rev().step_by(part);
     let mut shorter = starts.map(|start| {
         let kept = calls[..start].iter().chain(&calls[start + part..]);
         kept.copied().collect::<Vec<_>>()
     });
-    shorter.find_map(|kept| differing(apply, &kept))
+    shorter.find_map(|kept| fails(&kept))
 }
 
-/// The run with fewer nodes, or with some number 0 in all calls or in one, if the sides still
-/// differ.
-fn plainer(apply: Apply, calls: &[Call]) -> Option<Differing> {
+/// The run with fewer nodes, or with some number 0 in all calls or in one, if something is still
+/// wrong.
+fn plainer(fails: Fails, calls: &[Call]) -> Option<Differing> {
     let everywhere = numbers(calls).into_iter().map(|number| {
         let plainer = calls.iter().map(|call| with_nought(call, &number));
         plainer.collect::<Vec<_>>()
@@ -63,7 +71,7 @@ fn plainer(apply: Apply, calls: &[Call]) -> Option<Differing> {
         })
     });
     let mut tried = everywhere.chain(in_one).filter(|tried| tried != calls);
-    tried.find_map(|tried| differing(apply, &tried))
+    tried.find_map(|tried| fails(&tried))
 }
 
 /// The numbers other than 0 that calls are written with, each once.
@@ -103,8 +111,13 @@ fn fresh(nodes: usize) -> Option<Call> {
 
 /// The reduced run in the script format: what differs, and the model's side stated.
 pub fn report(apply: Apply, from: &str, found: Differing) -> String {
+    report_by(&|calls| differing(apply, calls), apply, from, found)
+}
+
+/// The same of a run that is wrong in another way.
+pub fn report_by(fails: Fails, apply: Apply, from: &str, found: Differing) -> String {
     let calls = found.calls.len();
-    let shortest = reduce(apply, found);
+    let shortest = reduce_by(fails, found);
     let how = &shortest.how;
     let stated = script(apply, &shortest.calls);
     format!(

@@ -6,20 +6,22 @@ use std::ops::AddAssign;
 
 use model::calls::Call;
 use model::random::Random;
-use model::runs::Runner;
+use model::runs::{self, Runner};
 
 use crate::asking;
 use crate::calls::Apply;
-use crate::choice::any;
+use crate::changing;
+use crate::choice::{self, any};
 use crate::damaged;
 use crate::filling;
 use crate::pair::{differing, Differing, Pair};
+use crate::watch;
 
 /// From each state of a run so many calls are made in a row, aside from the run.
 const ASIDE: usize = 4;
 
 /// What was compared.
-#[derive(Clone, Copy, Debug, Default, PartialEq, Eq)]
+#[derive(Clone, Debug, Default, PartialEq, Eq)]
 pub struct Figures {
     pub runs: usize,
     /// Calls of runs.
@@ -28,6 +30,8 @@ pub struct Figures {
     pub aside: usize,
     /// Memories that were damaged.
     pub damaged: usize,
+    /// What was met in the runs with a watcher beside the library.
+    pub watched: watch::Figures,
 }
 
 impl AddAssign for Figures {
@@ -36,6 +40,7 @@ impl AddAssign for Figures {
         self.calls += more.calls;
         self.aside += more.aside;
         self.damaged += more.damaged;
+        self.watched += more.watched;
     }
 }
 
@@ -44,7 +49,11 @@ impl fmt::Display for Figures {
         let compared = self.calls + self.aside + damaged::CALLS * self.damaged;
         write!(f, "{} runs, {compared} calls compared ", self.runs)?;
         write!(f, "({} of runs, {} aside, ", self.calls, self.aside)?;
-        write!(f, "the rest on {} damaged memories)", self.damaged)
+        write!(f, "the rest on {} damaged memories)", self.damaged)?;
+        match self.watched == watch::Figures::default() {
+            true => Ok(()),
+            false => write!(f, "; {}", self.watched),
+        }
     }
 }
 
@@ -55,6 +64,8 @@ pub enum Found {
     Run(Differing),
     /// A memory, which no script leads to.
     Memory { behind: usize, how: String },
+    /// A run of the library that breaks a sentence which a watcher holds.
+    Watched(Differing),
 }
 
 /// A random run of that many calls, with calls aside from each of its states and damage to each.
@@ -115,6 +126,23 @@ pub fn fill(apply: Apply, seed: u64, count: usize) -> Result<Figures, Found> {
 /// A run that asks control units.
 pub fn ask(apply: Apply, seed: u64, count: usize) -> Result<Figures, Found> {
     all(apply, &asking::calls(seed, count))
+}
+
+/// Runs of every kind on the library alone, with a watcher beside it.
+pub fn watched(seed: u64, count: usize) -> Result<Figures, Found> {
+    let makers = [
+        runs::calls,
+        choice::calls,
+        filling::calls,
+        asking::calls,
+        changing::calls,
+    ];
+    let mut figures = Figures::default();
+    for calls in makers {
+        let watched = watch::library(&calls(seed, count)).map_err(Found::Watched)?;
+        figures.watched += watched;
+    }
+    Ok(figures)
 }
 
 fn all(apply: Apply, calls: &[Call]) -> Result<Figures, Found> {

@@ -26,7 +26,7 @@ fn add(figures: &mut Figures, seed: u64, compared: Result<Figures, Found>) {
     match compared {
         Ok(more) => *figures += more,
         Err(Found::Memory { behind, how }) => panic!("seed {seed}, behind {behind} calls: {how}"),
-        Err(Found::Run(differing)) => {
+        Err(Found::Run(differing) | Found::Watched(differing)) => {
             panic!(
                 "{}",
                 report(model::apply, &format!("seed {seed}"), differing)

@@ -95,7 +95,7 @@ fn first_differing(apply: Apply) -> Differing {
         .filter_map(Result::err)
         .find_map(|found| match found {
             Found::Run(differing) => Some(differing),
-            Found::Memory { .. } => None,
+            Found::Memory { .. } | Found::Watched(_) => None,
         });
     found.expect("a difference")
 }

@@ -4,16 +4,19 @@ use std::path::PathBuf;
 use std::process::ExitCode;
 use std::time::{Duration, Instant, SystemTime, UNIX_EPOCH};
 
-use compare::reduce::report;
-use compare::soak::{ask, fill, run, Figures, Found};
+use compare::reduce::{report, report_by};
+use compare::soak::{ask, fill, run, watched, Figures, Found};
+use compare::watch::library;
+use model::Call;
 
 const ABOUT: &str = "\
-soak: compares the proved bench with the model on random runs and damaged memories
+soak: compares the proved bench with the model on random runs and damaged memories, and watches
+      what becomes of its streams
 
   soak [--seed N] [--minutes N] [--into FOLDER]
 
-Seeds are taken one after the other, from N or from the clock, until a difference is found or the
-minutes (60 if not given) have passed. A run that differs is made as short as it can be and written
+Seeds are taken one after the other, from N or from the clock, until a difference or a stream gone
+wrong is found or the minutes (60 if not given) have passed. A run that differs is made as short as it can be and written
 as a script, FOLDER/soak-SEED.txt (the folder at hand if none is given), with the model's answers
 stated. The same seed gives the same run.
 
@@ -21,10 +24,11 @@ Exit status: 0 no difference, 1 a difference, 2 words that are not understood.
 ";
 
 /// Calls of each random run, most of them behind the setting up of its network, of each run that
-/// fills buffers, and of each that asks control units.
+/// fills buffers, of each that asks control units, and of each that is watched.
 const CALLS: usize = 1500;
 const FILLING: usize = 1500;
 const ASKING: usize = 3000;
+const WATCHED: usize = 3000;
 
 /// How often it says how far it is.
 const EVERY: Duration = Duration::from_secs(10);
@@ -99,6 +103,7 @@ fn compare_with(seed: u64) -> Result<Figures, Found> {
     let mut figures = run(model::apply, seed, CALLS)?;
     figures += fill(model::apply, seed, FILLING)?;
     figures += ask(model::apply, seed, ASKING)?;
+    figures += watched(seed, WATCHED)?;
     Ok(figures)
 }
 
@@ -110,13 +115,27 @@ fn tell(asked: &Asked, seed: u64, found: Found) -> ExitCode {
         }
         Found::Run(differing) => {
             println!("seed {seed}: {}", differing.how);
-            let text = report(model::apply, &format!("seed {seed}"), differing);
-            let path = asked.into.join(format!("soak-{seed}.txt"));
-            match std::fs::write(&path, &text) {
-                Ok(()) => println!("{text}written to {}", path.display()),
-                Err(error) => println!("{text}not written to {}: {error}", path.display()),
-            }
+            leave(asked, seed, &report(model::apply, &from(seed), differing));
+        }
+        Found::Watched(broken) => {
+            println!("seed {seed}: {}", broken.how);
+            let fails = |calls: &[Call]| library(calls).err();
+            let text = report_by(&fails, model::apply, &from(seed), broken);
+            leave(asked, seed, &text);
         }
     }
     ExitCode::FAILURE
+}
+
+fn from(seed: u64) -> String {
+    format!("seed {seed}")
+}
+
+/// Leaves a script behind.
+fn leave(asked: &Asked, seed: u64, text: &str) {
+    let path = asked.into.join(format!("soak-{seed}.txt"));
+    match std::fs::write(&path, text) {
+        Ok(()) => println!("{text}written to {}", path.display()),
+        Err(error) => println!("{text}not written to {}: {error}", path.display()),
+    }
 }
