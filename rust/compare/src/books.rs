@@ -14,6 +14,7 @@ pub(crate) use note::kind_of;
 pub use note::{note, Note};
 
 use std::collections::{BTreeMap, VecDeque};
+use std::fmt;
 
 use bench::{Cause, Destination, Token};
 
@@ -52,6 +53,36 @@ impl Door {
     pub fn slot(self) -> usize {
         match self {
             Door::Channel { slot, .. } | Door::Unit { slot } => slot,
+        }
+    }
+}
+
+impl fmt::Display for Port {
+    fn fmt(&self, f: &mut fmt::Formatter<'_>) -> fmt::Result {
+        write!(f, "port {} of slot {}", self.port, self.slot)
+    }
+}
+
+impl fmt::Display for End {
+    fn fmt(&self, f: &mut fmt::Formatter<'_>) -> fmt::Result {
+        write!(f, "channel-end {} of slot {}", self.end, self.slot)
+    }
+}
+
+impl fmt::Display for Sender {
+    fn fmt(&self, f: &mut fmt::Formatter<'_>) -> fmt::Result {
+        match self {
+            Sender::End(end) => write!(f, "{end}"),
+            Sender::Unit(slot) => write!(f, "the control unit of slot {slot}"),
+        }
+    }
+}
+
+impl fmt::Display for Door {
+    fn fmt(&self, f: &mut fmt::Formatter<'_>) -> fmt::Result {
+        match self {
+            Door::Channel { slot, channel } => write!(f, "channel {channel} of slot {slot}"),
+            Door::Unit { slot } => write!(f, "the control unit of slot {slot}"),
         }
     }
 }

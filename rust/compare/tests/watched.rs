@@ -11,30 +11,31 @@ use model::runs;
 use model::words::parse_call;
 use model::Answer;
 
-const SEEDS: u64 = 60;
+const SEEDS: u64 = 40;
 const CALLS: usize = 2000;
 
 /// What has to be met, and how often at least.
-const LEAST: [(Met, usize); 20] = [
-    (Met::Refusals, 40_000),
+const LEAST: [(Met, usize); 21] = [
+    (Met::Refusals, 80_000),
     (Met::BegunAnew, 300),
-    (Met::FreshRefused, 500),
+    (Met::FreshRefused, 1_000),
     (Met::Circuits, 10_000),
     (Met::Local, 3_000),
-    (Met::Landed, 4_000),
-    (Met::Renumbered, 400),
-    (Met::Split, 1_000),
-    (Met::NoRoute, 2_000),
-    (Met::TurnedBack, 300),
+    (Met::Landed, 3_000),
+    (Met::Renumbered, 350),
+    (Met::Split, 700),
+    (Met::NoRoute, 1_700),
+    (Met::TurnedBack, 280),
     (Met::Circles, 2_000),
     (Met::Carried, 50_000),
-    (Met::Handed, 50_000),
-    (Met::Dropped, 20_000),
+    (Met::Handed, 35_000),
+    (Met::Dropped, 17_000),
     (Met::EndedByPause, 2_000),
-    (Met::PausesAtDoors, 1_000),
-    (Met::Heard, 1_500),
-    (Met::Answered, 1_000),
-    (Met::RepliesLanded, 900),
+    (Met::PausesAtDoors, 1_300),
+    (Met::Heard, 1_200),
+    (Met::Answered, 800),
+    (Met::RepliesLanded, 650),
+    (Met::NarrowReplies, 60),
     (Met::RepliesSplit, 30),
 ];
 
@@ -323,7 +324,7 @@ fn wrong_watchers_complain() {
             Sentence::Outputs,
         ),
         (forgets_fresh, Sentence::Hearing, Sentence::Cells),
-        (heeds_a_refused_fresh, Sentence::Aims, Sentence::Inputs),
+        (heeds_a_refused_fresh, Sentence::Hearing, Sentence::Inputs),
         (goes_on_behind_pause, Sentence::Outputs, Sentence::Outputs),
         (counts_refused_outputs, Sentence::Outputs, Sentence::Outputs),
         (logs_at_another_door, Sentence::Places, Sentence::Inputs),
@@ -334,8 +335,5 @@ fn wrong_watchers_complain() {
         assert_eq!(found, Some(first), "wrong watcher {place}");
         let found = complaint(note, &[alone]).map(|broken| broken.sentence);
         assert_eq!(found, Some(alone), "wrong watcher {place}");
-    }
-    for sentence in Sentence::ALL {
-        assert_eq!(complaint(books::note, &[sentence]), None);
     }
 }

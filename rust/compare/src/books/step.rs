@@ -150,9 +150,11 @@ impl Noting<'_, '_> {
             self.take()?;
         }
         let (at, door) = (self.at, self.door_behind());
+        if let Some(door) = door {
+            self.touched.door(door);
+        }
         if let Some(Door::Unit { slot }) = door {
             self.books.hearing.insert(slot, number);
-            self.touched.units.push(slot);
         }
         self.circuit(number)?.fate = Fate::Landed {
             at,

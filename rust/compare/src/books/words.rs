@@ -118,3 +118,16 @@ pub fn is_reply(tokens: &[Token]) -> bool {
         _ => false,
     }
 }
+
+/// Tokens as one reads them: data in two digits, control with a c, header tokens with an h.
+pub fn shown<'a>(tokens: impl IntoIterator<Item = &'a Token>) -> String {
+    let each = tokens.into_iter().map(|token| {
+        let control = if token.kind == Kind::Control { "c" } else { "" };
+        let mark = token.header.map_or("", |width| match width {
+            Width::One => "h1",
+            Width::Three => "h3",
+        });
+        format!("{control}{:02X}{mark}", token.value)
+    });
+    format!("[{}]", each.collect::<Vec<_>>().join(" "))
+}

@@ -6,7 +6,7 @@ use bench::{Cause, Destination, Looks, Token};
 use model::{answers, Answer};
 
 use super::{ties, Seen};
-use crate::books::words::{self, is_pause};
+use crate::books::words::{self, is_pause, shown};
 use crate::books::{Books, Circuit, Door, Fate, Happening, Port, Touched};
 
 /// What a sentence says of the run so far: nothing, or how it is broken.
@@ -152,7 +152,7 @@ fn everything(books: &Books, looks: Looks) -> Touched {
 fn circuit(books: &Books, number: usize, check: impl Fn(&Circuit) -> Held) -> Held {
     let circuit = books.circuits.get(number);
     let circuit = circuit.ok_or(format!("circuit {number} is not in the books"))?;
-    check(circuit).map_err(|what| format!("circuit {number} of {:?}: {what}", circuit.sender))
+    check(circuit).map_err(|what| format!("circuit {number} of {}: {what}", circuit.sender))
 }
 
 /// Both ways: the answer is Split exactly when the Step misread a header; and what is dropped is
@@ -190,7 +190,7 @@ fn split_hands_nothing(circuit: &Circuit) -> Held {
         ));
     }
     if split && !circuit.handed.is_empty() {
-        return Err(format!("split, and handed {:?}", circuit.handed));
+        return Err(format!("split, and handed {}", shown(&circuit.handed)));
     }
     Ok(())
 }
@@ -202,7 +202,11 @@ fn in_order(circuit: &Circuit) -> Held {
     let whole = owed.len() == circuit.handed.len();
     let local = matches!(circuit.fate, Fate::Here { .. });
     if !owed.starts_with(&circuit.handed) || (local && !whole) {
-        return Err(format!("handed {:?} of {owed:?}", circuit.handed));
+        return Err(format!(
+            "handed {} of {}",
+            shown(&circuit.handed),
+            shown(&owed)
+        ));
     }
     Ok(())
 }
@@ -267,7 +271,8 @@ fn reply(books: &Books, seen: &Seen, happening: Happening) -> Held {
     match held.strip_prefix(header.as_slice()) {
         Some(said) if words::is_reply(said) => Ok(()),
         _ => Err(format!(
-            "{held:?} in port 12, to {address:?} at width {width}"
+            "{} in port 12, to {address:?} at width {width}",
+            shown(&held)
         )),
     }
 }

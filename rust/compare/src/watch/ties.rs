@@ -1,13 +1,14 @@
 //! What ties the books to the bench: ports, channel-ends, control units and doors, each held against
 //! what the looks show there.
 
-use std::collections::BTreeMap;
+use std::collections::BTreeSet;
+use std::fmt::Display;
 
 use bench::sizes::UNIT_BUFFER;
 use bench::{Looks, Peer, Token};
 
 use super::sentences::Held;
-use crate::books::words::is_pause;
+use crate::books::words::{is_pause, shown};
 use crate::books::{Books, Circuit, Door, End, Fate, Port, Sender, Way};
 
 /// A token without its mark.
@@ -23,12 +24,14 @@ fn tokens(words: impl Iterator<Item = u32>) -> Option<Vec<Token>> {
     words.map(Token::from_word).collect()
 }
 
-fn differ<T: std::fmt::Debug>(
-    place: T,
-    found: impl std::fmt::Debug,
-    books: impl std::fmt::Debug,
-) -> Held {
-    Err(format!("{place:?} has {found:?}, the books {books:?}"))
+/// What is found somewhere, and what the books have of it.
+fn differ(place: impl Display, found: impl Display, books: impl Display) -> Held {
+    Err(format!("{place} has {found}, the books {books}"))
+}
+
+/// Tokens that are found, or that there is something else.
+fn found(tokens: Option<Vec<Token>>) -> String {
+    tokens.map_or("no tokens".to_owned(), |tokens| shown(&tokens))
 }
 
 /// Kinds and values of a port's tokens; [`marks`] has the marks.
@@ -39,7 +42,7 @@ pub(super) fn cells(books: &Books, looks: Looks, at: Port) -> Held {
     let written: Vec<_> = cells.map(|cell| bare(cell.token)).collect();
     match held {
         Some(held) if held == written => Ok(()),
-        held => differ(at, held, written),
+        held => differ(at, found(held), shown(&written)),
     }
 }
 
@@ -52,8 +55,8 @@ pub(super) fn marks(books: &Books, looks: Looks, at: Port) -> Held {
         let expected = circuit.and_then(|circuit| circuit.mark(cell.position));
         if found != expected {
             let (number, position) = (cell.circuit, cell.position);
-            let which = format!("token {position} of circuit {number} in {at:?}");
-            return differ(which, found, expected);
+            let which = format!("token {position} of circuit {number} in {at}");
+            return differ(which, format!("{found:?}"), format!("{expected:?}"));
         }
     }
     Ok(())
@@ -64,7 +67,7 @@ pub(super) fn unmarked(looks: Looks, end: End) -> Held {
     let held = tokens(looks.end_tokens(end.slot, end.end));
     match held {
         Some(held) if held.iter().all(|token| token.header.is_none()) => Ok(()),
-        held => differ(end, held, "no marks"),
+        held => differ(end, found(held), "no marks"),
     }
 }
 
@@ -72,7 +75,7 @@ pub(super) fn unmarked(looks: Looks, end: End) -> Held {
 pub(super) fn no_pause(looks: Looks, end: End) -> Held {
     let held = tokens(looks.end_tokens(end.slot, end.end)).unwrap_or_default();
     match held.iter().any(|token| is_pause(*token)) {
-        true => Err(format!("{end:?} holds a PAUSE")),
+        true => Err(format!("{end} holds a PAUSE")),
         false => Ok(()),
     }
 }
@@ -88,7 +91,7 @@ pub(super) fn inputs(books: &Books, looks: Looks, end: End) -> Held {
     let held = tokens(looks.end_tokens(end.slot, end.end));
     match held.map(|held| [taken, &held].concat()) {
         Some(seen) if seen == handed => Ok(()),
-        seen => differ(end, seen, handed),
+        seen => differ(end, found(seen), shown(&handed)),
     }
 }
 
@@ -100,18 +103,18 @@ pub(super) fn outputs(books: &Books, looks: Looks, end: End) -> Held {
     let streams: Vec<Token> = circuits.flat_map(Circuit::put_out).copied().collect();
     let put_out = books.ends.get(&end).map_or(&[][..], |book| &book.put_out);
     if streams != put_out {
-        return differ(end, put_out, streams);
+        return differ(end, shown(put_out), shown(&streams));
     }
     let open = books.ends.get(&end).and_then(|book| book.open);
     let written = open.map(|(_, way)| way);
-    let found = looks.channel_end(end.slot, end.end).sending.peer();
-    let found = found.map(|peer| match peer {
+    let peer = looks.channel_end(end.slot, end.end).sending.peer();
+    let found = peer.map(|peer| match peer {
         Peer::Port(port) => Way::Port(port as usize),
         Peer::ChannelEnd(channel) => Way::Straight(channel),
     });
     match found == written {
         true => Ok(()),
-        false => differ(end, found, written),
+        false => differ(end, format!("{found:?}"), format!("{written:?}")),
     }
 }
 
@@ -121,7 +124,7 @@ pub(super) fn aim(books: &Books, looks: Looks, end: End) -> Held {
     let written = books.ends.get(&end).and_then(|book| book.aimed);
     match found == written {
         true => Ok(()),
-        false => differ(end, found, written),
+        false => differ(end, format!("{found:?}"), format!("{written:?}")),
     }
 }
 
@@ -129,7 +132,10 @@ pub(super) fn aim(books: &Books, looks: Looks, end: End) -> Held {
 pub(super) fn as_aimed(circuit: &Circuit) -> Held {
     let by_end = matches!(circuit.sender, Sender::End(_));
     match by_end && circuit.aimed != Some(circuit.destination) {
-        true => differ("its destination", circuit.destination, circuit.aimed),
+        true => Err(format!(
+            "towards {:?}, and aimed at {:?}",
+            circuit.destination, circuit.aimed
+        )),
         false => Ok(()),
     }
 }
@@ -143,8 +149,9 @@ pub(super) fn hearing(books: &Books, looks: Looks, slot: usize) -> Held {
         Fate::Landed { at, .. } => Some(Peer::Port(at.port as u32)),
         _ => None,
     });
-    if unit.serves.peer() != served {
-        return differ(format!("the unit of {slot}"), unit.serves.peer(), served);
+    let (name, serves) = (Sender::Unit(slot), unit.serves.peer());
+    if serves != served {
+        return differ(name, format!("{serves:?}"), format!("{served:?}"));
     }
     let Some(circuit) = circuit else {
         return Ok(());
@@ -154,7 +161,7 @@ pub(super) fn hearing(books: &Books, looks: Looks, slot: usize) -> Held {
     let heard = unit.tokens.iter().take(unit.heard as usize).copied();
     match tokens(heard) {
         Some(heard) if heard == kept => Ok(()),
-        heard => differ(format!("the unit of {slot}"), heard, kept),
+        heard => differ(name, found(heard), shown(&kept)),
     }
 }
 
@@ -170,8 +177,8 @@ pub(super) fn in_its_log(books: &Books, number: usize) -> Held {
         true => Ok(()),
         false => differ(
             format!("the door of circuit {number}"),
-            logged,
-            &circuit.handed,
+            shown(&logged),
+            shown(&circuit.handed),
         ),
     }
 }
@@ -182,11 +189,12 @@ pub(super) fn logs(books: &Books) -> Held {
         let circuits = log.iter().map(|(_, circuit)| *circuit);
         circuits.map(move |circuit| (circuit, *door))
     });
-    let doors: BTreeMap<(usize, Door), ()> = entries.map(|entry| (entry, ())).collect();
-    for (number, door) in doors.into_keys() {
+    let doors: BTreeSet<(usize, Door)> = entries.collect();
+    for (number, door) in doors {
         let fate = books.circuits.get(number).map(|circuit| circuit.fate);
         if fate.and_then(Fate::door) != Some(door) {
-            return differ(door, format!("tokens of circuit {number}"), fate);
+            let tokens = format!("tokens of circuit {number}");
+            return differ(door, tokens, format!("{fate:?}"));
         }
     }
     Ok(())
