@@ -1,6 +1,7 @@
 //! Runs in which settings change while circuits are under way: numbers, widths and directions from
-//! a few values each, so that a board takes a number for which a header was made, loses the one that
-//! it had, or goes to the other width; cables with both ends on one board, and boards joined twice.
+//! a few values each, so that a board takes a number for which a header was made, loses the one
+//! that it had, or goes to the other width; cables with both ends on one board, and boards joined
+//! twice.
 
 use model::calls::Call;
 use model::network::{memory_words, LinkEnd, Network};

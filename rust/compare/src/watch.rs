@@ -1,12 +1,12 @@
-//! A person beside the bench, who keeps [books](crate::books) of a run and holds the third demand of
-//! the order: streams arrive whole and at the right door.
+//! A person beside the bench, who keeps [books](crate::books) of a run and holds the third demand
+//! of the order: streams arrive whole and at the right door.
 //!
 //! The watcher is written from the order and document 01, and from nothing that is proved. It looks
 //! at the state before each call through the looks alone, sees the call and its answer, writes its
-//! books and holds every [`Sentence`] against them. Behind each call it looks at what the call named
-//! and touched, and [every so many calls](EVERY), before and behind each Fresh and at the end of a
-//! run at everything. What it watches is anything that can be looked at and called: the proved library, or
-//! a model whose state is written as words.
+//! books and holds every [`Sentence`] against them. Behind each call it looks at what the call
+//! named and touched; [every so many calls](EVERY), before and behind each Fresh and at the end of
+//! a run at everything. What it watches is anything that can be looked at and called: the proved
+//! library, or a model whose state is written as words.
 
 mod figures;
 mod sentences;
@@ -276,14 +276,19 @@ impl Watcher {
     }
 }
 
-/// A run of the proved library, watched.
-pub fn library(calls: &[Call]) -> Result<Figures, Differing> {
+/// A run of calls, watched: what was met, or the run up to the call that breaks a sentence.
+pub fn watched(bench: &mut impl Watched, calls: &[Call]) -> Result<Figures, Differing> {
     let mut watcher = Watcher::default();
-    match watcher.run(&mut Lent::default(), calls) {
+    match watcher.run(bench, calls) {
         Ok(()) => Ok(watcher.figures),
         Err(broken) => Err(Differing {
             calls: calls.iter().take(broken.place + 1).copied().collect(),
             how: broken.to_string(),
         }),
     }
+}
+
+/// A run of the proved library, watched.
+pub fn library(calls: &[Call]) -> Result<Figures, Differing> {
+    watched(&mut Lent::default(), calls)
 }

@@ -1,5 +1,5 @@
-//! A watcher beside the proved library: streams arrive whole and at the right door, over random runs
-//! of every kind; and a watcher that keeps its books wrongly complains.
+//! A watcher beside the proved library: streams arrive whole and at the right door, over random
+//! runs of every kind; and a watcher that keeps its books wrongly complains.
 
 use compare::books::{self, words, Books, Circuit, Fate, Happening, Note, Port, Sender, Touched};
 use compare::calls::Lent;
@@ -55,14 +55,15 @@ fn streams_arrive_whole_and_at_the_right_door() {
     }
 }
 
-/// Makes the calls of a script on the library, with a watcher beside it.
+/// Makes the calls of a script on the library, with a watcher beside it. What a line states of the
+/// answer, and remarks, are left out.
 fn watch(script: &str) -> (Watcher, Vec<Answer>) {
     let mut watcher = Watcher::default();
     let mut bench = Lent::default();
-    let calls = script
+    let lines = script
         .lines()
-        .map(str::trim)
-        .filter(|line| !line.is_empty());
+        .map(|line| line.split("->").next().unwrap_or(line).trim());
+    let calls = lines.filter(|line| !line.is_empty() && !line.starts_with("//"));
     let answers = calls.map(|line| {
         let call = parse_call(line).expect(line);
         watcher.watch(&mut bench, &call).expect("nothing is broken")
@@ -146,6 +147,21 @@ fn a_header_read_by_a_board_of_the_other_width() {
     let circuit = &watcher.books.circuits[0];
     assert_eq!(circuit.fate, Fate::Refused(bench::Cause::Split));
     assert!(circuit.misread && circuit.handed.is_empty());
+}
+
+#[test]
+fn the_examples_are_watched() {
+    let folder = concat!(env!("CARGO_MANIFEST_DIR"), "/../../examples");
+    let files = std::fs::read_dir(folder).expect("the examples");
+    let paths = files.map(|file| file.expect("an example").path());
+    let scripts = paths.filter(|path| path.extension().is_some_and(|kind| kind == "txt"));
+    let mut met = Figures::default();
+    for path in scripts {
+        let text = std::fs::read_to_string(&path).expect("a script");
+        met += watch(&text).0.figures;
+    }
+    println!("{met}");
+    assert!(met.of(Met::Handed) >= 40 && met.of(Met::Split) > 0, "{met}");
 }
 
 /// The first sentence that a watcher finds broken on the right library.

@@ -3,14 +3,15 @@
 
 use compare::books;
 use compare::calls::Apply;
-use compare::watch::{Broken, Modelled, Sentence, Watcher};
+use compare::reduce::reduce_by;
+use compare::watch::{watched, Broken, Modelled, Sentence, Watcher};
 use compare::{asking, changing};
 use model::answers::{Cause, Opening};
 use model::messages::reply_address;
 use model::network::{Claim, Hop, Network, Node, Port, Sending};
 use model::sizes::{CHANNEL_ENDS, CHANNEL_END_CAPACITY, REPLY_PORT};
 use model::tokens::{header, Destination, Kind, Token, SINK};
-use model::{runs, Answer, Call, No};
+use model::{Answer, Call, No};
 
 const SEEDS: u64 = 30;
 const CALLS: usize = 1500;
@@ -513,14 +514,11 @@ fn keeps_its_first_aim(state: &mut Option<Network>, call: &Call) -> Answer {
 fn turns_by_itself(state: &mut Option<Network>, call: &Call) -> Answer {
     let answer = model::apply(state, call);
     if let (Call::Set { slot, .. }, Answer::Done, Some(network)) = (*call, answer, state) {
-        for end in &mut network.nodes[slot].channel_ends {
-            let free = end.sending.is_none();
-            if let (Some(aim), true) = (end.aim.as_mut(), free) {
-                aim.destination = Destination::Channel {
-                    number: 0,
-                    channel: 0,
-                };
-            }
+        let (number, channel) = (0, 0);
+        let ends = network.nodes[slot].channel_ends.iter_mut();
+        let free = ends.filter(|end| end.sending.is_none());
+        for aim in free.filter_map(|end| end.aim.as_mut()) {
+            aim.destination = Destination::Channel { number, channel };
         }
     }
     answer
@@ -590,7 +588,7 @@ type Make = fn() -> Box<dyn FnMut(&mut Option<Network>, &Call) -> Answer>;
 
 /// The first of these sentences that a watcher finds broken on such a bench, in some run.
 fn complaint(make: Make, held: &[Sentence]) -> Option<Broken> {
-    let makers = [asking::calls, changing::calls, runs::calls];
+    let makers = [asking::calls, changing::calls];
     let runs = (0..SEEDS).flat_map(|seed| makers.map(|calls| (calls, seed)));
     let mut complaints = runs.filter_map(|(calls, seed)| {
         let mut watcher = Watcher::with(books::note, held);
@@ -751,8 +749,19 @@ fn every_sentence_can_be_broken() {
     }
 }
 
-/// "demand 3 alone would let them by": a bench that moves nothing keeps every promise about streams.
-/// The other demands shut it out.
+/// What `soak` leaves behind: a board that takes itself for another of the same three low bits.
+#[test]
+fn a_run_that_breaks_a_sentence_is_made_short() {
+    let fails = |calls: &[Call]| watched(&mut Modelled::new(compares_three_bits), calls).err();
+    let found = (0..SEEDS).find_map(|seed| fails(&changing::calls(seed, CALLS)));
+    let reduced = reduce_by(&fails, found.expect("a run that breaks a sentence"));
+    println!("{}\n{:#?}", reduced.how, reduced.calls);
+    assert!(reduced.how.contains("; Door: "), "{}", reduced.how);
+    assert_eq!(reduced.calls.len(), 5);
+}
+
+/// "demand 3 alone would let them by": a bench that moves nothing keeps every promise about
+/// streams. The other demands shut it out.
 #[test]
 fn what_the_third_demand_alone_lets_by() {
     let calls = changing::calls(0, CALLS);

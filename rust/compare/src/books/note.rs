@@ -12,7 +12,7 @@ use super::words::{self, ends_circuit, is_pause, plain};
 use super::{Books, Circuit, Door, End, Fate, Happening, Port, Sender, Touched, Way};
 use crate::watch::{Broken, Glimpse, Seen, Sentence};
 
-/// How a watcher writes its books: [`note`], or another where the watcher is to be wrong on purpose.
+/// How a watcher writes its books: [`note`], or another where it is to be wrong on purpose.
 pub type Note = fn(&mut Books, &Seen) -> Result<Touched, Broken>;
 
 /// Writes what was seen of one call, and says what it touched. Fails where no books can be written,

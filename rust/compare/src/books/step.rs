@@ -33,7 +33,10 @@ pub(super) fn step(books: &mut Books, seen: &Seen, at: Port) -> Result<Touched, 
         (Answer::No(_) | Answer::Idle | Answer::Waiting, _) => {}
         (Answer::Opened(Opening::Link(link)), None) => noting.leave_by(link)?,
         (Answer::Opened(Opening::Channel | Opening::Control), None) => noting.land()?,
-        (Answer::Refused(cause), _) => noting.refuse(cause)?,
+        // Whether a Split is answered where it may be, its own sentence says.
+        (Answer::Refused(cause), None) | (Answer::Refused(cause @ Cause::Split), _) => {
+            noting.refuse(cause)?;
+        }
         (Answer::Dropped(cause), Some(Hop::Dropped(_))) => noting.drop_one(cause)?,
         (Answer::Moved, Some(Hop::Link(_))) => noting.carry()?,
         (Answer::Moved, Some(Hop::Channel(channel))) => {
@@ -41,7 +44,7 @@ pub(super) fn step(books: &mut Books, seen: &Seen, at: Port) -> Result<Touched, 
             noting.hand(Door::Channel { slot, channel })?;
         }
         (Answer::Moved | Answer::Malformed | Answer::Unheard, Some(Hop::Control)) => {
-            noting.tell()?
+            noting.tell()?;
         }
         _ => return Err(seen.odd("no Step answers so where its port's circuit goes")),
     }

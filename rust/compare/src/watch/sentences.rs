@@ -12,7 +12,8 @@ use crate::books::{Books, Circuit, Door, Fate, Happening, Port, Touched};
 /// What a sentence says of the run so far: nothing, or how it is broken.
 pub(super) type Held = Result<(), String>;
 
-/// A sentence of the third demand, or of what ties the books to the bench.
+/// A sentence of the third demand, or, from Aims on, of what ties the books to the bench. They are
+/// held in this order.
 #[derive(Clone, Copy, Debug, PartialEq, Eq)]
 pub enum Sentence {
     Answers,
@@ -30,8 +31,29 @@ pub enum Sentence {
     Marks,
 }
 
+/// What each says, in their order.
+const TEXTS: [&str; 13] = [
+    "a call answers as document 01 lets it, and the books have what it moves",
+    "a circuit is refused as Split exactly when a switch of the other width reads its whole \
+     header, and it hands nothing",
+    "what a circuit handed is the first so many that were put out on it after its header, pauses \
+     left out; all of them within a node",
+    "the destination at the opening named the door that the circuit came to and, in the bits \
+     compared, the number that the node had then; before that it hands nothing",
+    "a control unit replies to the address that was put out to it, at the width that its node has \
+     behind the write",
+    "a control unit has heard the first eleven tokens that one circuit handed it",
+    "PAUSE is handed to nobody",
+    "a circuit goes where the latest done Aim of its channel-end said",
+    "the streams of a channel-end's circuits are the tokens of its done Outputs",
+    "a circuit hands at one place only, and each door has what its circuits handed",
+    "what a channel-end was handed is what Input took, and then what it holds",
+    "the tokens of a port are those of the books",
+    "header tokens keep their mark, and no other token bears one",
+];
+
 impl Sentence {
-    /// All of them, in the order in which they are held.
+    /// All of them, in their order.
     pub const ALL: [Sentence; 13] = [
         Sentence::Answers,
         Sentence::Split,
@@ -47,24 +69,6 @@ impl Sentence {
         Sentence::Cells,
         Sentence::Marks,
     ];
-
-    fn text(self) -> &'static str {
-        match self {
-            Sentence::Answers => "a call answers as document 01 lets it, and the books know what it moves",
-            Sentence::Split => "a circuit is refused as Split exactly when a switch of the other width reads its whole header, and it hands nothing",
-            Sentence::Order => "what a circuit handed is the first so many that were put out on it after its header, pauses left out; all of them within a node",
-            Sentence::Door => "the destination at the opening named the door that the circuit came to and, in the bits compared, the number that the node had then; before that it hands nothing",
-            Sentence::Replies => "a control unit replies to the address that was put out to it, at the width that its node has behind the write",
-            Sentence::Hearing => "a control unit has heard what one circuit handed it, the first eleven tokens of it",
-            Sentence::Pause => "PAUSE is handed to nobody",
-            Sentence::Aims => "a circuit goes where the latest done Aim of its channel-end said",
-            Sentence::Outputs => "the streams of a channel-end's circuits are the tokens of its done Outputs",
-            Sentence::Places => "a circuit hands at one place only, and each door has what its circuits handed",
-            Sentence::Inputs => "what a channel-end was handed is what Input took, and then what it holds",
-            Sentence::Cells => "the tokens of a port are those of the books",
-            Sentence::Marks => "header tokens keep their mark, and no other token bears one",
-        }
-    }
 
     /// Holds it against what a call answered and touched.
     pub(super) fn hold(self, books: &Books, seen: &Seen, touched: &Touched) -> Held {
@@ -120,7 +124,7 @@ impl Sentence {
 
 impl fmt::Display for Sentence {
     fn fmt(&self, f: &mut fmt::Formatter<'_>) -> fmt::Result {
-        write!(f, "{self:?}: {}", self.text())
+        write!(f, "{self:?}: {}", TEXTS[*self as usize])
     }
 }
 
@@ -211,8 +215,8 @@ fn in_order(circuit: &Circuit) -> Held {
     Ok(())
 }
 
-/// "the sender's destination, as it stood when it opened the circuit, named that channel and, in the
-/// bits compared, the number that the node had when the circuit opened to it"
+/// "the sender's destination, as it stood when it opened the circuit, named that channel and, in
+/// the bits compared, the number that the node had when the circuit opened to it"
 fn at_the_right_door(circuit: &Circuit) -> Held {
     let (Some(number), door) = (circuit.fate.number(), circuit.fate.door()) else {
         return match circuit.handed.len() {
@@ -233,8 +237,9 @@ fn at_the_right_door(circuit: &Circuit) -> Held {
         return Ok(());
     }
     let (destination, width) = (circuit.destination, circuit.width);
+    let door = door.map_or("no door".to_owned(), |door| door.to_string());
     Err(format!(
-        "{destination:?} at width {width} came to {door:?} of number {number}"
+        "{destination:?} at width {width} came to {door}, whose number was {number}"
     ))
 }
 

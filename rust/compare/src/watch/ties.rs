@@ -1,5 +1,5 @@
-//! What ties the books to the bench: ports, channel-ends, control units and doors, each held against
-//! what the looks show there.
+//! What ties the books to the bench: ports, channel-ends, control units and doors, each held
+//! against what the looks show there.
 
 use std::collections::BTreeSet;
 use std::fmt::Display;
