@@ -17,6 +17,7 @@ fn a_short_soak() {
     let text = String::from_utf8_lossy(&output.stdout);
     assert!(output.status.success(), "{text}");
     assert!(text.starts_with("from seed 3\nup to seed 3, "), "{text}");
+    assert!(text.contains(" 15000 calls watched, "), "{text}");
     assert!(text.ends_with("no difference\n"), "{text}");
 }
 
