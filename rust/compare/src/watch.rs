@@ -1,4 +1,4 @@
-//! A person beside the bench, who keeps [books](crate::books) of a run and holds the third demand
+//! A person beside the bench, who keeps [books] of a run and holds the third demand
 //! of the order: streams arrive whole and at the right door.
 //!
 //! The watcher is written from the order and document 01, and from nothing that is proved. It looks
