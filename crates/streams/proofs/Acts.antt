@@ -32,29 +32,29 @@ use Rattle.kept.proofs.Fills.{filled-one}
 use Rattle.kept.proofs.Empties.{emptied-one}
 use Rattle.kept.proofs.Leaves.{taken-is, left, left-is}
 use Rattle.kept.proofs.Moves.{userIf, freed, putThere, freed-is, crosses-as, link-there, by-port, far-room}
-use Rattle.streams.specs.Model.{upd, tl, pop, push, portNo, isLink, Place, ToChannel, ToUnit, Out, Shut, Via, Into, Nobody, By, Net}
+use Rattle.streams.specs.Model.{alter, tl, pop, push, portNo, isLink, Place, ToChannel, ToUnit, Out, Shut, Via, Into, Nobody, By, Moving}
 use Rattle.streams.specs.Events.{Event, Takes, Refuses, Enters, Arrives, Hands, Loses, effect, Ok}
-use Rattle.streams.specs.View.{view, farEnd, outBy, outOf, outs, useBy, queues}
-use Rattle.streams.proofs.Basics.{upd-same, passes}
+use Rattle.streams.specs.View.{moving, farEnd, outBy, outOf, outs, useBy, queues}
+use Rattle.streams.proofs.Basics.{alter-same, passes}
 use Rattle.streams.proofs.View.{net-as, out-put, user-put, queue-emptied}
 use Rattle.streams.proofs.View.{filled-seen, view-cable, view-queue, alike}
 use Rattle.streams.proofs.View.{view-out, view-user, Alike, alike-all, alike-then, alike-pick, unseen}
 
 -- the event leads from the one world to the other: it may happen, and does what was done
 pub record Does (v : Event) (w z : World) : Type 0 where
-  pub ok : Ok isLink (view w) v
-  pub is : view z ≡ effect v (view w)
+  pub ok : Ok isLink (moving w) v
+  pub is : moving z ≡ effect v (moving w)
 
 -- nobody, where a circuit's kind is none
 pub nobody : (c : Circuit) → c .kind ≡ 0 → peerOf c ≡ Peers.Nobody
 nobody c e = rw e
 
 module _ (w : World) (n p : ℕ) (r : Holds w n p 1) where
-  -- the first token, as the view has it
-  pub first-seen : view w .queue (portNo n p) ≡ firstAt w n p ∷ queue (popped w n p) n p
+  -- the first token, as the moving has it
+  pub first-seen : moving w .queue (portNo n p) ≡ firstAt w n p ∷ queue (popped w n p) n p
   first-seen = view-queue w n p (r .port) ∙ popped-queue w n p r
 
-  out-seen : (h : Hop) → hop (w .net) n p ≡ h → view w .out (portNo n p) ≡ outBy n h
+  out-seen : (h : Hop) → hop (w .net) n p ≡ h → moving w .out (portNo n p) ≡ outBy n h
   out-seen h e = view-out w n p (r .port) ∙ ap (outBy n) e
 
   -- A CIRCUIT OPENED OUTWARD, OR REFUSED
@@ -76,27 +76,27 @@ module _ (w : World) (n p : ℕ) (r : Holds w n p 1) where
         ok = (_, _, first-seen, out-seen Hops.Shut e);
         is = net-as refl
             (out-put n (w .net .ports .legs) p (legOf (Hops.Dropped x)) (r .port)
-            ∙ ap (λ (h : Hop). upd (view w .out) (portNo n p) (outBy n h)) (hop-back (Hops.Dropped x)))
+            ∙ ap (λ (h : Hop). alter (moving w .out) (portNo n p) (outBy n h)) (hop-back (Hops.Dropped x)))
             refl refl refl refl;
       }
 
   -- A TOKEN THAT LEAVES ITS PORT
-  left-queue : queues (left w n p) ≡ upd (view w .queue) (portNo n p) (tl (view w .queue (portNo n p)))
+  left-queue : queues (left w n p) ≡ alter (moving w .queue) (portNo n p) (tl (moving w .queue (portNo n p)))
   left-queue =
       ap (λ (s : Cells.Net). queues (withNet (took w n p) s)) (sym (taken-is w n p))
       ∙ queue-emptied w (took w n p) n p (firstAt w n p ∷ []) (r .port) (emptied-one w n p r)
-      ∙ ap (upd (queues w) (portNo n p)) (sym (ap tl (view-queue w n p (r .port) ∙ emptied-one w n p r .here)))
+      ∙ ap (alter (queues w) (portNo n p)) (sym (ap tl (view-queue w n p (r .port) ∙ emptied-one w n p r .here)))
 
   leg-if : (b : Bool) (k : Leg) → outOf n (pick b (legOf Hops.Shut) k) ≡ pick b Shut (outOf n k)
   leg-if true k = refl
   leg-if false k = refl
 
   left-out : (h : Hop) → hop (w .net) n p ≡ h
-      → outs (left w n p .net .ports .legs) ≡ upd (view w .out) (portNo n p) (pick (closes (firstAt w n p)) Shut (outBy n h))
+      → outs (left w n p .net .ports .legs) ≡ alter (moving w .out) (portNo n p) (pick (closes (firstAt w n p)) Shut (outBy n h))
   left-out h e =
       let b = closes (firstAt w n p) in
       out-put n (w .net .ports .legs) p (pick b (legOf Hops.Shut) (w .net .ports .legs n p)) (r .port)
-      ∙ ap (upd (view w .out) (portNo n p))
+      ∙ ap (alter (moving w .out) (portNo n p))
       (leg-if b (w .net .ports .legs n p) ∙ ap (λ (x : Hop). pick b Shut (outBy n x)) e)
 
   pub does-drops : (x : Cause) → hop (w .net) n p ≡ Hops.Dropped x → Does (Loses (portNo n p) x (firstAt w n p)) w (drops w n p)
@@ -104,7 +104,7 @@ module _ (w : World) (n p : ℕ) (r : Holds w n p 1) where
   does-drops x e =
       record {
         ok = (_, first-seen, out-seen (Hops.Dropped x) e);
-        is = ap view (left-is w n p) ∙ net-as left-queue (left-out (Hops.Dropped x) e) refl refl refl refl;
+        is = ap moving (left-is w n p) ∙ net-as left-queue (left-out (Hops.Dropped x) e) refl refl refl refl;
       }
 
 -- WHAT THE VIEW DOES NOT SEE of a handing: claims, tile links, buffers
@@ -145,7 +145,7 @@ alike-closed false s n p c t x = alike-handed s n c x
 
 -- A TOKEN HANDED
 module _ (w : World) (n p : ℕ) (r : Holds w n p 1) where
-  -- whatever the view does not see
+  -- whatever the moving does not see
   does-hand : (a : Place) (h : Hop) → hop (w .net) n p ≡ h → outBy n h ≡ Into a
       → (z : Cells.Net)
       → Alike (pick (closes (firstAt w n p)) (shut (took w n p .net) n p) (took w n p .net)) z
@@ -156,9 +156,9 @@ module _ (w : World) (n p : ℕ) (r : Holds w n p 1) where
         ok = (_, first-seen w n p r, out-seen w n p r h e ∙ to);
         is =
             unseen (took w n p) _ z same
-            ∙ ap view (left-is w n p)
+            ∙ ap moving (left-is w n p)
             ∙ net-as (left-queue w n p r)
-            (left-out w n p r h e ∙ ap (λ (x : Out). upd (view w .out) (portNo n p) (pick (closes (firstAt w n p)) Shut x)) to)
+            (left-out w n p r h e ∙ ap (λ (x : Out). alter (moving w .out) (portNo n p) (pick (closes (firstAt w n p)) Shut x)) to)
             refl refl refl refl;
       }
 
@@ -182,9 +182,9 @@ module _ (w : World) (n p : ℕ) (r : Holds w n p 1) where
 -- A TOKEN OVER A CABLE: on to the line, and off it
 -- two events, one after the other
 pub record Both (u v : Event) (w z : World) : Type 0 where
-  pub first : Ok isLink (view w) u
-  pub second : Ok isLink (effect u (view w)) v
-  pub is : view z ≡ effect v (effect u (view w))
+  pub first : Ok isLink (moving w) u
+  pub second : Ok isLink (effect u (moving w)) v
+  pub is : moving z ≡ effect v (effect u (moving w))
 
 user-if : (n p : ℕ) (b : Bool) (c : Circuit) → peerOf c ≡ Peers.Port p → useBy n (peerOf (userIf b c)) ≡ pick b Nobody (By (portNo n p))
 user-if n p true c e = refl
@@ -198,32 +198,32 @@ module _ (w : World) (k : Kept w) (n p l : ℕ) (m : Slot) (j : ℕ) (r : Holds 
   hl : l < links
   hl = link-there w k n p l m j r out leads has
 
-  cable-seen : view w .cable (portNo n l) ≡ By (portNo (m .0) j)
+  cable-seen : moving w .cable (portNo n l) ≡ By (portNo (m .0) j)
   cable-seen = view-cable w n l hl ∙ ap farEnd leads
 
   -- the token is taken, and the link freed
-  freed-seen : view (freed w n p l) ≡ record {
-    queue = pop (view w .queue) (portNo n p);
-    out = upd (view w .out) (portNo n p) (pick (closes x) Shut (Via (portNo n l)));
-    user = upd (view w .user) (portNo n l) (pick (closes x) Nobody (By (portNo n p)));
-    busy = view w .busy;
-    cable = view w .cable;
-    line = view w .line;
+  freed-seen : moving (freed w n p l) ≡ record {
+    queue = pop (moving w .queue) (portNo n p);
+    out = alter (moving w .out) (portNo n p) (pick (closes x) Shut (Via (portNo n l)));
+    user = alter (moving w .user) (portNo n l) (pick (closes x) Nobody (By (portNo n p)));
+    busy = moving w .busy;
+    cable = moving w .cable;
+    line = moving w .line;
   }
   freed-seen =
       net-as (left-queue w n p r) (left-out w n p r (Hops.Out l) out)
       (user-put n (w .net .links .users) l (userIf (closes x) (w .net .links .users n l)) hl
-      ∙ ap (upd (view w .user) (portNo n l)) (user-if n p (closes x) (w .net .links .users n l) (by-port w k n p l m j r out leads has)))
+      ∙ ap (alter (moving w .user) (portNo n l)) (user-if n p (closes x) (w .net .links .users n l) (by-port w k n p l m j r out leads has)))
       refl refl refl
 
   -- and put at the far end
-  there-seen : view (putThere w n p l (m .0) j)
-      ≡ effect (Arrives (portNo n l) (portNo (m .0) j) x) (effect (Enters (portNo n p) (portNo n l) x) (view w))
+  there-seen : moving (putThere w n p l (m .0) j)
+      ≡ effect (Arrives (portNo n l) (portNo (m .0) j) x) (effect (Enters (portNo n p) (portNo n l) x) (moving w))
   unfolding effect
   there-seen =
       let room = far-room w k n p l m j r out leads has in
       filled-seen (freed w n p l) (putThere w n p l (m .0) j) (m .0) j (x ∷ []) (room .port) (filled-one (freed w n p l) (m .0) j x room)
-      ∙ ap (λ (v : Net). record {
+      ∙ ap (λ (v : Moving). record {
         queue = push (v .queue) (portNo (m .0) j) x;
         out = v .out;
         user = v .user;
@@ -231,7 +231,7 @@ module _ (w : World) (k : Kept w) (n p l : ℕ) (m : Slot) (j : ℕ) (r : Holds 
         cable = v .cable;
         line = v .line;
       }) freed-seen
-      ∙ net-as refl refl refl refl refl (sym (passes (view w .line) (portNo n l) x refl))
+      ∙ net-as refl refl refl refl refl (sym (passes (moving w .line) (portNo n l) x refl))
 
   alike-paid : (s : Cells.Net) → Alike s (considered (paid s n l) n l)
   unfolding considered
@@ -243,10 +243,10 @@ module _ (w : World) (k : Kept w) (n p l : ℕ) (m : Slot) (j : ℕ) (r : Holds 
       let z = putThere w n p l (m .0) j in
       record {
         first = (_, first-seen w n p r, out-seen w n p r (Hops.Out l) out, (_, cable-seen));
-        second = ([], upd-same (view w .line) (portNo n l) (x ∷ []), cable-seen);
+        second = ([], alter-same (moving w .line) (portNo n l) (x ∷ []), cable-seen);
         is =
-            ap (λ (y : World). view (crosses y n l x)) (freed-is w n p l)
-            ∙ ap view (crosses-as (freed w n p l) n l x m j leads)
+            ap (λ (y : World). moving (crosses y n l x)) (freed-is w n p l)
+            ∙ ap moving (crosses-as (freed w n p l) n l x m j leads)
             ∙ unseen z (z .net) _ (alike-paid (z .net))
             ∙ there-seen;
       }

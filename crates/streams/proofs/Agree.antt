@@ -54,8 +54,8 @@ use Rattle.streams.specs.Events.{Opens, Lands, Hands, Ghost, booksOf, no
 use Rattle.streams.specs.Demand.{tokensOf}
 use Rattle.streams.specs.Observer.{putAll, landed, writeThrough, writeWay, writeFirst, writeOutput}
 use Rattle.streams.specs.Observer.{writeReply, writeObeyed, writeStep, write, anew}
-use Rattle.streams.specs.View.{view}
-use Rattle.streams.proofs.Basics.{upd-same, passes}
+use Rattle.streams.specs.View.{moving}
+use Rattle.streams.proofs.Basics.{alter-same, passes}
 use Rattle.streams.proofs.Inv.{Inv}
 use Rattle.streams.proofs.Machine.{line-tokens, no-cells}
 use Rattle.streams.proofs.Fronts.{reads}
@@ -122,7 +122,7 @@ obey-agrees w n (Write g r v) k write malformed unheard sent =
     reply-agrees (withNet w (written (w .net) n xs)) n k write unheard g (pick (accepted (w .net) n xs) Ack Nack) sent
 
 -- STEP
-module _ (w : World) (k : Kept w) (n p : ℕ) (g : Ghost) (iv : Inv isLink (view w) g) where
+module _ (w : World) (k : Kept w) (n p : ℕ) (g : Ghost) (iv : Inv isLink (moving w) g) where
   abbrev Agrees : Steps.Plan → Type 0
   Agrees x = writeStep w n p (stepPerformed w n p x .answer) (booksOf g) ≡ booksOf (notes (stepEvents w n p x) g)
 
@@ -143,9 +143,9 @@ module _ (w : World) (k : Kept w) (n p : ℕ) (g : Ghost) (iv : Inv isLink (view
   cross-agrees l z m j leads =
       let y = hd (g .cells (portNo n p)) in
       let line = portNo n l in
-      let none : g .on line ≡ [] = no-cells (g .on line) (line-tokens isLink (view w) g iv line) in
+      let none : g .on line ≡ [] = no-cells (g .on line) (line-tokens isLink (moving w) g iv line) in
       let only : push (g .on) line y line ≡ y ∷ [] =
-      upd-same (g .on) line (g .on line ++ (y ∷ [])) ∙ ap (λ (cs : List Cell). cs ++ (y ∷ [])) none in
+      alter-same (g .on) line (g .on line ++ (y ∷ [])) ∙ ap (λ (cs : List Cell). cs ++ (y ∷ [])) none in
       let first : hd (push (g .on) line y line) ≡ y = ap hd only in
       rw (z .goes, leads) (sym (rw (first, passes (g .on) line y none)))
 
@@ -171,7 +171,7 @@ module _ (w : World) (k : Kept w) (n p : ℕ) (g : Ghost) (iv : Inv isLink (view
   step-agrees (drops x z) = refl
 
 -- EVERY CALL; a channel-end that is aimed is aimed where the notes say
-module _ (w : World) (k : Kept w) (g : Ghost) (iv : Inv isLink (view w) g) (o : Notes) (aims : AimsNoted w o) where
+module _ (w : World) (k : Kept w) (g : Ghost) (iv : Inv isLink (moving w) g) (o : Notes) (aims : AimsNoted w o) where
   made-agrees : (c : Call) → Passes (rows w c) → isFresh c ≡ false
       → write o w c (made w c .answer) (booksOf g) ≡ booksOf (notes (madeEvents w c) g)
   unfolding note

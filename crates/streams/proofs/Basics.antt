@@ -17,63 +17,63 @@ use Rattle.laws.specs.Pick.{pick}
 use Rattle.laws.proofs.Order.{by-test, never}
 use Rattle.names.specs.declared.NodeNumber.{NodeNumber}
 use Rattle.tokens.specs.Word.{closes}
-use Rattle.streams.specs.Model.{Plain, Via, Nobody, By, Through, Cell, Landed, Here, upd, tl, pop, push, pushAll, cellsOf}
+use Rattle.streams.specs.Model.{Plain, Via, Nobody, By, Through, Cell, Landed, Here, alter, tl, pop, push, pushAll, cellsOf}
 use Rattle.streams.specs.Events.{Cursor, Idle, At, next, headTo}
 use Rattle.streams.specs.Demand.{tokensOf}
 
 -- TABLES
 module _ {ℓ} {A : Type ℓ} where
-  pub upd-hit : (f : ℕ → A) (i : ℕ) (a : A) (j : ℕ) → j ≡ i → upd f i a j ≡ a
-  unfolding upd
-  upd-hit f i a j e = rw (eq-eqb j i e)
+  pub alter-hit : (f : ℕ → A) (i : ℕ) (a : A) (j : ℕ) → j ≡ i → alter f i a j ≡ a
+  unfolding alter
+  alter-hit f i a j e = rw (eq-eqb j i e)
 
-  pub upd-same : (f : ℕ → A) (i : ℕ) (a : A) → upd f i a i ≡ a
-  upd-same f i a = upd-hit f i a i refl
+  pub alter-same : (f : ℕ → A) (i : ℕ) (a : A) → alter f i a i ≡ a
+  alter-same f i a = alter-hit f i a i refl
 
-  pub upd-miss : (f : ℕ → A) (i : ℕ) (a : A) (j : ℕ) → (j ≡ i → ⊥) → upd f i a j ≡ f j
-  unfolding upd
-  upd-miss f i a j ne = rw (ne-eqb j i ne)
+  pub alter-miss : (f : ℕ → A) (i : ℕ) (a : A) (j : ℕ) → (j ≡ i → ⊥) → alter f i a j ≡ f j
+  unfolding alter
+  alter-miss f i a j ne = rw (ne-eqb j i ne)
 
   -- a fact of every entry, after a change
-  pub upd-all : (P : ℕ → A → Type 0) (f : ℕ → A) (i : ℕ) (a : A) → P i a → ((j : ℕ) → (j ≡ i → ⊥) → P j (f j)) → (j : ℕ)
-      → P j (upd f i a j)
-  upd-all P f i a h k j =
-      elim (ℕ-discrete j i) [ yes e ↦ rw (upd-hit f i a j e, e) h | no ne ↦ rw (upd-miss f i a j ne) (k j ne) ]
+  pub alter-all : (P : ℕ → A → Type 0) (f : ℕ → A) (i : ℕ) (a : A) → P i a → ((j : ℕ) → (j ≡ i → ⊥) → P j (f j)) → (j : ℕ)
+      → P j (alter f i a j)
+  alter-all P f i a h k j =
+      elim (ℕ-discrete j i) [ yes e ↦ rw (alter-hit f i a j e, e) h | no ne ↦ rw (alter-miss f i a j ne) (k j ne) ]
 
 -- one index, or another
 pub at-or : (P : ℕ → Type 0) (i : ℕ) → P i → ((j : ℕ) → (j ≡ i → ⊥) → P j) → (j : ℕ) → P j
 at-or P i h k j = elim (ℕ-discrete j i) [ yes e ↦ rw e h | no ne ↦ k j ne ]
 
 -- an entry written twice, and one written as it was
-pub upd-upd : {A : Type 0} (f : ℕ → A) (i : ℕ) (a b : A) → upd (upd f i a) i b ≡ upd f i b
-upd-upd f i a b =
+pub alter-twice : {A : Type 0} (f : ℕ → A) (i : ℕ) (a b : A) → alter (alter f i a) i b ≡ alter f i b
+alter-twice f i a b =
     fun-ext (λ j. elim (ℕ-discrete j i) [
-      | yes e ↦ upd-hit (upd f i a) i b j e ∙ sym (upd-hit f i b j e)
-      | no e ↦ upd-miss (upd f i a) i b j e ∙ upd-miss f i a j e ∙ sym (upd-miss f i b j e)
+      | yes e ↦ alter-hit (alter f i a) i b j e ∙ sym (alter-hit f i b j e)
+      | no e ↦ alter-miss (alter f i a) i b j e ∙ alter-miss f i a j e ∙ sym (alter-miss f i b j e)
     ])
 
-pub upd-own : {A : Type 0} (f : ℕ → A) (i : ℕ) (a : A) → f i ≡ a → upd f i a ≡ f
-upd-own f i a e =
+pub alter-own : {A : Type 0} (f : ℕ → A) (i : ℕ) (a : A) → f i ≡ a → alter f i a ≡ f
+alter-own f i a e =
     fun-ext (λ j. elim (ℕ-discrete j i) [
-      | yes d ↦ upd-hit f i a j d ∙ sym e ∙ ap f (sym d)
-      | no d ↦ upd-miss f i a j d
+      | yes d ↦ alter-hit f i a j d ∙ sym e ∙ ap f (sym d)
+      | no d ↦ alter-miss f i a j d
     ])
 
 -- what is put at the back of an empty list and taken off its front
 pub passes : {A : Type 0} (f : ℕ → List A) (l : ℕ) (x : A) → f l ≡ [] → pop (push f l x) l ≡ f
 passes f l x e =
-    let q : push f l x l ≡ x ∷ [] = upd-same f l (f l ++ (x ∷ [])) ∙ rw e in
+    let q : push f l x l ≡ x ∷ [] = alter-same f l (f l ++ (x ∷ [])) ∙ rw e in
     fun-ext (λ j. elim (ℕ-discrete j l) [
-      | yes d ↦ upd-hit (push f l x) l (tl (push f l x l)) j d ∙ ap tl q ∙ sym e ∙ ap f (sym d)
-      | no ne ↦ upd-miss (push f l x) l (tl (push f l x l)) j ne ∙ upd-miss f l (f l ++ (x ∷ [])) j ne
+      | yes d ↦ alter-hit (push f l x) l (tl (push f l x l)) j d ∙ ap tl q ∙ sym e ∙ ap f (sym d)
+      | no ne ↦ alter-miss (push f l x) l (tl (push f l x l)) j ne ∙ alter-miss f l (f l ++ (x ∷ [])) j ne
     ])
 
 -- what is put at the back of one list of a table
 pub pushed-at {ℓ} : {A : Type ℓ} (f : ℕ → List A) (d : ℕ) (xs : List A) (j : ℕ) → pushAll f d xs j ≡ f j ++ pick (eqb d j) xs []
 pushed-at f d xs j =
     elim (ℕ-discrete j d) [
-      | yes e ↦ rw (e, upd-same f d (f d ++ xs), eq-eqb d d refl)
-      | no ne ↦ rw (upd-miss f d (f d ++ xs) j ne, ne-eqb d j (λ e. ne (sym e))) (sym (append-nil (f j)))
+      | yes e ↦ rw (e, alter-same f d (f d ++ xs), eq-eqb d d refl)
+      | no ne ↦ rw (alter-miss f d (f d ++ xs) j ne, ne-eqb d j (λ e. ne (sym e))) (sym (append-nil (f j)))
     ]
 
 -- what holds of each of a list
@@ -142,11 +142,11 @@ chain-append st s (x ∷ xs) e ys f h k = (h .0, h .1, chain-append st (next x) 
 abbrev pub Grows : Streams → Streams → Type 0
 Grows st st′ = (c : ℕ) → (m : List ℕ) × (st′ c ≡ st c ++ m)
 
-pub grows-upd : (st : Streams) (c : ℕ) (m : List ℕ) → Grows st (upd st c (st c ++ m))
+pub grows-upd : (st : Streams) (c : ℕ) (m : List ℕ) → Grows st (alter st c (st c ++ m))
 grows-upd st c m c′ =
     elim (ℕ-discrete c′ c) [
-      | yes e ↦ (m, upd-hit _ _ _ _ e ∙ rw e)
-      | no ne ↦ ([], upd-miss _ _ _ _ ne ∙ sym (append-nil (st c′)))
+      | yes e ↦ (m, alter-hit _ _ _ _ e ∙ rw e)
+      | no ne ↦ ([], alter-miss _ _ _ _ ne ∙ sym (append-nil (st c′)))
     ]
 
 module _ (st st′ : Streams) (gr : Grows st st′) where
@@ -236,7 +236,7 @@ ind-pos : (v p : ℕ) → 0 < ind v p → v ≡ suc p
 ind-pos v p h = elim (ℕ-discrete v (suc p)) [ yes e ↦ e | no ne ↦ absurd (let z = ind-miss v p ne in omega arith) ]
 
 module _ (v : ℕ) (x : Cell) (loc : ℕ → ℕ) where
-  headTo-move : x .pos ≡ 0 → headTo v x loc ≡ upd loc (x .circuit) v
+  headTo-move : x .pos ≡ 0 → headTo v x loc ≡ alter loc (x .circuit) v
   unfolding headTo
   headTo-move e = rw (eq-eqb _ _ e)
 
@@ -245,12 +245,12 @@ module _ (v : ℕ) (x : Cell) (loc : ℕ → ℕ) where
   headTo-stay ne = rw (ne-eqb _ _ ne)
 
   pub headTo-hit : (c : ℕ) → x .pos ≡ 0 → x .circuit ≡ c → headTo v x loc c ≡ v
-  headTo-hit c e q = rw (headTo-move e, upd-hit loc (x .circuit) v c (sym q))
+  headTo-hit c e q = rw (headTo-move e, alter-hit loc (x .circuit) v c (sym q))
 
   pub headTo-other : (c : ℕ) → (HeadOf c x → ⊥) → headTo v x loc c ≡ loc c
   headTo-other c ne =
       elim (ℕ-discrete (x .pos) 0) [
-        | yes e ↦ rw (headTo-move e, upd-miss loc (x .circuit) v c (λ q. ne (e, sym q)))
+        | yes e ↦ rw (headTo-move e, alter-miss loc (x .circuit) v c (λ q. ne (e, sym q)))
         | no n0 ↦ rw (headTo-stay n0)
       ]
 
@@ -274,7 +274,7 @@ module _ (cells : ℕ → List Cell) (loc : ℕ → ℕ) (h : Heads cells loc) w
         ind-pos (loc (y .circuit)) p (omega arith)
 
     -- taking the front of a port's queue takes its head, if it is one, out of the net
-    pub heads-pop : Heads (upd cells p ys) (headTo 0 y loc)
+    pub heads-pop : Heads (alter cells p ys) (headTo 0 y loc)
     heads-pop c s =
         let k = counted c in
         head-or c y
@@ -283,15 +283,15 @@ module _ (cells : ℕ → List Cell) (loc : ℕ → ℕ) (h : Heads cells loc) w
         let l = ind-pos (loc c) p (omega arith) in
         let i = ind-hit (loc c) p l in
         rw (headTo-hit 0 y loc c z q, ind-zero)
-        (upd-all (λ s l. heads c l ≡ 0) cells p ys (omega arith) (λ j ne. h c j ∙ ind-miss (loc c) j (λ m. ne (omega arith))) s))
+        (alter-all (λ s l. heads c l ≡ 0) cells p ys (omega arith) (λ j ne. h c j ∙ ind-miss (loc c) j (λ m. ne (omega arith))) s))
         (λ no-head.
         let none = head-miss c y no-head in
         rw (headTo-other 0 y loc c no-head)
-        (upd-all (λ s l. heads c l ≡ ind (loc c) s) cells p ys (omega arith) (λ j ne. h c j) s))
+        (alter-all (λ s l. heads c l ≡ ind (loc c) s) cells p ys (omega arith) (λ j ne. h c j) s))
 
   -- putting it at the back of a queue, when it is nowhere
   pub heads-push : (r : ℕ) (y : Cell) → (y .pos ≡ 0 → loc (y .circuit) ≡ 0)
-      → Heads (upd cells r (cells r ++ (y ∷ []))) (headTo (suc r) y loc)
+      → Heads (alter cells r (cells r ++ (y ∷ []))) (headTo (suc r) y loc)
   heads-push r y g c s =
       let grown = heads-append c (cells r) (y ∷ []) in
       head-or c y
@@ -300,13 +300,13 @@ module _ (cells : ℕ → List Cell) (loc : ℕ → ℕ) (h : Heads cells loc) w
       let l : loc c ≡ 0 = rw q at (g z) in
       let all : (j : ℕ) → heads c (cells j) ≡ 0 = λ j. h c j ∙ ap (λ v. ind v j) l ∙ ind-zero j in
       rw (headTo-hit (suc r) y loc c z q)
-      (upd-all (λ s l. heads c l ≡ ind (suc r) s) cells r (cells r ++ (y ∷ []))
+      (alter-all (λ s l. heads c l ≡ ind (suc r) s) cells r (cells r ++ (y ∷ []))
       (rw (grown, ind-hit (suc r) r refl) (omega (arith, all r)))
       (λ j ne. all j ∙ sym (ind-miss (suc r) j (λ m. ne (omega arith)))) s))
       (λ no-head.
       let none = head-miss c y no-head in
       rw (headTo-other (suc r) y loc c no-head)
-      (upd-all (λ s l. heads c l ≡ ind (loc c) s) cells r (cells r ++ (y ∷ [])) (rw grown (omega (arith, h c r))) (λ j ne. h c j) s))
+      (alter-all (λ s l. heads c l ≡ ind (loc c) s) cells r (cells r ++ (y ∷ [])) (rw grown (omega (arith, h c r))) (λ j ne. h c j) s))
 
 -- STRETCHES
 -- the token at a place of a stream
@@ -370,18 +370,18 @@ run-off st c i (t ∷ ts) r (x ∷ xs) b le ch e p =
 -- a whole header is put at the back of a queue
 pub heads-push-all : (cells : ℕ → List Cell) (loc : ℕ → ℕ) (d c : ℕ) (hs : List ℕ) (t : ℕ) (ts : List ℕ) → hs ≡ t ∷ ts → loc c ≡ 0
     → Heads cells loc
-    → Heads (upd cells d (cells d ++ cellsOf c 0 hs)) (upd loc c (suc d))
+    → Heads (alter cells d (cells d ++ cellsOf c 0 hs)) (alter loc c (suc d))
 heads-push-all cells loc d c hs t ts e z h = rw e pushed
   where
     x : Cell
     x = record { token = t; circuit = c; pos = 0 }
 
-    first : Heads (upd cells d (cells d ++ (x ∷ []))) (upd loc c (suc d))
+    first : Heads (alter cells d (cells d ++ (x ∷ []))) (alter loc c (suc d))
     first = rw (headTo-move (suc d) x loc refl) at (heads-push cells loc h d x (λ q. z))
 
-    pushed : Heads (upd cells d (cells d ++ cellsOf c 0 (t ∷ ts))) (upd loc c (suc d))
+    pushed : Heads (alter cells d (cells d ++ cellsOf c 0 (t ∷ ts))) (alter loc c (suc d))
     pushed c′ s =
-        upd-all (λ s l. heads c′ l ≡ ind (upd loc c (suc d) c′) s) cells d (cells d ++ cellsOf c 0 (t ∷ ts))
+        alter-all (λ s l. heads c′ l ≡ ind (alter loc c (suc d) c′) s) cells d (cells d ++ cellsOf c 0 (t ∷ ts))
         (rw (heads-append c′ (cells d) (cellsOf c 0 (t ∷ ts)), cells-heads c c′ 0 ts)
-        (rw (upd-same cells d (cells d ++ (x ∷ [])), heads-append c′ (cells d) (x ∷ [])) at (first c′ d)))
-        (λ j ne. rw (upd-miss cells d (cells d ++ (x ∷ [])) j ne) at (first c′ j)) s
+        (rw (alter-same cells d (cells d ++ (x ∷ [])), heads-append c′ (cells d) (x ∷ [])) at (first c′ d)))
+        (λ j ne. rw (alter-miss cells d (cells d ++ (x ∷ [])) j ne) at (first c′ j)) s

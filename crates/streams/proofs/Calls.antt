@@ -72,11 +72,11 @@ use Rattle.kept.proofs.Calls.{wire-ends, output-sender, step-there}
 use Rattle.kept.proofs.Hears.{keep-freed, ready-after}
 use Rattle.kept.proofs.Sets.{keep-written}
 use Rattle.kept.proofs.Messages.{Address, Replied, replied, Ready, ready-written}
-use Rattle.streams.specs.Model.{upd, Use, Nobody, By, Closed, portNo, doorNo, doorsEach, unitDoor, isLink, ToChannel, ToUnit, Net}
+use Rattle.streams.specs.Model.{alter, Use, Nobody, By, Closed, portNo, doorNo, doorsEach, unitDoor, isLink, ToChannel, ToUnit, Moving}
 use Rattle.streams.specs.Events.{Event, Opens, Puts, Starts, Tells, Takes, Lands, Refuses, Enters, Arrives, Hands, Loses, Wires}
 use Rattle.streams.specs.Events.{effect, empty}
 use Rattle.streams.specs.Observer.{anew}
-use Rattle.streams.specs.View.{view, farEnd, useBy}
+use Rattle.streams.specs.View.{moving, farEnd, useBy}
 use Rattle.streams.proofs.Machine.{Leads, leads-append}
 use Rattle.streams.proofs.View.{net-as, cable-put, view-cable, view-user, Alike, alike, unseen}
 use Rattle.streams.proofs.Acts.{Does, Both, does-opensOut, does-refused, does-drops, does-hands, does-listens, does-freed}
@@ -86,17 +86,17 @@ use Rattle.streams.proofs.Sends.{putEach}
 use Rattle.streams.proofs.Outputs.{carried, does-opensBy, does-behind, does-starts, does-goesOn, does-reply}
 
 -- no event, one, two
-pub leads-none : (n : Net) → Leads isLink [] n n
+pub leads-none : (n : Moving) → Leads isLink [] n n
 leads-none n = record { view = refl; ok = tt }
 
-leads-one : {v : Event} {w z : World} → Does v w z → Leads isLink (v ∷ []) (view w) (view z)
+leads-one : {v : Event} {w z : World} → Does v w z → Leads isLink (v ∷ []) (moving w) (moving z)
 leads-one d = record { view = d .is; ok = (d .ok, tt) }
 
-leads-both : {u v : Event} {w z : World} → Both u v w z → Leads isLink (u ∷ v ∷ []) (view w) (view z)
+leads-both : {u v : Event} {w z : World} → Both u v w z → Leads isLink (u ∷ v ∷ []) (moving w) (moving z)
 leads-both d = record { view = d .is; ok = (d .first, (d .second, tt)) }
 
 -- what the view does not see is no event
-leads-unseen : (w : World) (s : Cells.Net) → Alike (w .net) s → Leads isLink [] (view w) (view (withNet w s))
+leads-unseen : (w : World) (s : Cells.Net) → Alike (w .net) s → Leads isLink [] (moving w) (moving (withNet w s))
 leads-unseen w s a = record { view = unseen w (w .net) s a; ok = tt }
 
 -- no Set is an event
@@ -118,22 +118,22 @@ obeyEvents w n (Write g r v) =
     replyEvents (withNet w (written (w .net) n (fieldsOf r v))) n g (pick (accepted (w .net) n (fieldsOf r v)) Ack Nack)
 
 reply-leads : (w : World) → Kept w → (n : ℕ) → Ready w n → (g : Target) → Address g → (x : Reply)
-    → Leads isLink (replyEvents w n g x) (view w) (view (replySent w n g x .next))
+    → Leads isLink (replyEvents w n g x) (moving w) (moving (replySent w n g x .next))
 reply-leads w k n z g a x =
     by-test (isNarrow (headerOf g (widthAt (w .net) n)))
-    (λ e. rw e (leads-none (view w)))
+    (λ e. rw e (leads-none (moving w)))
     (λ e. rw e (does-reply w k n z g x (widthAt (w .net) n) a e))
 
 obey-leads : (w : World) → Kept w → (n : ℕ) → Ready w n → (m : Message) → Replied m
-    → Leads isLink (obeyEvents w n m) (view w) (view (obeyed w n m .next))
-obey-leads w k n z Malformed a = leads-none (view w)
+    → Leads isLink (obeyEvents w n m) (moving w) (moving (obeyed w n m .next))
+obey-leads w k n z Malformed a = leads-none (moving w)
 obey-leads w k n z (Wrong g) a = reply-leads w k n z g a Nack
 obey-leads w k n z (Read g r) a = reply-leads w k n z g a (Value (readOf (w .net) n r))
 obey-leads w k n z (Write g r v) a =
     let xs = fieldsOf r v in
     let y = withNet w (written (w .net) n xs) in
     let r = reply-leads y (keep-written w k n xs) n (ready-written w n z xs) g a (pick (accepted (w .net) n xs) Ack Nack) in
-    leads-append isLink [] _ (view w) (view y) _ (leads-unseen w (y .net) (set-alike (write-leaves (w .net) n xs))) r
+    leads-append isLink [] _ (moving w) (moving y) _ (leads-unseen w (y .net) (set-alike (write-leaves (w .net) n xs))) r
 
 -- A STEP, by its plan
 abbrev pub endEvents : World → ℕ → ℕ → List Event
@@ -160,7 +160,7 @@ stepEvents w n p (Drop x) = Loses (portNo n p) x (firstAt w n p) ∷ []
 
 module _ (w : World) (k : Kept w) (n p : ℕ) where
   abbrev StepLeads : Plan → Type 0
-  StepLeads x = Leads isLink (stepEvents w n p x) (view w) (view (stepPerformed w n p x .next))
+  StepLeads x = Leads isLink (stepEvents w n p x) (moving w) (moving (stepPerformed w n p x .next))
 
   headed-holds : Headed w n p → Holds w n p 1
   headed-holds z = kept-holds w k n p 1 (z .node) (z .port) (omega (arith, size-some (markedWidth (wordAt w n p 0)), z .whole))
@@ -175,14 +175,14 @@ module _ (w : World) (k : Kept w) (n p : ℕ) where
       let h = y .net .units .hearings n 0 in
       let free = keep-freed w k n p (g .holds) (g .goes) e in
       let ready = ready-after w k n p (g .holds) (g .goes) e in
-      rw e (leads-append isLink (Hands (portNo n p) ToUnit x ∷ []) _ (view w) (view y) _
+      rw e (leads-append isLink (Hands (portNo n p) ToUnit x ∷ []) _ (moving w) (moving y) _
       (leads-one (does-freed w n p (g .holds) (g .goes) e))
       (obey-leads y free n ready (messageOf h x) (replied h x))))
       (λ e. rw e (leads-one (does-listens w n p (g .holds) (g .goes) e)))
 
   step-leads : {x : Plan} → Found w n p x → StepLeads x
-  step-leads (idle none) = leads-none (view w)
-  step-leads (waits unsplit) = leads-none (view w)
+  step-leads (idle none) = leads-none (moving w)
+  step-leads (waits unsplit) = leads-none (moving w)
   step-leads (splits z f) = leads-one (does-refused w n p (headed-holds z) Split (z .shut))
   step-leads (unrouted z) = leads-one (does-refused w n p (headed-holds (z .headed)) NoRoute (z .headed .shut))
   step-leads (routes z l hl free on) = leads-one (does-opensOut w n p (headed-holds (z .headed)) l (z .headed .shut) hl free)
@@ -219,9 +219,9 @@ module _ (w : World) (k : Kept w) (n c t : ℕ) (s : Sender (w .net) n c) where
       carried (widthAt (w .net) n) target (legal .0) (legal .1) wide
 
   output-leads : {x : SentPlans.Plan} → Chosen.Found w n c t x
-      → Leads isLink (outputEvents w n c target t x) (view w) (view (outputPerformed w n c target t x))
-  output-leads Chosen.narrow = leads-none (view w)
-  output-leads Chosen.full = leads-none (view w)
+      → Leads isLink (outputEvents w n c target t x) (moving w) (moving (outputPerformed w n c target t x))
+  output-leads Chosen.narrow = leads-none (moving w)
+  output-leads Chosen.full = leads-none (moving w)
   output-leads (Chosen.opens z away free) =
       let (tile, none) = port-free w n (lowestFree (w .net) n) free in
       does-opensBy w n c (s .end) k (lowestFree (w .net) n) t target (s .node) (z .shut) tile none (fits (z .wide))
@@ -237,7 +237,7 @@ module _ (w : World) (k : Kept w) (n l m j : ℕ) (a : Loose w n l) (b : Loose w
   is-link : (i h : ℕ) → h < links → isLink (portNo i h) ≡ true
   is-link i h hh = ap (λ (x : ℕ). ltb x links) (digits-mod i (omega (arith, hh))) ∙ lt-ltb h links hh
 
-  wire-leads : Leads isLink (Wires (portNo n l) (portNo m j) ∷ []) (view w) (view (withNet w (wired (w .net) n l m j)))
+  wire-leads : Leads isLink (Wires (portNo n l) (portNo m j) ∷ []) (moving w) (moving (withNet w (wired (w .net) n l m j)))
   unfolding effect
   wire-leads =
       let cables = w .net .links .cables in
@@ -246,7 +246,7 @@ module _ (w : World) (k : Kept w) (n l m j : ℕ) (a : Loose w n l) (b : Loose w
       record {
         view = net-as refl refl refl refl
             (cable-put m (Two.upd cables n l (cableTo m j)) j (cableTo n l) hj
-            ∙ ap (λ (t : ℕ → Use). upd t (portNo m j) (By (portNo n l))) (cable-put n cables l (cableTo m j) hl))
+            ∙ ap (λ (t : ℕ → Use). alter t (portNo m j) (By (portNo n l))) (cable-put n cables l (cableTo m j) hl))
             refl;
         ok = (
           (
@@ -287,7 +287,7 @@ madeEvents w (Input a c x) = []
 madeEvents w (Step a p) = stepEvents w (a .0) p (stepPlan w (a .0) p)
 
 module _ (w : World) (k : Kept w) where
-  made-leads : (c : Call) → Passes (rows w c) → isFresh c ≡ false → Leads isLink (madeEvents w c) (view w) (view (made w c .next))
+  made-leads : (c : Call) → Passes (rows w c) → isFresh c ≡ false → Leads isLink (madeEvents w c) (moving w) (moving (made w c .next))
   made-leads (Fresh n) p e = clash e
   made-leads (Wire a l b j) p e =
       let (x, y, off) = wire-ends w (a .0) l (b .0) j (p .1) in
@@ -338,23 +338,23 @@ anew-case P h w c e = go c (sym (anew-done w c) ∙ e)
     go (Input a c x) f = clash (sym f)
     go (Step a p) f = clash (sym f)
 
-pub call-leads : (w : World) → Kept w → (c : Call) → anew w c ≡ false → Leads isLink (eventsOf w c) (view w) (view (apply w c .next))
+pub call-leads : (w : World) → Kept w → (c : Call) → anew w c ≡ false → Leads isLink (eventsOf w c) (moving w) (moving (apply w c .next))
 unfolding apply
 call-leads w k c e =
     by-test (done w c)
     (λ t. rw t (made-leads w k c (passed (rows w c) .sure t) (not-fresh w c t e)))
-    (λ t. rw t (leads-none (view w)))
+    (λ t. rw t (leads-none (moving w)))
 
 either : {A : Type 0} (b : Bool) (x : A) → pick b x x ≡ x
 either true x = refl
 either false x = refl
 
-pub fresh-view : (n : ℕ) → view (freshWorld n) ≡ empty
+pub fresh-view : (n : ℕ) → moving (freshWorld n) ≡ empty
 unfolding empty
 fresh-view n =
     net-as (fun-ext (λ j. nothing-held (freshWorld n) (j / ports) (j % ports) refl)) refl
     (fun-ext (λ l. either (ltb (l % ports) links) Nobody)) (fun-ext (λ d. either (ltb (d % doorsEach) ends) Closed))
     (fun-ext (λ l. either (ltb (l % ports) links) Nobody)) refl
 
-pub fresh-seen : (w : World) (c : Call) → anew w c ≡ true → view (apply w c .next) ≡ empty
-fresh-seen = anew-case (λ z. view z ≡ empty) fresh-view
+pub fresh-seen : (w : World) (c : Call) → anew w c ≡ true → moving (apply w c .next) ≡ empty
+fresh-seen = anew-case (λ z. moving z ≡ empty) fresh-view

@@ -14,7 +14,7 @@ use Rattle.streams.specs.Demand.{Demand3, Ties}
 use Rattle.streams.specs.Watch.{NoneAnew, runAll}
 use Rattle.streams.specs.Observer.{write, jot, anew, misreads, portIn}
 use Rattle.streams.specs.Statement.{observed}
-use Rattle.streams.specs.View.{view}
+use Rattle.streams.specs.View.{moving}
 use Rattle.streams.proofs.Machine.{Machine}
 use Rattle.streams.proofs.Splits.{Reading}
 use Rattle.streams.proofs.Seen.{Observer, fate-once, demand-3, so-tied}
@@ -31,7 +31,7 @@ module _ (n : ℕ) (some : 1 ≤ n) (few : n ≤ nodes) where
         Call = Call;
         apply = λ w c. apply w c .next;
         events = eventsOf;
-        view = view;
+        view = moving;
         Sane = Kept;
         anew = anew;
         anew-view = λ w c k e. fresh-seen w c e;

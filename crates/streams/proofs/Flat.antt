@@ -7,7 +7,7 @@ use native.Mathlib.Decide.{ℕ-discrete}
 use lib.Arith.{digits-div, digits-mod}
 use borrow.Author.Tests.{eq-eqb, ne-eqb}
 use Rattle.laws.specs.Table as Two
-use Rattle.streams.specs.Model.{upd}
+use Rattle.streams.specs.Model.{alter}
 use Rattle.streams.specs.View.{flat, nth}
 
 module _ {A : Type 0} (k n i : ℕ) (h : i < k) (f : ℕ → ℕ → A) where
@@ -22,8 +22,8 @@ flat-same k f g h e = fun-ext (λ j. e (j / k) (j % k) (mod-lt j h))
 pub flat-put : {A : Type 0} (k : ℕ) (f g : ℕ → ℕ → A) (n i : ℕ) (a : A) → i < k
     → g n i ≡ a
     → ((m j : ℕ) → j < k → Two.Off n i m j → g m j ≡ f m j)
-    → flat k g ≡ upd (flat k f) (nth k n i) a
-unfolding upd
+    → flat k g ≡ alter (flat k f) (nth k n i) a
+unfolding alter
 flat-put k f g n i a h here off =
     fun-ext (λ j. elim (ℕ-discrete j (nth k n i)) [
       | yes e ↦ rw (eq-eqb j (nth k n i) e) (ap (flat k g) e ∙ flat-at k n i h g ∙ here)

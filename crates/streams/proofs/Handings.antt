@@ -8,12 +8,12 @@ use Rattle.laws.specs.All.{Each}
 use Rattle.laws.specs.Pick.{pick}
 use Rattle.laws.proofs.Order.{never}
 use Rattle.names.specs.declared.NodeNumber.{NodeNumber}
-use Rattle.streams.specs.Model.{keeps, Place, ToChannel, nodeOfPort, nodeOfDoor, endAt, Out, Shut, Via, Into, Drops, Net}
-use Rattle.streams.specs.Model.{Landed, Here, Given, upd, hd, pushAll, marks}
+use Rattle.streams.specs.Model.{keeps, Place, ToChannel, nodeOfPort, nodeOfDoor, endAt, Out, Shut, Via, Into, Drops, Moving}
+use Rattle.streams.specs.Model.{Landed, Here, Given, alter, hd, pushAll, marks}
 use Rattle.streams.specs.Events.{Event, Opens, Puts, Starts, Tells, Takes, Lands, Refuses, Enters, Arrives, Hands, Loses, Wires}
 use Rattle.streams.specs.Events.{Cursor, Idle, At, Ghost, effect, note, effects, notes, Ok, OkAll}
 use Rattle.streams.specs.Demand.{tokensGiven}
-use Rattle.streams.proofs.Basics.{upd-miss, pushed-at, at-same, landed-same}
+use Rattle.streams.proofs.Basics.{alter-miss, pushed-at, at-same, landed-same}
 use Rattle.streams.proofs.Inv.{Handing, Inv}
 use Rattle.streams.proofs.Theorem.{keep}
 use Rattle.streams.proofs.Places.{handed-there, told-there}
@@ -94,16 +94,16 @@ Elsewhere p (Loses q x t) = Prim.Unit
 Elsewhere p (Wires l m) = Prim.Unit
 
 -- port p's circuit, c, goes into the place a
-pub record Into-place (n : Net) (g : Ghost) (p : ℕ) (a : Place) (c i : ℕ) : Type 0 where
+pub record Into-place (n : Moving) (g : Ghost) (p : ℕ) (a : Place) (c i : ℕ) : Type 0 where
   pub out : n .out p ≡ Into a
   pub front : g .front p ≡ At c i
 
 -- .. and still does, with as much handed
-pub record Stays (n n′ : Net) (g g′ : Ghost) (p : ℕ) (a : Place) (c i : ℕ) : Type 0 where
+pub record Stays (n n′ : Moving) (g g′ : Ghost) (p : ℕ) (a : Place) (c i : ℕ) : Type 0 where
   pub into : Into-place n′ g′ p a c i
   pub handed : g′ .handed c ≡ g .handed c
 
-module _ (link : ℕ → Bool) (n : Net) (g : Ghost) (iv : Inv link n g) (p : ℕ) (a : Place) (c i : ℕ) (z : Into-place n g p a c i) where
+module _ (link : ℕ → Bool) (n : Moving) (g : Ghost) (iv : Inv link n g) (p : ℕ) (a : Place) (c i : ℕ) (z : Into-place n g p a c i) where
   landed : (k : NodeNumber) × (g .fate c ≡ Landed p k)
   landed =
       let ho : Handing (g .stream) (g .handed) (g .fate) (g .info) p a (g .front p) = rw (z .out) at (iv .outs p) in
@@ -116,11 +116,11 @@ module _ (link : ℕ → Bool) (n : Net) (g : Ghost) (iv : Inv link n g) (p : �
 
   -- a change of another port, and of what another circuit has handed
   module _ (q : ℕ) (x : Out) (f : Cursor) (ne : p ≡ q → ⊥) where
-    still-out : upd (n .out) q x p ≡ Into a
-    still-out = upd-miss (n .out) q x p ne ∙ z .out
+    still-out : alter (n .out) q x p ≡ Into a
+    still-out = alter-miss (n .out) q x p ne ∙ z .out
 
-    still-front : upd (g .front) q f p ≡ At c i
-    still-front = upd-miss (g .front) q f p ne ∙ z .front
+    still-front : alter (g .front) q f p ≡ At c i
+    still-front = alter-miss (g .front) q f p ne ∙ z .front
 
   pub stay : (v : Event) → Ok link n v → Elsewhere p v → Stays n (effect v n) g (note v g) p a c i
   unfolding effect note
@@ -130,7 +130,7 @@ module _ (link : ℕ → Bool) (n : Net) (g : Ghost) (iv : Inv link n g) (p : �
   stay (Tells e ch t) ok other =
       let (k, here, to) = told-there link n g e ch t iv ok in
       let ne : c ≡ g .mine e → ⊥ = λ q. never (let x : Landed p (landed .0) ≡ Here k = sym (landed .1) ∙ ap (g .fate) q ∙ here in cc) in
-      record { into = record { out = z .out; front = z .front }; handed = upd-miss (g .handed) (g .mine e) _ c ne }
+      record { into = record { out = z .out; front = z .front }; handed = alter-miss (g .handed) (g .mine e) _ c ne }
   stay (Takes q l) ok other =
       let ne = off q Shut (ok .3) (λ e. never (cc)) in
       record { into = record { out = still-out q _ Idle ne; front = still-front q Shut _ ne }; handed = refl }
@@ -149,14 +149,14 @@ module _ (link : ℕ → Bool) (n : Net) (g : Ghost) (iv : Inv link n g) (p : �
       let ne : c ≡ hd (g .cells q) .circuit → ⊥ = λ e. other (landed-same (sym (landed .1) ∙ ap (g .fate) e ∙ to) .0) in
       record {
         into = record { out = still-out q _ Idle other; front = still-front q Shut _ other };
-        handed = upd-miss (g .handed) (hd (g .cells q) .circuit) _ c ne;
+        handed = alter-miss (g .handed) (hd (g .cells q) .circuit) _ c ne;
       }
   stay (Loses q x t) ok other =
       let ne = off q (Drops x) (ok .2) (λ e. never (cc)) in
       record { into = record { out = still-out q _ Idle ne; front = still-front q Shut _ ne }; handed = refl }
   stay (Wires l m) ok other = record { into = record { out = z .out; front = z .front }; handed = refl }
 
-pub stays : (link : ℕ → Bool) (vs : List Event) (n : Net) (g : Ghost) → Inv link n g → (p : ℕ) (a : Place) (c i : ℕ)
+pub stays : (link : ℕ → Bool) (vs : List Event) (n : Moving) (g : Ghost) → Inv link n g → (p : ℕ) (a : Place) (c i : ℕ)
     → Into-place n g p a c i
     → OkAll link vs n
     → Each (Elsewhere p) vs

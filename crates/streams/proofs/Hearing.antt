@@ -50,12 +50,11 @@ use Rattle.kept.specs.Kept.{Kept}
 use Rattle.kept.proofs.Found.{Going, Found, idle, waits, splits, unrouted, routes, step-found}
 use Rattle.kept.proofs.Found as Found
 use Rattle.kept.proofs.Calls.{step-there}
-use Rattle.streams.specs.Model.{keeps, ToUnit, portNo, doorNo, unitDoor, isLink, Into, Books, upd, hd}
+use Rattle.streams.specs.Model.{keeps, ToUnit, portNo, doorNo, unitDoor, isLink, Into, Books, alter, hd}
 use Rattle.streams.specs.Events.{Event, Hands, Cursor, At, Ghost, booksOf, after, next, note, notes, OkAll}
 use Rattle.streams.specs.Demand.{heardAt, Hears}
-use Rattle.streams.specs.View.{view, outBy}
-use Rattle.streams.proofs.Basics.{at-same, Fits, each-map}
-use Rattle.streams.proofs.Basics as Basics
+use Rattle.streams.specs.View.{moving, outBy}
+use Rattle.streams.proofs.Basics.{alter-hit, at-same, Fits, each-map}
 use Rattle.streams.proofs.Inv.{Handing, Inv}
 use Rattle.streams.proofs.Keep.{front-at}
 use Rattle.streams.proofs.Theorem.{faithful}
@@ -100,15 +99,15 @@ module _ (w : World) (k : Kept w) (n : ℕ) (hn : n < w .net .nodes) where
   served-port p q hp e served = one-same (sym (ap portOf served) ∙ k .portUnit .out n p hn hp 0 (ap unitOf e) .1)
 
 -- the circuit that the port goes on with
-module _ (w : World) (g : Ghost) (iv : Inv isLink (view w) g) (n q : ℕ) (hq : q < ports) (e : hop (w .net) n q ≡ Hops.Unit) where
-  pub into-unit : view w .out (portNo n q) ≡ Into ToUnit
+module _ (w : World) (g : Ghost) (iv : Inv isLink (moving w) g) (n q : ℕ) (hq : q < ports) (e : hop (w .net) n q ≡ Hops.Unit) where
+  pub into-unit : moving w .out (portNo n q) ≡ Into ToUnit
   into-unit = view-out w n q hq ∙ ap (outBy n) e
 
   pub going : Handing (g .stream) (g .handed) (g .fate) (g .info) (portNo n q) ToUnit (g .front (portNo n q))
   going = rw into-unit at (iv .outs (portNo n q))
 
 -- WHAT IS PROMISED
-pub hears-so : (w : World) → Kept w → (g : Ghost) → Inv isLink (view w) g → (n p : ℕ) → n < w .net .nodes
+pub hears-so : (w : World) → Kept w → (g : Ghost) → Inv isLink (moving w) g → (n p : ℕ) → n < w .net .nodes
     → peerOf (w .net .units .serving n 0) ≡ Peers.Port p
     → HeardAt w g n
     → Hears w (booksOf g) n p
@@ -123,12 +122,12 @@ hears-so w k g iv n p hn e heard =
       words = heard p e (z .c) (z .i) (z .front);
       next = λ x q held.
           let ft : Fits (At (z .c) (z .i)) (hd (g .cells (portNo n p))) =
-          rw (z .front) at (front-at isLink (view w) g iv (portNo n p) x q (view-queue w n p hp ∙ held) .fits) in
+          rw (z .front) at (front-at isLink (moving w) g iv (portNo n p) x q (view-queue w n p hp ∙ held) .fits) in
           ft .0;
     }
 
 -- A CALL THAT LEAVES A CONTROL UNIT ALONE
-module _ (w z : World) (k : Kept w) (g : Ghost) (iv : Inv isLink (view w) g) (vs : List Event) (ok : OkAll isLink vs (view w)) (n : ℕ)
+module _ (w z : World) (k : Kept w) (g : Ghost) (iv : Inv isLink (moving w) g) (vs : List Event) (ok : OkAll isLink vs (moving w)) (n : ℕ)
     (hn : n < w .net .nodes) (serving : z .net .units .serving n 0 ≡ w .net .units .serving n 0)
     (hearing : z .net .units .hearings n 0 ≡ w .net .units .hearings n 0)
     (other : (q : ℕ) → q < ports → hop (w .net) n q ≡ Hops.Unit → Each (Elsewhere (portNo n q)) vs)
@@ -138,7 +137,7 @@ module _ (w z : World) (k : Kept w) (g : Ghost) (iv : Inv isLink (view w) g) (vs
         let served = ap peerOf (sym serving) ∙ e in
         let (hq, to) = serves-port w k n hn q served in
         let a = going w g iv n q hq to in
-        let s = stays isLink vs (view w) g iv (portNo n q) ToUnit (a .c) (a .i)
+        let s = stays isLink vs (moving w) g iv (portNo n q) ToUnit (a .c) (a .i)
         (record { out = into-unit w g iv n q hq to; front = a .front }) ok (other q hq to) in
         let same : a .c ≡ c = at-same (sym (s .into .front) ∙ front) .0 in
         ap heardIn hearing
@@ -155,13 +154,13 @@ kept-word x more =
     (λ e. by-test (eqb x (controlWord pause)) (λ f. clash (rw (e, f) at more)) (λ f. rw f))
 
 -- ONE CALL, from the world w to z by the events vs
-module _ (w : World) (k : Kept w) (g : Ghost) (iv : Inv isLink (view w) g) where
+module _ (w : World) (k : Kept w) (g : Ghost) (iv : Inv isLink (moving w) g) where
   abbrev AllHeard : World → Ghost → Type 0
   AllHeard z h = (n : ℕ) → n < w .net .nodes → HeardAt z h n
 
   pub record Listening (z : World) (vs : List Event) : Type 0 where
     pub wide : Wide (w .net) → Wide (z .net)
-    pub heard : Wide (w .net) → OkAll isLink vs (view w) → AllHeard w g → AllHeard z (notes vs g)
+    pub heard : Wide (w .net) → OkAll isLink vs (moving w) → AllHeard w g → AllHeard z (notes vs g)
 
   -- every control unit is left alone
   all-stay : (z : World) (vs : List Event) → z .net .units ≡ w .net .units
@@ -181,7 +180,7 @@ module _ (w : World) (k : Kept w) (g : Ghost) (iv : Inv isLink (view w) g) where
       ≡ record { serving = Two.upd (w .net .units .serving) n 0 c; hearings = Two.upd (w .net .units .hearings) n 0 y })
       (other : (m q : ℕ) → (m ≡ n → ⊥) → q < ports → Each (Elsewhere (portNo m q)) vs)
       (long : Wide (w .net) → length (y .tokens) ≡ unitBuffer)
-      (here : Wide (w .net) → OkAll isLink vs (view w) → HeardAt w g n
+      (here : Wide (w .net) → OkAll isLink vs (moving w) → HeardAt w g n
       → (q : ℕ)
       → peerOf c ≡ Peers.Port q
       → (d i : ℕ)
@@ -255,15 +254,15 @@ module _ (w : World) (k : Kept w) (g : Ghost) (iv : Inv isLink (view w) g) where
         let (hq, to) = serves-port w k n (z .holds .node) q served in
         let is-p = served-port w k n (z .holds .node) p q (z .holds .port) (z .goes) served in
         let a = going w g iv n p (z .holds .port) (z .goes) in
-        let ft : Fits (At (a .c) (a .i)) y = rw (a .front) at (front-at isLink (view w) g iv (portNo n p) x _ (first-seen w n p (z .holds)) .fits) in
-        let front′ : next y ≡ At d i = sym (Basics.upd-hit (g .front) (portNo n p) (next y) (portNo n q) (ap (portNo n) is-p)) ∙ front in
+        let ft : Fits (At (a .c) (a .i)) y = rw (a .front) at (front-at isLink (moving w) g iv (portNo n p) x _ (first-seen w n p (z .holds)) .fits) in
+        let front′ : next y ≡ At d i = sym (alter-hit (g .front) (portNo n p) (next y) (portNo n q) (ap (portNo n) is-p)) ∙ front in
         let is-d : y .circuit ≡ d = front-circuit d i front′ in
         let fits = ⊎-elim (λ none. absurd (serves q served none)) (λ h. h .0) (k .hearings n 0 (z .holds .node) (omega arith)) in
         heard-more u x (g .handed (y .circuit)) (l n) fits
         (heard p (ap (λ (j : ℕ). peerOf (w .net .units .serving n 0)) is-p ∙ served ∙ ap Peers.Port is-p) (a .c) (a .i) (a .front)
         ∙ ap (λ (j : ℕ). take unitBuffer (g .handed j)) (sym (ft .0)))
         ∙ ap (λ (ts : List ℕ). take unitBuffer (g .handed (y .circuit) ++ ts)) (sym (kept-word x more))
-        ∙ ap (take unitBuffer) (sym (Basics.upd-hit (g .handed) (y .circuit) row d (sym is-d))))
+        ∙ ap (take unitBuffer) (sym (alter-hit (g .handed) (y .circuit) row d (sym is-d))))
       where
         heardNext : Cells.UnitTables → Cells.UnitTables
         heardNext t = record { serving = t .serving; hearings = Two.upd (t .hearings) n 0 (hearsWord (t .hearings n 0) x) }
@@ -303,9 +302,9 @@ module _ (w : World) (k : Kept w) (g : Ghost) (iv : Inv isLink (view w) g) where
       (λ l. l n)
       (λ l ok heard q served d i front.
       let is-q : p ≡ q = port-same served in
-      let is-d : y .circuit ≡ d = at-same (sym (Basics.upd-hit (g .front) (portNo n p) _ (portNo n q) (ap (portNo n) (sym is-q))) ∙ front) .0 in
-      let flying = landing-flies isLink (view w) g (portNo n p) _ _ _ _ iv (ok .0) in
-      ap (take unitBuffer) (sym (ap (g .handed) (sym is-d) ∙ faithful isLink (view w) g iv (y .circuit) .not-yet flying)))
+      let is-d : y .circuit ≡ d = at-same (sym (alter-hit (g .front) (portNo n p) _ (portNo n q) (ap (portNo n) (sym is-q))) ∙ front) .0 in
+      let flying = landing-flies isLink (moving w) g (portNo n p) _ _ _ _ iv (ok .0) in
+      ap (take unitBuffer) (sym (ap (g .handed) (sym is-d) ∙ faithful isLink (moving w) g iv (y .circuit) .not-yet flying)))
     where
       port-same : {a b : ℕ} → Peers.Port a ≡ Peers.Port b → a ≡ b
       port-same e = cc

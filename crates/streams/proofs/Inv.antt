@@ -15,11 +15,11 @@ use Rattle.circuits.specs.declared.Cause.{Cause}
 use Rattle.tokens.specs.Header.{Carried}
 use Rattle.plans.specs.Plan.{sizeOf}
 use Rattle.streams.specs.Model.{noPause, body, Plain, Place, ToChannel, placeOf, encode, Out, Shut, Via, Into, Drops, Use}
-use Rattle.streams.specs.Model.{Nobody, By, Sender, Closed, Through, Direct, Net, Cell, Fate, Flying, Lost, Landed, Here, Info, upd}
+use Rattle.streams.specs.Model.{Nobody, By, Sender, Closed, Through, Direct, Moving, Cell, Fate, Flying, Lost, Landed, Here, Info, alter}
 use Rattle.streams.specs.Model.{hd, tl, pop, push, pushAll, cellsOf}
 use Rattle.streams.specs.Events.{Cursor, Idle, At, Ghost, next}
 use Rattle.streams.specs.Demand.{Names, tokensOf}
-use Rattle.streams.proofs.Basics.{upd-same, upd-miss, at-or, Fits, Streams, Good, Chain, chain-snoc, chain-append, Grows}
+use Rattle.streams.proofs.Basics.{alter-same, alter-miss, at-or, Fits, Streams, Good, Chain, chain-snoc, chain-append, Grows}
 use Rattle.streams.proofs.Basics.{chain-grow, norm, Heads, cells-chain}
 
 -- A QUEUE
@@ -122,7 +122,7 @@ pub record Unborn (s h : List ℕ) (v : ℕ) (f : Fate) : Type 0 where
   pub no-fate : f ≡ Flying
 
 module _ (link : ℕ → Bool) where
-  pub record Inv (n : Net) (g : Ghost) : Type 0 where
+  pub record Inv (n : Moving) (g : Ghost) : Type 0 where
     pub ports : (p : ℕ) → PortOK (g .stream) (n .queue p) (g .cells p) (g .front p) (g .back p)
     -- cables agree at both ends
     pub cabled : (l m : ℕ) → n .cable l ≡ By m → (n .cable m ≡ By l) × (link m ≡ true)
@@ -194,46 +194,46 @@ module _ (st : Streams) (queue : ℕ → List ℕ) (cells : ℕ → List Cell) (
   front-at p x r e = front-of st (queue p) (cells p) (front p) (back p) x r (ok p) e
 
   pub pops : (p x : ℕ) (r : List ℕ) → queue p ≡ x ∷ r → (j : ℕ)
-      → PortOK st (pop queue p j) (pop cells p j) (upd front p (next (hd (cells p))) j) (back j)
+      → PortOK st (pop queue p j) (pop cells p j) (alter front p (next (hd (cells p))) j) (back j)
   pops p x r e =
       let fr = front-at p x r e in
-      at-or _ p (simp upd-same (record { tokens = rw e (fr .tokens); chain = fr .rest })) (λ j ne. simp upd-miss (ok j))
+      at-or _ p (simp alter-same (record { tokens = rw e (fr .tokens); chain = fr .rest })) (λ j ne. simp alter-miss (ok j))
 
   pub pushes : (r : ℕ) (x : Cell) (t : ℕ) → x .token ≡ t → Fits (back r) x → Good st x → (j : ℕ)
-      → PortOK st (push queue r t j) (push cells r x j) (front j) (upd back r (next x) j)
+      → PortOK st (push queue r t j) (push cells r x j) (front j) (alter back r (next x) j)
   pushes r x t e ft gd =
       let pushed = port-push st (queue r) (cells r) (front r) (back r) x (ok r) ft gd in
-      at-or _ r (simp upd-same (rw (← e) pushed)) (λ j ne. simp upd-miss (ok j))
+      at-or _ r (simp alter-same (rw (← e) pushed)) (λ j ne. simp alter-miss (ok j))
 
   pushes-more : (r c t : ℕ) (ts m : List ℕ) → back r ≡ Idle → st c ≡ (t ∷ ts) ++ m → Plain (t ∷ ts) → (j : ℕ)
-      → PortOK st (pushAll queue r (t ∷ ts) j) (pushAll cells r (cellsOf c 0 (t ∷ ts)) j) (front j) (upd back r (At c (suc (length ts))) j)
+      → PortOK st (pushAll queue r (t ∷ ts) j) (pushAll cells r (cellsOf c 0 (t ∷ ts)) j) (front j) (alter back r (At c (suc (length ts))) j)
   pushes-more r c t ts m bi e pl =
       let ch = cells-chain st c 0 (t ∷ ts) m e pl in
       let cs = cellsOf c 0 (t ∷ ts) in
       let end = At c (suc (length ts)) in
       let ch′ : Chain st Idle cs end = (refl, ch .1, rw zero-add at (ch .2)) in
       at-or _ r
-      (simp upd-same (record {
+      (simp alter-same (record {
         tokens = rw (tokens-append (cells r) cs, tokens-back c 1 ts, ok r .tokens);
         chain = chain-append st (front r) (cells r) Idle cs end (rw bi at (ok r .chain)) ch′;
       }))
-      (λ j ne. simp upd-miss (ok j))
+      (λ j ne. simp alter-miss (ok j))
 
   -- a whole header
   pub pushes-all : (r c : ℕ) (hs : List ℕ) (t : ℕ) (ts m : List ℕ) → hs ≡ t ∷ ts → back r ≡ Idle → st c ≡ hs ++ m → Plain (t ∷ ts)
       → (j : ℕ)
-      → PortOK st (pushAll queue r hs j) (pushAll cells r (cellsOf c 0 hs) j) (front j) (upd back r (At c (length hs)) j)
+      → PortOK st (pushAll queue r hs j) (pushAll cells r (cellsOf c 0 hs) j) (front j) (alter back r (At c (length hs)) j)
   pushes-all r c hs t ts m e bi q pl = rw e (pushes-more r c t ts m bi (rw e at q) pl)
 
   -- a circuit is begun at the front
   pub refronts : (p x : ℕ) (r : List ℕ) → queue p ≡ x ∷ r → front p ≡ Idle → (j : ℕ)
-      → PortOK st (queue j) (cells j) (upd front p (At (hd (cells p) .circuit) 0) j) (back j)
+      → PortOK st (queue j) (cells j) (alter front p (At (hd (cells p) .circuit) 0) j) (back j)
   refronts p x r e fi =
       let fr = front-at p x r e in
       let ft : Fits Idle (hd (cells p)) = rw fi at (fr .fits) in
       at-or _ p
-      (simp upd-same (record { tokens = ok p .tokens; chain = rw (fr .is) ((refl, ft), fr .good, fr .rest) }))
-      (λ j ne. simp upd-miss (ok j))
+      (simp alter-same (record { tokens = ok p .tokens; chain = rw (fr .is) ((refl, ft), fr .good, fr .rest) }))
+      (λ j ne. simp alter-miss (ok j))
 
 -- LINKS
 pub fed-keep : (out out′ : ℕ → Out) (front front′ : ℕ → Cursor) (b : Cursor) (l : ℕ) (u : Use)

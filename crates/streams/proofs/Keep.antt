@@ -11,9 +11,9 @@ use lib.ListN.{length}
 use Rattle.laws.specs.Pick.{pick}
 use Rattle.laws.proofs.Order.{never}
 use Rattle.circuits.specs.declared.Cause.{Cause}
-use Rattle.streams.specs.Model.{Out, Shut, Via, Drops, Use, By, Through, Net, Cell, Fate, Flying, Info, upd, hd, tl}
+use Rattle.streams.specs.Model.{Out, Shut, Via, Drops, Use, By, Through, Moving, Cell, Fate, Flying, Info, alter, hd, tl}
 use Rattle.streams.specs.Events.{Cursor, Idle, At, Ghost, headTo}
-use Rattle.streams.proofs.Basics.{upd-hit, upd-miss, Streams, Good, headTo-other, headTo-none, heads-at}
+use Rattle.streams.proofs.Basics.{alter-hit, alter-miss, Streams, Good, headTo-other, headTo-none, heads-at}
 use Rattle.streams.proofs.Inv.{FedBy, Riding, Own, SendBy, OutBy, Made, CircBy, Unborn, Inv, Front, front-of, fed-keep, circ-keep}
 use Rattle.streams.proofs.Inv.{flies, out-keep, SameCircuit, SamePort, send-keep}
 
@@ -22,7 +22,7 @@ pub no-via : (b : Bool) (o : Out) → ((l : ℕ) → o ≡ Via l → ⊥) → (l
 no-via true o h l z = never (cc)
 no-via false o h l z = h l z
 
-module _ (link : ℕ → Bool) (n : Net) (g : Ghost) (iv : Inv link n g) where
+module _ (link : ℕ → Bool) (n : Moving) (g : Ghost) (iv : Inv link n g) where
   pub front-at : (p x : ℕ) (r : List ℕ) → n .queue p ≡ x ∷ r → Front (g .stream) (g .cells p) (g .front p) (g .back p) x r
   front-at p x r e = front-of (g .stream) (n .queue p) (g .cells p) (g .front p) (g .back p) x r (iv .ports p) e
 
@@ -80,10 +80,10 @@ module _ (link : ℕ → Bool) (n : Net) (g : Ghost) (iv : Inv link n g) where
       record { no-port = headTo-none y (g .loc) c (u .no-port); no-fate = u .no-fate; known = u .known }
 
   -- so a fate that such a circuit gets is none of theirs
-  pub ways-fate : (c p : ℕ) (f : Fate) → g .loc c ≡ suc p → (c′ : ℕ) → 0 < g .way c′ → upd (g .fate) c f c′ ≡ Flying
+  pub ways-fate : (c p : ℕ) (f : Fate) → g .loc c ≡ suc p → (c′ : ℕ) → 0 < g .way c′ → alter (g .fate) c f c′ ≡ Flying
   ways-fate c p f e c′ h =
       let w = off-road c p e in
-      upd-miss _ _ _ c′ (λ m. let v : g .way c′ ≡ 0 = rw m w in omega arith) ∙ iv .ways c′ h .no-fate
+      alter-miss _ _ _ c′ (λ m. let v : g .way c′ ≡ 0 = rw m w in omega arith) ∙ iv .ways c′ h .no-fate
 
   -- a cell that goes from a port or a line to v is of no circuit that is unborn
   pub unborn-move : (v : ℕ) (y : Cell) → Good (g .stream) y → (c : ℕ) → g .now ≤ c
@@ -117,45 +117,45 @@ module _ (link : ℕ → Bool) (n : Net) (g : Ghost) (iv : Inv link n g) where
 
   -- a fate changes, of a circuit that was on its way
   pub send-fate : (c : ℕ) (f : Fate) → g .fate c ≡ Flying → (e : ℕ)
-      → SendBy link (g .holder) (g .back) (g .mine e) e (g .stream) (upd (g .fate) c f) (g .info) (g .now) (n .busy e)
+      → SendBy link (g .holder) (g .back) (g .mine e) e (g .stream) (alter (g .fate) c f) (g .info) (g .now) (n .busy e)
   send-fate c f fl e =
-      send-same (g .holder) (g .back) (g .stream) (upd (g .fate) c f) (g .info) (g .now) e (le-refl _)
-      (λ ow. (refl, refl, λ k w. upd-miss _ _ _ _ (λ m. never (cc))))
+      send-same (g .holder) (g .back) (g .stream) (alter (g .fate) c f) (g .info) (g .now) e (le-refl _)
+      (λ ow. (refl, refl, λ k w. alter-miss _ _ _ _ (λ m. never (cc))))
       (λ d od lk hl. (refl, refl))
 
   pub out-fate : (c : ℕ) (f : Fate) → g .fate c ≡ Flying → (j : ℕ)
-      → OutBy (g .stream) (g .handed) (upd (g .fate) c f) (g .info) j (n .out j) (g .front j)
+      → OutBy (g .stream) (g .handed) (alter (g .fate) c f) (g .info) j (n .out j) (g .front j)
   out-fate c f fl j =
-      out-keep (g .stream) (g .handed) (g .handed) (g .fate) (upd (g .fate) c f) (g .info) j (n .out j) (g .front j)
-      (λ c′ v fc. (upd-miss _ _ _ c′ (λ m. never (cc)), refl))
-      (λ c′ q fc. upd-miss _ _ _ c′ (λ m. never (cc)))
+      out-keep (g .stream) (g .handed) (g .handed) (g .fate) (alter (g .fate) c f) (g .info) j (n .out j) (g .front j)
+      (λ c′ v fc. (alter-miss _ _ _ c′ (λ m. never (cc)), refl))
+      (λ c′ q fc. alter-miss _ _ _ c′ (λ m. never (cc)))
       (iv .outs j)
 
-  pub unborn-fate : (y : Cell) (f : Fate) → Good (g .stream) y → (c : ℕ) → g .now ≤ c → upd (g .fate) (y .circuit) f c ≡ Flying
-  unborn-fate y f gd c le = upd-miss _ _ _ c (λ m. cell-known y gd c le m) ∙ iv .unborn c le .no-fate
+  pub unborn-fate : (y : Cell) (f : Fate) → Good (g .stream) y → (c : ℕ) → g .now ≤ c → alter (g .fate) (y .circuit) f c ≡ Flying
+  unborn-fate y f gd c le = alter-miss _ _ _ c (λ m. cell-known y gd c le m) ∙ iv .unborn c le .no-fate
 
   -- port p alone changes what it serves
   module _ (p : ℕ) (o : Out) (f : Cursor) where
     pub circ-port : (c v′ : ℕ) → v′ ≡ g .loc c → ((q : Cause) → n .out p ≡ Drops q → g .front p ≡ At c 0 → ⊥)
-        → CircBy (upd (n .out) p o) (upd (g .front) p f) (g .stream c) (g .handed c) v′ (g .info c) (g .now) c (g .fate c)
+        → CircBy (alter (n .out) p o) (alter (g .front) p f) (g .stream c) (g .handed c) v′ (g .info c) (g .now) c (g .fate c)
     circ-port c v′ e k =
-        circ-same (upd (n .out) p o) (upd (g .front) p f) c v′ e
+        circ-same (alter (n .out) p o) (alter (g .front) p f) c v′ e
         (λ j q d f0.
         let ne : j ≡ p → ⊥ = λ m. k q (rw m at d) (rw m at f0) in
-        (upd-miss _ p _ j ne, upd-miss _ p _ j ne))
+        (alter-miss _ p _ j ne, alter-miss _ p _ j ne))
 
     -- and serves no link before
     module _ (away : (l : ℕ) → n .out p ≡ Via l → ⊥) where
-      pub fed-away : (l : ℕ) → FedBy (upd (n .out) p o) (upd (g .front) p f) (g .tail l) l (n .user l)
+      pub fed-away : (l : ℕ) → FedBy (alter (n .out) p o) (alter (g .front) p f) (g .tail l) l (n .user l)
       fed-away l =
-          fed-keep (n .out) (upd (n .out) p o) (g .front) (upd (g .front) p f) (g .tail l) l (n .user l)
-          (λ q z. let d : q ≡ p → ⊥ = λ m. away l (rw m at z) in (upd-miss _ p _ q d, upd-miss _ p _ q d))
+          fed-keep (n .out) (alter (n .out) p o) (g .front) (alter (g .front) p f) (g .tail l) l (n .user l)
+          (λ q z. let d : q ≡ p → ⊥ = λ m. away l (rw m at z) in (alter-miss _ p _ q d, alter-miss _ p _ q d))
           (iv .fed l)
 
       -- nor after
-      pub used-away : ((l : ℕ) → o ≡ Via l → ⊥) → (q l : ℕ) → upd (n .out) p o q ≡ Via l → n .user l ≡ By q
+      pub used-away : ((l : ℕ) → o ≡ Via l → ⊥) → (q l : ℕ) → alter (n .out) p o q ≡ Via l → n .user l ≡ By q
       used-away none q l z =
           elim (ℕ-discrete q p) [
-            | yes e ↦ absurd (none l (sym (upd-hit (n .out) p o q e) ∙ z))
-            | no ne ↦ iv .used q l (sym (upd-miss (n .out) p o q ne) ∙ z)
+            | yes e ↦ absurd (none l (sym (alter-hit (n .out) p o q e) ∙ z))
+            | no ne ↦ iv .used q l (sym (alter-miss (n .out) p o q ne) ∙ z)
           ]

@@ -28,9 +28,9 @@ use Rattle.kept.proofs.Rooms.{kept-holds}
 use Rattle.kept.proofs.Empties.{emptied-stripped}
 use Rattle.kept.proofs.Found.{Ours}
 use Rattle.kept.proofs.Steps.{as-long}
-use Rattle.streams.specs.Model.{upd, portNo, Place, ToChannel, ToUnit, placeOf, Into, Net}
+use Rattle.streams.specs.Model.{alter, portNo, Place, ToChannel, ToUnit, placeOf, Into, Moving}
 use Rattle.streams.specs.Events.{Lands, effect}
-use Rattle.streams.specs.View.{view, outBy, outs}
+use Rattle.streams.specs.View.{moving, outBy, outs}
 use Rattle.streams.proofs.View.{net-as, out-put, view-queue, view-out, emptied-seen}
 use Rattle.streams.proofs.View.{Alike, alike, alike-then, unseen}
 use Rattle.streams.proofs.Acts.{Does, alike-claimed}
@@ -51,7 +51,7 @@ module _ (w : World) (k : Kept w) (n p : ℕ) (z : Ours w n p) where
       let h = z .legible .headed in
       kept-holds w k n p (sizeOf x) (h .node) (h .port) (omega (arith, as-long w k n p (z .legible), h .whole))
 
-  -- a circuit to a place of this node, whatever else the view does not see
+  -- a circuit to a place of this node, whatever else the moving does not see
   does-land : (a : Place) (h : Hop) (s : Cells.Net) → placeOf (targetAt w n p) ≡ a → outBy n h ≡ Into a → Alike (hopped (w .net) n p h) s
       → Does (Lands (portNo n p) x hs a (numberAt (w .net) n)) w (stripped (withNet w s) n p x)
   unfolding effect
@@ -72,11 +72,11 @@ module _ (w : World) (k : Kept w) (n p : ℕ) (z : Ours w n p) where
       let e = emptied-stripped y n p x there in
       let q = queue (stripped y n p x) n p in
       let whole : queue w n p ≡ hs ++ q = sym same-queue ∙ e .here ∙ ap (λ (l : List ℕ). take (sizeOf x) l ++ q) same-queue in
-      let left : q ≡ drop (length hs) (view w .queue (portNo n p)) =
+      let left : q ≡ drop (length hs) (moving w .queue (portNo n p)) =
       sym (ap (drop (length hs)) (view-queue w n p hp ∙ whole) ∙ drop-append-seam hs q) in
-      let opened : view y ≡ view (withNet w (hopped (w .net) n p h)) = unseen w (hopped (w .net) n p h) s same in
-      let goes : outs (Two.upd (w .net .ports .legs) n p (legOf h)) ≡ upd (view w .out) (portNo n p) (Into a) =
-      out-put n (w .net .ports .legs) p (legOf h) hp ∙ ap (upd (view w .out) (portNo n p)) (ap (outBy n) (hop-back h) ∙ to) in
+      let opened : moving y ≡ moving (withNet w (hopped (w .net) n p h)) = unseen w (hopped (w .net) n p h) s same in
+      let goes : outs (Two.upd (w .net .ports .legs) n p (legOf h)) ≡ alter (moving w .out) (portNo n p) (Into a) =
+      out-put n (w .net .ports .legs) p (legOf h) hp ∙ ap (alter (moving w .out) (portNo n p)) (ap (outBy n) (hop-back h) ∙ to) in
       record {
         ok = (
           record {
@@ -94,15 +94,15 @@ module _ (w : World) (k : Kept w) (n p : ℕ) (z : Ours w n p) where
         );
         is =
             emptied-seen y (stripped y n p x) n p (take (sizeOf x) (queue y n p)) hp e
-            ∙ ap (λ (v : Net). record {
-              queue = upd (v .queue) (portNo n p) q;
+            ∙ ap (λ (v : Moving). record {
+              queue = alter (v .queue) (portNo n p) q;
               out = v .out;
               user = v .user;
               busy = v .busy;
               cable = v .cable;
               line = v .line;
             }) opened
-            ∙ net-as (ap (upd (view w .queue) (portNo n p)) left) goes refl refl refl refl;
+            ∙ net-as (ap (alter (moving w .queue) (portNo n p)) left) goes refl refl refl refl;
       }
 
   pub does-landsChannel : (m : NodeNumber) (c t : ℕ) → targetAt w n p ≡ Channel m c

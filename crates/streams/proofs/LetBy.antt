@@ -24,7 +24,7 @@ use Rattle.streams.specs.Model.{isLink, Books, Notes}
 use Rattle.streams.specs.Demand.{Demand3}
 use Rattle.streams.specs.Watch.{Seen, unseen, seen}
 use Rattle.streams.specs.Observer.{write, jot, anew, misreads, portIn}
-use Rattle.streams.specs.View.{view}
+use Rattle.streams.specs.View.{moving}
 use Rattle.streams.proofs.Machine.{Machine}
 use Rattle.streams.proofs.Splits.{Reading}
 use Rattle.streams.proofs.Seen.{Observer, demand-3}
@@ -59,11 +59,11 @@ module _ (makes : Call → Bool) (say : Answer) where
             Call = Call;
             apply = λ w c. lame w c .next;
             events = λ w c. pick (makes c) (eventsOf w c) [];
-            view = view;
+            view = moving;
             Sane = Kept;
             anew = anews;
             anew-view = λ w c k. by-test (makes c) (λ m. rw m (λ e. fresh-seen w c e)) (λ m. rw m (λ e. clash (sym e)));
-            law = λ w c k. by-test (makes c) (λ m. rw m (λ e. call-leads w k c e)) (λ m. rw m (λ e. leads-none (view w)));
+            law = λ w c k. by-test (makes c) (λ m. rw m (λ e. call-leads w k c e)) (λ m. rw m (λ e. leads-none (moving w)));
             stays-sane = λ w c k. by-test (makes c) (λ m. rw m (call-keeps w k c)) (λ m. rw m k);
             fresh = freshWorld n;
             fresh-sane = fresh-keeps n some few;

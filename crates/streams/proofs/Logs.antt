@@ -8,12 +8,12 @@ use native.Mathlib.Nat.{le-refl}
 use lib.Dec.{eqb}
 use borrow.Author.Tests.{eq-eqb, ne-eqb}
 use Rattle.laws.specs.Pick.{pick}
-use Rattle.streams.specs.Model.{keeps, ToChannel, placeOf, nodeOfPort, nodeOfDoor, endAt, Net, Fate, Flying, Lost, Landed, Here}
-use Rattle.streams.specs.Model.{Info, Given, upd, hd, pushAll, marks}
+use Rattle.streams.specs.Model.{keeps, ToChannel, placeOf, nodeOfPort, nodeOfDoor, endAt, Moving, Fate, Flying, Lost, Landed, Here}
+use Rattle.streams.specs.Model.{Info, Given, alter, hd, pushAll, marks}
 use Rattle.streams.specs.Events.{Event, Opens, Puts, Starts, Tells, Takes, Lands, Refuses, Enters, Arrives, Hands, Loses, Wires}
 use Rattle.streams.specs.Events.{Ghost, effect, note, notes, blank, Ok, OkAll}
 use Rattle.streams.specs.Demand.{of, share}
-use Rattle.streams.proofs.Basics.{upd-same, upd-miss}
+use Rattle.streams.proofs.Basics.{alter-same, alter-miss}
 use Rattle.streams.proofs.Inv.{Local, Inv}
 use Rattle.streams.proofs.Theorem.{keep, faithful}
 use Rattle.streams.proofs.Places.{handed-there, landing-flies, refusing-flies}
@@ -56,28 +56,28 @@ module _ (info : ℕ → Info) (fate : ℕ → Fate) (handed : ℕ → List ℕ)
   nothing-yet : (c d : ℕ) → fate c ≡ Flying → of c (log d) ≡ []
   nothing-yet c d fl = rw fl at (ok c d)
 
-  new-info : (c₀ : ℕ) (o : Info) → fate c₀ ≡ Flying → Logged (upd info c₀ o) fate handed log
+  new-info : (c₀ : ℕ) (o : Info) → fate c₀ ≡ Flying → Logged (alter info c₀ o) fate handed log
   new-info c₀ o fl c d =
       elim (ℕ-discrete c c₀) [
         | yes e ↦ rw (e, fl) (nothing-yet c₀ d fl)
-        | no ne ↦ rw (upd-miss info c₀ o c ne) (ok c d)
+        | no ne ↦ rw (alter-miss info c₀ o c ne) (ok c d)
       ]
 
-  new-fate : (c₀ : ℕ) (f : Fate) → fate c₀ ≡ Flying → handed c₀ ≡ [] → Logged info (upd fate c₀ f) handed log
+  new-fate : (c₀ : ℕ) (f : Fate) → fate c₀ ≡ Flying → handed c₀ ≡ [] → Logged info (alter fate c₀ f) handed log
   new-fate c₀ f fl none c d =
       elim (ℕ-discrete c c₀) [
-        | yes e ↦ rw (e, upd-same fate c₀ f, none) (nothing-yet c₀ d fl ∙ sym (share-none d (info c₀) f))
-        | no ne ↦ rw (upd-miss fate c₀ f c ne) (ok c d)
+        | yes e ↦ rw (e, alter-same fate c₀ f, none) (nothing-yet c₀ d fl ∙ sym (share-none d (info c₀) f))
+        | no ne ↦ rw (alter-miss fate c₀ f c ne) (ok c d)
       ]
 
   -- the circuit c₀ hands ts at its door d₀
   grow : (c₀ d₀ : ℕ) (ts : List ℕ) → ((d : ℕ) (h : List ℕ) → share d (info c₀) (fate c₀) h ≡ pick (eqb d₀ d) h [])
-      → Logged info fate (upd handed c₀ (handed c₀ ++ ts)) (pushAll log d₀ (marks c₀ ts))
+      → Logged info fate (alter handed c₀ (handed c₀ ++ ts)) (pushAll log d₀ (marks c₀ ts))
   grow c₀ d₀ ts sh c d =
       let h = handed c₀ in
       let new = log d₀ ++ marks c₀ ts in
-      let hit-log = upd-same log d₀ new in
-      let hit = upd-same handed c₀ (h ++ ts) in
+      let hit-log = alter-same log d₀ new in
+      let hit = alter-same handed c₀ (h ++ ts) in
       elim (ℕ-discrete c c₀) [
         | yes e ↦ elim (ℕ-discrete d d₀) [
           | yes q ↦
@@ -93,20 +93,20 @@ module _ (info : ℕ → Info) (fate : ℕ → Fate) (handed : ℕ → List ℕ)
                 sh d₀ (h ++ ts),
                 eq-eqb d₀ d₀ refl,
               )
-          | no nq ↦ rw (e, upd-miss log d₀ new d nq, hit, ok c₀ d, sh d h, sh d (h ++ ts), ne-eqb d₀ d (λ z. nq (sym z)))
+          | no nq ↦ rw (e, alter-miss log d₀ new d nq, hit, ok c₀ d, sh d h, sh d (h ++ ts), ne-eqb d₀ d (λ z. nq (sym z)))
         ]
         | no ne ↦ elim (ℕ-discrete d d₀) [
           | yes q ↦
               rw (
                 q,
                 hit-log,
-                upd-miss handed c₀ (h ++ ts) c ne,
+                alter-miss handed c₀ (h ++ ts) c ne,
                 of-append c (log d₀) (marks c₀ ts),
                 of-not c₀ c ts (λ z. ne (sym z)),
                 append-nil (of c (log d₀)),
               )
               (ok c d₀)
-          | no nq ↦ rw (upd-miss log d₀ new d nq, upd-miss handed c₀ (h ++ ts) c ne) (ok c d)
+          | no nq ↦ rw (alter-miss log d₀ new d nq, alter-miss handed c₀ (h ++ ts) c ne) (ok c d)
         ]
       ]
 
@@ -115,7 +115,7 @@ abbrev pub LoggedIn : Ghost → Type 0
 LoggedIn g = Logged (g .info) (g .fate) (g .handed) (g .log)
 
 module _ (link : ℕ → Bool) where
-  keep-log : (v : Event) (n : Net) (g : Ghost) → Inv link n g → Ok link n v → LoggedIn g → LoggedIn (note v g)
+  keep-log : (v : Event) (n : Moving) (g : Ghost) → Inv link n g → Ok link n v → LoggedIn g → LoggedIn (note v g)
   unfolding note
   keep-log (Opens e d w a) n g iv ok l =
       new-info (g .info) (g .fate) (g .handed) (g .log) l (g .now) _ (iv .unborn (g .now) (le-refl _) .no-fate)
@@ -145,7 +145,7 @@ module _ (link : ℕ → Bool) where
   keep-log (Loses p q x) n g iv ok l = l
   keep-log (Wires k m) n g iv ok l = l
 
-  pub keep-logs : (vs : List Event) (n : Net) (g : Ghost) → Inv link n g → OkAll link vs n → LoggedIn g → LoggedIn (notes vs g)
+  pub keep-logs : (vs : List Event) (n : Moving) (g : Ghost) → Inv link n g → OkAll link vs n → LoggedIn g → LoggedIn (notes vs g)
   keep-logs [] n g iv ok l = l
   keep-logs (v ∷ vs) n g iv ok l =
       keep-logs vs (effect v n) (note v g) (keep link v n g iv (ok .0)) (ok .1) (keep-log v n g iv (ok .0) l)

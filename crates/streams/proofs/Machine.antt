@@ -6,7 +6,7 @@ use mathlib.Core.Bool.{Bool, true, false}
 use mathlib.Core.List.{List, [], _∷_, _++_}
 use Rattle.laws.specs.Pick.{pick}
 use Rattle.laws.proofs.Order.{by-test, never}
-use Rattle.streams.specs.Model.{Use, Nobody, By, Net, Cell, Fate, Flying}
+use Rattle.streams.specs.Model.{Use, Nobody, By, Moving, Cell, Fate, Flying}
 use Rattle.streams.specs.Events.{Event, Ghost, booksOf, effect, note, effects, notes, empty, blank, OkAll}
 use Rattle.streams.specs.Demand.{Faithful, tokensOf}
 use Rattle.streams.specs.Watch.{runAll, NoneAnew}
@@ -16,7 +16,7 @@ use Rattle.streams.proofs.Places.{fate-stays}
 use Rattle.streams.proofs.Logs.{LoggedIn, keep-logs, start-log}
 
 -- EVENTS, one list after the other
-effects-append : (vs ws : List Event) (n : Net) → effects (vs ++ ws) n ≡ effects ws (effects vs n)
+effects-append : (vs ws : List Event) (n : Moving) → effects (vs ++ ws) n ≡ effects ws (effects vs n)
 effects-append [] ws n = refl
 effects-append (v ∷ vs) ws n = effects-append vs ws (effect v n)
 
@@ -30,16 +30,16 @@ no-cells [] e = refl
 no-cells (x ∷ cs) e = never (cc)
 
 module _ (link : ℕ → Bool) where
-  ok-append : (vs ws : List Event) (n : Net) → OkAll link vs n → OkAll link ws (effects vs n) → OkAll link (vs ++ ws) n
+  ok-append : (vs ws : List Event) (n : Moving) → OkAll link vs n → OkAll link ws (effects vs n) → OkAll link (vs ++ ws) n
   ok-append [] ws n h k = k
   ok-append (v ∷ vs) ws n h k = (h .0, ok-append vs ws (effect v n) (h .1) k)
 
   -- the events lead from the one view to the other, and may happen
-  pub record Leads (vs : List Event) (n n′ : Net) : Type 0 where
+  pub record Leads (vs : List Event) (n n′ : Moving) : Type 0 where
     pub view : n′ ≡ effects vs n
     pub ok : OkAll link vs n
 
-  pub leads-append : (vs ws : List Event) (n n′ n″ : Net) → Leads vs n n′ → Leads ws n′ n″ → Leads (vs ++ ws) n n″
+  pub leads-append : (vs ws : List Event) (n n′ n″ : Moving) → Leads vs n n′ → Leads ws n′ n″ → Leads (vs ++ ws) n n″
   leads-append vs ws n n′ n″ a b =
       record {
         view = b .view ∙ ap (effects ws) (a .view) ∙ sym (effects-append vs ws n);
@@ -47,7 +47,7 @@ module _ (link : ℕ → Bool) where
       }
 
   -- the tokens of a line are those of its cells
-  pub line-tokens : (n : Net) (g : Ghost) → Inv link n g → (l : ℕ) → n .line l ≡ tokensOf (g .on l)
+  pub line-tokens : (n : Moving) (g : Ghost) → Inv link n g → (l : ℕ) → n .line l ≡ tokensOf (g .on l)
   line-tokens n g iv l = go (n .cable l) refl
     where
       go : (u : Use) → n .cable l ≡ u → n .line l ≡ tokensOf (g .on l)
@@ -55,7 +55,7 @@ module _ (link : ℕ → Bool) where
       go (By k) e = iv .lines l k e .tokens
 
   -- a fate that is not `Flying` stays
-  pub fate-stays-all : (vs : List Event) (n : Net) (g : Ghost) → Inv link n g → OkAll link vs n → (c : ℕ) (f : Fate) → (f ≡ Flying → ⊥)
+  pub fate-stays-all : (vs : List Event) (n : Moving) (g : Ghost) → Inv link n g → OkAll link vs n → (c : ℕ) (f : Fate) → (f ≡ Flying → ⊥)
       → g .fate c ≡ f
       → notes vs g .fate c ≡ f
   fate-stays-all [] n g iv ok c f ne z = z
@@ -69,7 +69,7 @@ module _ (link : ℕ → Bool) where
     pub Call : Type 0
     pub apply : State → Call → State
     pub events : State → Call → List Event
-    pub view : State → Net
+    pub view : State → Moving
     pub Sane : State → Type 0
     -- where a call leaves a new network
     pub anew : State → Call → Bool

@@ -60,11 +60,11 @@ use Rattle.kept.proofs.Found.{Going, Found, idle, waits, splits, unrouted, rout
 use Rattle.kept.proofs.Found as Found
 use Rattle.kept.proofs.Chosen as Chosen
 use Rattle.kept.proofs.Calls.{output-sender, step-there}
-use Rattle.streams.specs.Model.{keeps, ToChannel, ToUnit, portNo, doorNo, unitDoor, doorsEach, endAt, Notes, upd, push, pushAll}
+use Rattle.streams.specs.Model.{keeps, ToChannel, ToUnit, portNo, doorNo, unitDoor, doorsEach, endAt, Notes, alter, push, pushAll}
 use Rattle.streams.specs.Events.{Event}
 use Rattle.streams.specs.Demand.{heldAt}
 use Rattle.streams.specs.Observer.{given, wordAs, jot}
-use Rattle.streams.proofs.Basics.{upd-hit, upd-same, upd-miss, each-map, pushed-at}
+use Rattle.streams.proofs.Basics.{alter-hit, alter-same, alter-miss, each-map, pushed-at}
 use Rattle.streams.proofs.Sendings.{putsAt, Unmarked}
 use Rattle.streams.proofs.Handings.{handsAt}
 use Rattle.streams.proofs.Indoors.{Indoors, indoors-all, indoors-then, indoors-pick, indoors-set, indoors-pushed, indoors-pushedAll}
@@ -314,17 +314,17 @@ given-is (Goals.Unit m) v = refl
 
 module _ (w : World) (n c : ℕ) (g : Goal) (v : ℕ) (o : Notes) (hc : c < ends) where
   pub aim-told : Told w (withNet w (aimMade (w .net) n c g v)) [] o
-      (record { aimed = upd (o .aimed) (doorNo n c) (given g); put = o .put; taken = o .taken })
+      (record { aimed = alter (o .aimed) (doorNo n c) (given g); put = o .put; taken = o .taken })
   aim-told =
       record {
         unmarked = tt;
         puts = λ m e h. sym (append-nil (o .put (doorNo m e)));
         aims = λ a m e h. upd-all
-            (λ i j (k : Aims.Aim). j < ends → (k .kind ≡ 0 → ⊥) → upd (o .aimed) (doorNo n c) (given g) (doorNo i j) ≡ targetOf k)
+            (λ i j (k : Aims.Aim). j < ends → (k .kind ≡ 0 → ⊥) → alter (o .aimed) (doorNo n c) (given g) (doorNo i j) ≡ targetOf k)
             (w .net .ends .aims) n c (aimedAt g v) m e
-            (λ p q l aimed. upd-hit (o .aimed) (doorNo n c) (given g) (doorNo m e) (rw (p, q)) ∙ given-is g v)
+            (λ p q l aimed. alter-hit (o .aimed) (doorNo n c) (given g) (doorNo m e) (rw (p, q)) ∙ given-is g v)
             (λ off l aimed.
-            upd-miss (o .aimed) (doorNo n c) (given g) (doorNo m e) (λ z. door-off n m c e hc h off (sym z)) ∙ a m e h aimed)
+            alter-miss (o .aimed) (doorNo n c) (given g) (doorNo m e) (λ z. door-off n m c e hc h off (sym z)) ∙ a m e h aimed)
             h;
         long = λ l. l;
         got = λ l m e h. sym (append-nil (o .taken (doorNo m e) ++ heldAt w m e));
@@ -355,7 +355,7 @@ module _ (w : World) (k : Kept w) (n c : ℕ) (y : Wanted) (o : Notes) (hn : n <
     taken-here : Long (w .net) → push (o .taken) (doorNo n c) value (doorNo n c) ++ heldIn (tookFirst b) ≡ (had ++ heldIn b) ++ []
     taken-here l =
         let is : value ≡ firstHeld b = word-taken y (firstHeld b) small wanted in
-        ap (λ (ts : List ℕ). ts ++ heldIn (tookFirst b)) (upd-same (o .taken) (doorNo n c) (had ++ (value ∷ [])))
+        ap (λ (ts : List ℕ). ts ++ heldIn (tookFirst b)) (alter-same (o .taken) (doorNo n c) (had ++ (value ∷ [])))
         ∙ append-assoc had (value ∷ []) (heldIn (tookFirst b))
         ∙ ap (λ (t : ℕ). had ++ (t ∷ heldIn (tookFirst b))) is
         ∙ ap (λ (ts : List ℕ). had ++ ts) (sym (held-took b (l n c) (k .buffers n c hn hc .0) some))
@@ -365,7 +365,7 @@ module _ (w : World) (k : Kept w) (n c : ℕ) (y : Wanted) (o : Notes) (hn : n <
         → push (o .taken) (doorNo n c) value (doorNo m e) ++ heldAt w m e ≡ (o .taken (doorNo m e) ++ heldAt w m e) ++ []
     taken-there m e h off =
         ap (λ (ts : List ℕ). ts ++ heldAt w m e)
-        (upd-miss (o .taken) (doorNo n c) (had ++ (value ∷ [])) (doorNo m e) (λ z. door-off n m c e hc h off (sym z)))
+        (alter-miss (o .taken) (doorNo n c) (had ++ (value ∷ [])) (doorNo m e) (λ z. door-off n m c e hc h off (sym z)))
         ∙ sym (append-nil (o .taken (doorNo m e) ++ heldAt w m e))
 
     pub input-told : Told w (withNet w (inputMade (w .net) n c)) [] o

@@ -40,12 +40,12 @@ use Rattle.kept.proofs.Fills.{Filled, filled-one}
 use Rattle.kept.proofs.Stages.{tile-there}
 use Rattle.kept.proofs.Outputs.{free-fresh, opens-filled, reply-filled}
 use Rattle.kept.proofs.Messages.{Address, Ready}
-use Rattle.streams.specs.Model.{upd, pushAll, Plain, placeOf, portNo, doorNo, doorsEach, unitDoor, isLink, Closed, Through}
-use Rattle.streams.specs.Model.{Direct, Net}
+use Rattle.streams.specs.Model.{alter, pushAll, Plain, placeOf, portNo, doorNo, doorsEach, unitDoor, isLink, Closed, Through}
+use Rattle.streams.specs.Model.{Direct, Moving}
 use Rattle.streams.specs.Events.{Event, Opens, Puts, Starts, Tells, effect}
-use Rattle.streams.specs.View.{view, senderBy, senderOf}
+use Rattle.streams.specs.View.{moving, senderBy, senderOf}
 use Rattle.streams.proofs.Machine.{Leads}
-use Rattle.streams.proofs.Basics.{upd-same, upd-upd, upd-own}
+use Rattle.streams.proofs.Basics.{alter-same, alter-twice, alter-own}
 use Rattle.streams.proofs.Flat.{flat-at}
 use Rattle.streams.proofs.View.{net-as, busy-put, view-busy, filled-seen, Alike, alike-then, unseen}
 use Rattle.streams.proofs.Acts.{alike-claimed, alike-handed}
@@ -53,7 +53,7 @@ use Rattle.streams.proofs.Fronts.{this-node}
 use Rattle.streams.proofs.Sends.{behindIn, putEach, puts-all, opens-all}
 
 -- the same events, to a view that is the same
-pub leads-to : {vs : List Event} {n n′ n″ : Net} → n″ ≡ n′ → Leads isLink vs n n′ → Leads isLink vs n n″
+pub leads-to : {vs : List Event} {n n′ n″ : Moving} → n″ ≡ n′ → Leads isLink vs n n′ → Leads isLink vs n n″
 leads-to e r = record { view = e ∙ r .view; ok = r .ok }
 
 -- a destination that a header of that width can carry
@@ -80,7 +80,7 @@ module _ (w : World) (k : Kept w) (n p : ℕ) (hn : n < w .net .nodes) (hp : p <
     (free : TilePort p → Free (w .net .ports .legs n p) (w .net .ports .counters n p))
   where
     -- nobody sends through a port that is free, or that is none of the tile's
-    pub no-sender : (j : ℕ) → view w .busy j ≡ Through (portNo n p) → ⊥
+    pub no-sender : (j : ℕ) → moving w .busy j ≡ Through (portNo n p) → ⊥
     no-sender j e =
         let m = j / doorsEach in
         let i = j % doorsEach in
@@ -117,17 +117,17 @@ module _ (w : World) (n c : ℕ) (hc : c < ends) where
 
   -- THROUGH A PORT, whatever port that is
   by-seen : (z : World) (p t v : ℕ) (ts : List ℕ) → p < ports → Filled w z n p ts
-      → view (withNet z (goesBy (networked (z .net) n p v) n c p t)) ≡ behindIn (view w) e (portNo n p) ts t
+      → moving (withNet z (goesBy (networked (z .net) n p v) n c p t)) ≡ behindIn (moving w) e (portNo n p) ts t
   by-seen z p t v ts hp f =
       let to = pick (closes t) Closed (Through (portNo n p)) in
       net-as refl refl refl
       (busy-put n (z .net .ends .sendings) c (ofPeer (untilClosed t (Peers.Port p))) hc
-      ∙ ap (upd (view z .busy) e) (until-through n p (closes t))) refl refl
-      ∙ ap (λ (y : Net). record {
+      ∙ ap (alter (moving z .busy) e) (until-through n p (closes t))) refl refl
+      ∙ ap (λ (y : Moving). record {
         queue = y .queue;
         out = y .out;
         user = y .user;
-        busy = upd (y .busy) e to;
+        busy = alter (y .busy) e to;
         cable = y .cable;
         line = y .line;
       }) (filled-seen w z n p ts hp f)
@@ -138,37 +138,37 @@ module _ (w : World) (n c : ℕ) (hc : c < ends) where
       → TilePort p
       → Free (w .net .ports .legs n p) (w .net .ports .counters n p)
       → Carried (widthAt (w .net) n) g
-      → Leads isLink (Opens e (portNo n p) (widthAt (w .net) n) g ∷ Puts e (portNo n p) t ∷ []) (view w) (view (opensBy w n c g p t))
+      → Leads isLink (Opens e (portNo n p) (widthAt (w .net) n) g ∷ Puts e (portNo n p) t ∷ []) (moving w) (moving (opensBy w n c g p t))
   does-opensBy k p t g hn shut tile free fits =
       let hp : p < ports = omega (arith, tile .1) in
       let y = widthAt (w .net) n in
       leads-to
       (by-seen (pushed (pushedAll w n p (words (headerOf g y))) n p t) p t (w .net .ends .aims n c .network) _ hp
       (opens-filled w k n p t g y hn hp (free .1)))
-      (opens-all [] t e (portNo n p) y g (view w) tt
+      (opens-all [] t e (portNo n p) y g (moving w) tt
       (view-busy w n c hc ∙ ap (senderBy n) shut, no-link n p (tile .0) hp, no-sender w k n p hn hp (λ i. free), fits))
 
   -- a later one
   pub does-behind : (p t : ℕ) → peerOf (w .net .ends .sendings n c) ≡ Peers.Port p → Room w n p 1
-      → Leads isLink (Puts e (portNo n p) t ∷ []) (view w) (view (goesBehind w n c p t))
+      → Leads isLink (Puts e (portNo n p) t ∷ []) (moving w) (moving (goesBehind w n c p t))
   does-behind p t goes room =
       leads-to (net-as refl refl refl refl refl refl ∙ by-own (pushed w n p t) p t (t ∷ []) (room .port) (filled-one w n p t room))
-      (puts-all [] t e (portNo n p) (view w) tt (view-busy w n c hc ∙ ap (senderBy n) goes))
+      (puts-all [] t e (portNo n p) (moving w) tt (view-busy w n c hc ∙ ap (senderBy n) goes))
     where
       by-own : (z : World) (p t : ℕ) (ts : List ℕ) → p < ports → Filled w z n p ts
-          → view (withNet z (goesBy (z .net) n c p t)) ≡ behindIn (view w) e (portNo n p) ts t
+          → moving (withNet z (goesBy (z .net) n c p t)) ≡ behindIn (moving w) e (portNo n p) ts t
       by-own z p t ts hp f = net-as refl refl refl refl refl refl ∙ by-seen z p t 0 ts hp f
 
   -- STRAIGHT to a channel of its own node
   straight-seen : (d t : ℕ)
-      → view (withNet w (goesStraight (w .net) n c d t))
+      → moving (withNet w (goesStraight (w .net) n c d t))
       ≡ record {
-        queue = view w .queue;
-        out = view w .out;
-        user = view w .user;
-        busy = upd (view w .busy) e (pick (closes t) Closed (Direct d));
-        cable = view w .cable;
-        line = view w .line;
+        queue = moving w .queue;
+        out = moving w .out;
+        user = moving w .user;
+        busy = alter (moving w .busy) e (pick (closes t) Closed (Direct d));
+        cable = moving w .cable;
+        line = moving w .line;
       }
   straight-seen d t =
       let x = untilClosed t (Peers.End c) in
@@ -176,12 +176,12 @@ module _ (w : World) (n c : ℕ) (hc : c < ends) where
       let same : Alike (w .net) s = alike-then (alike-handed (w .net) n d t) (alike-claimed (handed (w .net) n d t) n d x) in
       net-as refl refl refl
       (busy-put n (s .ends .sendings) c (ofPeer (untilClosed t (Peers.End d))) hc
-      ∙ ap (upd (view (withNet w s) .busy) e) (until-direct n d (closes t))) refl refl
-      ∙ ap (λ (y : Net). record {
+      ∙ ap (alter (moving (withNet w s) .busy) e) (until-direct n d (closes t))) refl refl
+      ∙ ap (λ (y : Moving). record {
         queue = y .queue;
         out = y .out;
         user = y .user;
-        busy = upd (y .busy) e (pick (closes t) Closed (Direct d));
+        busy = alter (y .busy) e (pick (closes t) Closed (Direct d));
         cable = y .cable;
         line = y .line;
       }) (unseen w (w .net) s same)
@@ -189,13 +189,13 @@ module _ (w : World) (n c : ℕ) (hc : c < ends) where
   pub does-starts : (d t : ℕ) (m : NodeNumber) (g : Target) → peerOf (w .net .ends .sendings n c) ≡ Peers.Nobody
       → g ≡ Channel m d
       → wayTo (widthAt (w .net) n) m (numberAt (w .net) n) ≡ ThisNode
-      → Leads isLink (Starts e (numberAt (w .net) n) (widthAt (w .net) n) g d ∷ Tells e d t ∷ []) (view w)
-      (view (withNet w (goesStraight (w .net) n c d t)))
+      → Leads isLink (Starts e (numberAt (w .net) n) (widthAt (w .net) n) g d ∷ Tells e d t ∷ []) (moving w)
+      (moving (withNet w (goesStraight (w .net) n c d t)))
   unfolding effect
   does-starts d t m g shut named here =
       record {
         view = straight-seen d t
-            ∙ net-as refl refl refl (sym (upd-upd (view w .busy) e (Direct d) (pick (closes t) Closed (Direct d)))) refl refl;
+            ∙ net-as refl refl refl (sym (alter-twice (moving w .busy) e (Direct d) (pick (closes t) Closed (Direct d)))) refl refl;
         ok = (
           (
             view-busy w n c hc ∙ ap (senderBy n) shut,
@@ -203,12 +203,12 @@ module _ (w : World) (n c : ℕ) (hc : c < ends) where
             ap (λ (x : Target). compared (widthAt (w .net) n) (numberIn x)) named
                 ∙ this-node (widthAt (w .net) n) m (numberAt (w .net) n) here,
           ),
-          (upd-same (view w .busy) e (Direct d), tt),
+          (alter-same (moving w .busy) e (Direct d), tt),
         );
       }
 
   pub does-goesOn : (d t : ℕ) → peerOf (w .net .ends .sendings n c) ≡ Peers.End d
-      → Leads isLink (Tells e d t ∷ []) (view w) (view (withNet w (goesStraight (w .net) n c d t)))
+      → Leads isLink (Tells e d t ∷ []) (moving w) (moving (withNet w (goesStraight (w .net) n c d t)))
   unfolding effect
   does-goesOn d t goes = record { view = straight-seen d t; ok = (view-busy w n c hc ∙ ap (senderBy n) goes, tt) }
 
@@ -232,11 +232,11 @@ module _ (w : World) (k : Kept w) (n : ℕ) (z : Ready w n) (g : Target) (x : Re
     port = portNo n replyPort
 
     -- a control unit has no circuit between calls
-    closed : view w .busy unit ≡ Closed
+    closed : moving w .busy unit ≡ Closed
     closed = flat-at doorsEach n unitDoor (omega arith) (λ m j. senderOf m j (w .net .ends .sendings m j))
 
-    pub does-reply : Leads isLink (Opens unit port y g ∷ putEach unit port (said x ++ (controlWord end ∷ []))) (view w)
-        (view (replyPut w n (headerOf g y) x))
+    pub does-reply : Leads isLink (Opens unit port y g ∷ putEach unit port (said x ++ (controlWord end ∷ []))) (moving w)
+        (moving (replyPut w n (headerOf g y) x))
     does-reply =
         let ws = words (headerOf g y) in
         let ts = said x ++ (controlWord end ∷ []) in
@@ -244,9 +244,9 @@ module _ (w : World) (k : Kept w) (n : ℕ) (z : Ready w n) (g : Target) (x : Re
         rw (closing-word (controlWord end) (omega arith) (omega arith)) in
         leads-to
         (filled-seen w (replyPut w n (headerOf g y) x) n replyPort _ (omega arith) (reply-filled w k n g y x (z .node) (z .empty))
-        ∙ net-as (ap (pushAll (view w .queue) port) (append-assoc ws (said x) (controlWord end ∷ []))) refl refl
-        (sym (ap (upd (view w .busy) unit) shuts ∙ upd-own (view w .busy) unit Closed closed)) refl refl)
-        (opens-all (said x) (controlWord end) unit port y g (view w) (said-plain x) (
+        ∙ net-as (ap (pushAll (moving w .queue) port) (append-assoc ws (said x) (controlWord end ∷ []))) refl refl
+        (sym (ap (alter (moving w .busy) unit) shuts ∙ alter-own (moving w .busy) unit Closed closed)) refl refl)
+        (opens-all (said x) (controlWord end) unit port y g (moving w) (said-plain x) (
           closed,
           no-link n replyPort (omega arith) (omega arith),
           no-sender w k n replyPort (z .node) (omega arith) (λ tile. absurd (omega (arith, tile .1))),

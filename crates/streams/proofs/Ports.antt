@@ -16,12 +16,12 @@ use Rattle.circuits.specs.declared.Cause.{Cause}
 use Rattle.tokens.specs.Word.{closes}
 use Rattle.tokens.specs.declared.header.Width.{Width}
 use Rattle.plans.specs.Plan.{sizeOf}
-use Rattle.streams.specs.Model.{keeps, body, Place, placeOf, Shut, Via, Into, Drops, Nobody, By, Net, Flying, Lost, Landed, upd}
+use Rattle.streams.specs.Model.{keeps, body, Place, placeOf, Shut, Via, Into, Drops, Nobody, By, Moving, Flying, Lost, Landed, alter}
 use Rattle.streams.specs.Model.{hd, tl}
 use Rattle.streams.specs.Events.{Takes, Lands, Refuses, Enters, Arrives, Hands, Loses, Idle, At, Ghost, next, headTo, effect, note}
 use Rattle.streams.specs.Events.{Ok}
 use Rattle.streams.specs.Demand.{Names}
-use Rattle.streams.proofs.Basics.{upd-hit, upd-same, upd-miss, upd-all, at-or, via-same, by-same, at-same, landed-same, nobody-by}
+use Rattle.streams.proofs.Basics.{alter-hit, alter-same, alter-miss, alter-all, at-or, via-same, by-same, at-same, landed-same, nobody-by}
 use Rattle.streams.proofs.Basics.{Fits, fits-norm, norm-next, after-closed, after-open, heads, HeadOf, head-or, ind, headTo-hit}
 use Rattle.streams.proofs.Basics.{headTo-other, heads-at, heads-pop, heads-push, Ran, run-off}
 use Rattle.streams.proofs.Headers.{size-pos, same-header, read-back, body-step, body-none}
@@ -31,7 +31,7 @@ use Rattle.streams.proofs.Keep.{no-via, front-at, cell-known, cell-born
 use Rattle.streams.proofs.Keep.{ways-pop, ways-fate, unborn-move, circ-same, send-same, send-fate, out-fate, unborn-fate}
 use Rattle.streams.proofs.Keep.{circ-port, fed-away, used-away}
 
-module _ (link : ℕ → Bool) (n : Net) (g : Ghost) (iv : Inv link n g) where
+module _ (link : ℕ → Bool) (n : Moving) (g : Ghost) (iv : Inv link n g) where
   pub keep-enters : (p l x : ℕ) → Ok link n (Enters p l x) → Inv link (effect (Enters p l x) n) (note (Enters p l x) g)
   unfolding effect note
   keep-enters p l x (r, eq, eo, (m, ec)) =
@@ -50,16 +50,16 @@ module _ (link : ℕ → Bool) (n : Net) (g : Ghost) (iv : Inv link n g) where
         lines = at-or _ l
             (λ m′ z.
             let pushed = port-push (g .stream) (n .line l) (g .on l) (g .back m′) (g .tail l) y (iv .lines l m′ z) comes-next (fr .good) in
-            simp upd-same (rw (← fr .token) pushed))
-            (λ l′ ne m′ z. simp upd-miss (iv .lines l′ m′ z));
-        unlined = at-or _ l (λ z. never (cc)) (λ l′ ne z. simp upd-miss (iv .unlined l′ z));
+            simp alter-same (rw (← fr .token) pushed))
+            (λ l′ ne m′ z. simp alter-miss (iv .lines l′ m′ z));
+        unlined = at-or _ l (λ z. never (cc)) (λ l′ ne z. simp alter-miss (iv .unlined l′ z));
         fed = at-or _ l
-            (simp upd-same (by-test (closes x)
+            (simp alter-same (by-test (closes x)
             (λ e. rw e (after-closed y x (fr .token) e))
-            (λ e. rw e (upd-same _ _ _, simp upd-same (sym (norm-next y))))))
-            (λ l′ ne. rw (upd-miss (g .tail) l (next y) l′ ne, upd-miss (n .user) l u l′ ne)
+            (λ e. rw e (alter-same _ _ _, simp alter-same (sym (norm-next y))))))
+            (λ l′ ne. rw (alter-miss (g .tail) l (next y) l′ ne, alter-miss (n .user) l u l′ ne)
             (fed-keep (n .out) _ (g .front) _ _ l′ (n .user l′)
-            (λ q z. let d : q ≡ p → ⊥ = λ m. ne (via-same (sym z ∙ ap (n .out) m ∙ eo)) in (upd-miss _ p _ q d, upd-miss _ p _ q d))
+            (λ q z. let d : q ≡ p → ⊥ = λ m. ne (via-same (sym z ∙ ap (n .out) m ∙ eo)) in (alter-miss _ p _ q d, alter-miss _ p _ q d))
             (iv .fed l′)));
         unfed = iv .unfed;
         tiles = iv .tiles;
@@ -67,13 +67,13 @@ module _ (link : ℕ → Bool) (n : Net) (g : Ghost) (iv : Inv link n g) where
         used = λ q l′ z.
             elim (ℕ-discrete q p) [
               | yes e ↦
-                  let z′ = sym (upd-hit (n .out) p o q e) ∙ z in
+                  let z′ = sym (alter-hit (n .out) p o q e) ∙ z in
                   by-test (closes x)
                   (λ t. never (cc))
-                  (λ t. upd-hit _ _ _ _ (sym (via-same (rw t at z′))) ∙ rw t (ap By (sym e)))
+                  (λ t. alter-hit _ _ _ _ (sym (via-same (rw t at z′))) ∙ rw t (ap By (sym e)))
               | no ne ↦
-                  let was = iv .used q l′ (sym (upd-miss (n .out) p o q ne) ∙ z) in
-                  upd-miss _ _ _ _ (λ m. ne (by-same (sym was ∙ ap (n .user) m ∙ hu))) ∙ was
+                  let was = iv .used q l′ (sym (alter-miss (n .out) p o q ne) ∙ z) in
+                  alter-miss _ _ _ _ (λ m. ne (by-same (sym was ∙ ap (n .user) m ∙ hu))) ∙ was
             ];
         send = iv .send;
         head = heads-pop (g .cells) (g .loc) (iv .head) p y (tl (g .cells p)) (fr .is);
@@ -87,10 +87,10 @@ module _ (link : ℕ → Bool) (n : Net) (g : Ghost) (iv : Inv link n g) where
             })
             (λ no-head. ways-pop link n g iv y c (rw (headTo-other (suc l) y (g .way) c no-head) at h));
         outs = at-or _ p
-            (simp upd-same (by-test (closes x)
+            (simp alter-same (by-test (closes x)
             (λ e. rw e (after-closed y x (fr .token) e))
             (λ e. rw e (y .circuit, suc (y .pos), after-open y x (y .circuit) (y .pos) (fr .token) e (refl, refl)))))
-            (λ j ne. simp upd-miss (iv .outs j));
+            (λ j ne. simp alter-miss (iv .outs j));
         circs = λ c. head-or c y
             (λ z q. let fl : g .fate c ≡ Flying = rw q at (flying z) in rw fl (flying-circ link n g iv c fl))
             (λ no-head. circ-port link n g iv p o (next y) c _ (headTo-other 0 y (g .loc) c no-head) (λ q d f0. never (cc)));
@@ -113,20 +113,20 @@ module _ (link : ℕ → Bool) (n : Net) (g : Ghost) (iv : Inv link n g) where
         lines = at-or _ l
             (λ m′ z.
             let same : m′ ≡ m = by-same (sym z ∙ ec) in
-            rw same (simp upd-same (record { tokens = rw eq (fr .tokens); chain = fr .rest })))
+            rw same (simp alter-same (record { tokens = rw eq (fr .tokens); chain = fr .rest })))
             (λ l′ ne m′ z.
             let mm : m′ ≡ m → ⊥ = λ q. ne (by-same (sym (iv .cabled l′ m′ z .0) ∙ ap (n .cable) q ∙ cb .0)) in
-            rw (upd-miss (g .back) m (next y) m′ mm, upd-miss (n .line) l (tl (n .line l)) l′ ne, upd-miss (g .on) l (tl (g .on l)) l′ ne)
+            rw (alter-miss (g .back) m (next y) m′ mm, alter-miss (n .line) l (tl (n .line l)) l′ ne, alter-miss (g .on) l (tl (g .on l)) l′ ne)
             (iv .lines l′ m′ z));
-        unlined = at-or _ l (λ z. never (cc)) (λ l′ ne z. simp upd-miss (iv .unlined l′ z));
+        unlined = at-or _ l (λ z. never (cc)) (λ l′ ne z. simp alter-miss (iv .unlined l′ z));
         fed = iv .fed;
-        unfed = λ m′ lk cn. upd-miss _ _ _ _ (λ q. nobody-by (sym cn ∙ ap (n .cable) q ∙ cb .0)) ∙ iv .unfed m′ lk cn;
-        tiles = λ d lk hn. upd-miss _ _ _ _ (λ q. clash (sym (cb .1) ∙ ap link (sym q) ∙ lk)) ∙ iv .tiles d lk hn;
+        unfed = λ m′ lk cn. alter-miss _ _ _ _ (λ q. nobody-by (sym cn ∙ ap (n .cable) q ∙ cb .0)) ∙ iv .unfed m′ lk cn;
+        tiles = λ d lk hn. alter-miss _ _ _ _ (λ q. clash (sym (cb .1) ∙ ap link (sym q) ∙ lk)) ∙ iv .tiles d lk hn;
         doors = iv .doors;
         used = iv .used;
-        send = λ e. send-same link n g iv (g .holder) (upd (g .back) m (next y)) (g .stream) (g .fate) (g .info) (g .now) e (le-refl _)
+        send = λ e. send-same link n g iv (g .holder) (alter (g .back) m (next y)) (g .stream) (g .fate) (g .info) (g .now) e (le-refl _)
             (λ ow. (refl, refl, λ k z. refl))
-            (λ d od lk hl. (upd-miss _ _ _ d (λ q. clash (sym (cb .1) ∙ ap link (sym q) ∙ lk)), refl));
+            (λ d od lk hl. (alter-miss _ _ _ d (λ q. clash (sym (cb .1) ∙ ap link (sym q) ∙ lk)), refl));
         head = heads-push (g .cells) (g .loc) (iv .head) m y (λ z. rides z .no-port);
         road = heads-pop (g .on) (g .way) (iv .road) l y (tl (g .on l)) (fr .is);
         ways = λ c h. head-or c y
@@ -168,10 +168,10 @@ module _ (link : ℕ → Bool) (n : Net) (g : Ghost) (iv : Inv link n g) where
         road = iv .road;
         ways = ways-pop link n g iv y;
         outs = at-or _ p
-            (simp upd-same (by-test (closes x)
+            (simp alter-same (by-test (closes x)
             (λ e. rw e (after-closed y x (fr .token) e))
             (λ e. rw e (c₀, suc i, after-open y x c₀ i (fr .token) e ft, ec))))
-            (λ j ne. simp upd-miss (iv .outs j));
+            (λ j ne. simp alter-miss (iv .outs j));
         circs = λ c. head-or c y
             (λ z w.
             let at-p : g .loc c ≡ suc p = rw w at (head-at link n g iv p x r eq z) in
@@ -201,10 +201,10 @@ module _ (link : ℕ → Bool) (n : Net) (g : Ghost) (iv : Inv link n g) where
       let inside : i < length s = rw (c-is, i-is) at (fr .good .inside) in
       let value : getD s i 0 ≡ x = (rw (c-is, i-is) at (fr .good .value)) ∙ fr .token in
       let new = g .handed (y .circuit) ++ keeps x in
-      let handed′ = upd (g .handed) (y .circuit) new in
+      let handed′ = alter (g .handed) (y .circuit) new in
       let one-more = body-step (g .info c₀ .skip) s i x (ho .past) inside value in
       let more : handed′ c₀ ≡ body (g .info c₀ .skip) (take (suc i) s) =
-      upd-hit (g .handed) (y .circuit) new c₀ (sym c-is) ∙ rw (c-is, ho .so-far) (sym one-more) in
+      alter-hit (g .handed) (y .circuit) new c₀ (sym c-is) ∙ rw (c-is, ho .so-far) (sym one-more) in
       let old : CircBy (n .out) (g .front) s (g .handed c₀) (g .loc c₀) (g .info c₀) (g .now) c₀ (Landed p (ho .number)) =
       rw ec at (iv .circs c₀) in
       -- the circuit's head has left: it has landed
@@ -227,7 +227,7 @@ module _ (link : ℕ → Bool) (n : Net) (g : Ghost) (iv : Inv link n g) where
         road = iv .road;
         ways = ways-pop link n g iv y;
         outs = at-or _ p
-            (simp upd-same (by-test (closes x)
+            (simp alter-same (by-test (closes x)
             (λ e. rw e (after-closed y x (fr .token) e))
             (λ e. rw e (record {
               c = c₀;
@@ -240,18 +240,18 @@ module _ (link : ℕ → Bool) (n : Net) (g : Ghost) (iv : Inv link n g) where
               past = (let pa = ho .past in omega arith);
               inside = inside;
             }))))
-            (λ j ne. simp upd-miss
+            (λ j ne. simp alter-miss
             (out-keep (g .stream) (g .handed) handed′ (g .fate) (g .fate) (g .info) j (n .out j) (g .front j)
-            (λ c v fc. (refl, upd-miss _ _ _ c (λ m. ne (landed-same (sym fc ∙ ap (g .fate) (m ∙ c-is) ∙ ec) .0))))
+            (λ c v fc. (refl, alter-miss _ _ _ c (λ m. ne (landed-same (sym fc ∙ ap (g .fate) (m ∙ c-is) ∙ ec) .0))))
             (λ c q z. refl)
             (iv .outs j)));
         circs = at-or _ c₀
             (rw ec (headTo-other 0 y (g .loc) c₀ (not-head c₀) ∙ old .0, record { i = suc i; inside = inside; is = more }, old .2))
-            (λ c ne. rw (upd-miss (g .handed) (y .circuit) new c (λ m. ne (m ∙ c-is)))
+            (λ c ne. rw (alter-miss (g .handed) (y .circuit) new c (λ m. ne (m ∙ c-is)))
             (circ-port link n g iv p o (next y) c _ (headTo-other 0 y (g .loc) c (not-head c)) (λ w d f0. never (cc))));
         unborn = λ c le.
             let u = unborn-move link n g iv 0 y (fr .good) c le in
-            let stays = upd-miss (g .handed) (y .circuit) new c (cell-known link n g iv y (fr .good) c le) in
+            let stays = alter-miss (g .handed) (y .circuit) new c (cell-known link n g iv y (fr .good) c le) in
             record { no-stream = u .no-stream; no-handed = stays ∙ u .no-handed; no-place = u .no-place; no-fate = u .no-fate };
       }
 
@@ -266,25 +266,25 @@ module _ (link : ℕ → Bool) (n : Net) (g : Ghost) (iv : Inv link n g) where
         lines = iv .lines;
         unlined = iv .unlined;
         fed = at-or _ l
-            (let b : g .tail l ≡ Idle = rw eu at (iv .fed l) in simp upd-same (refl, b))
-            (λ l′ ne. rw (upd-miss (n .user) l (By p) l′ ne) (fed-away link n g iv p (Via l) (At c 0) (λ k z. never (cc)) l′));
+            (let b : g .tail l ≡ Idle = rw eu at (iv .fed l) in simp alter-same (refl, b))
+            (λ l′ ne. rw (alter-miss (n .user) l (By p) l′ ne) (fed-away link n g iv p (Via l) (At c 0) (λ k z. never (cc)) l′));
         unfed = iv .unfed;
         tiles = iv .tiles;
         doors = iv .doors;
         used = λ q l′ z.
             elim (ℕ-discrete q p) [
               | yes e ↦
-                  let v : Via l ≡ Via l′ = sym (upd-hit (n .out) p (Via l) q e) ∙ z in
-                  upd-hit _ _ _ _ (sym (via-same v)) ∙ ap By (sym e)
+                  let v : Via l ≡ Via l′ = sym (alter-hit (n .out) p (Via l) q e) ∙ z in
+                  alter-hit _ _ _ _ (sym (via-same v)) ∙ ap By (sym e)
               | no ne ↦
-                  let u = iv .used q l′ (sym (upd-miss (n .out) p (Via l) q ne) ∙ z) in
-                  upd-miss _ _ _ _ (λ m. nobody-by (sym eu ∙ ap (n .user) (sym m) ∙ u)) ∙ u
+                  let u = iv .used q l′ (sym (alter-miss (n .out) p (Via l) q ne) ∙ z) in
+                  alter-miss _ _ _ _ (λ m. nobody-by (sym eu ∙ ap (n .user) (sym m) ∙ u)) ∙ u
             ];
         send = iv .send;
         head = iv .head;
         road = iv .road;
         ways = iv .ways;
-        outs = at-or _ p (simp upd-same (c, 0, refl)) (λ j ne. simp upd-miss (iv .outs j));
+        outs = at-or _ p (simp alter-same (c, 0, refl)) (λ j ne. simp alter-miss (iv .outs j));
         circs = λ c′. circ-port link n g iv p (Via l) (At c 0) c′ _ refl (λ q d f0. never (cc));
         unborn = iv .unborn;
       }
@@ -316,14 +316,14 @@ module _ (link : ℕ → Bool) (n : Net) (g : Ghost) (iv : Inv link n g) where
             let u = iv .ways c′ h in
             record { no-port = u .no-port; no-fate = ways-fate link n g iv c p (Lost q) at-p c′ h; known = u .known };
         outs = at-or _ p
-            (simp upd-same (c, 0, refl, upd-same _ _ _))
-            (λ j ne. simp upd-miss (out-fate link n g iv c (Lost q) (bg .on-way) j));
+            (simp alter-same (c, 0, refl, alter-same _ _ _))
+            (λ j ne. simp alter-miss (out-fate link n g iv c (Lost q) (bg .on-way) j));
         circs = at-or _ c
-            (simp upd-same (
+            (simp alter-same (
               flying-circ link n g iv c (bg .on-way) .0,
-              λ j w. let jp : j ≡ p = omega arith in (upd-hit _ _ _ j jp, upd-hit _ _ _ j jp),
+              λ j w. let jp : j ≡ p = omega arith in (alter-hit _ _ _ j jp, alter-hit _ _ _ j jp),
             ))
-            (λ c′ ne. rw (upd-miss (g .fate) c (Lost q) c′ ne)
+            (λ c′ ne. rw (alter-miss (g .fate) c (Lost q) c′ ne)
             (circ-port link n g iv p (Drops q) (At c 0) c′ _ refl (λ w d f0. never (cc))));
         unborn = λ c′ le.
             let u = iv .unborn c′ le in
@@ -369,11 +369,11 @@ module _ (link : ℕ → Bool) (n : Net) (g : Ghost) (iv : Inv link n g) where
       let popped = heads-pop (g .cells) (g .loc) (iv .head) p y (tl (g .cells p)) (fr .is) in
       record {
         ports = at-or _ p
-            (simp upd-same (record {
+            (simp alter-same (record {
               tokens = rw (eq, drop-append-seam (t ∷ ts) (h .rest), cut-cells) (ran .tokens);
               chain = rw cut-cells (rw sz at (ran .rest));
             }))
-            (λ j ne. simp upd-miss (iv .ports j));
+            (λ j ne. simp alter-miss (iv .ports j));
         cabled = iv .cabled;
         lines = iv .lines;
         unlined = iv .unlined;
@@ -383,29 +383,29 @@ module _ (link : ℕ → Bool) (n : Net) (g : Ghost) (iv : Inv link n g) where
         doors = iv .doors;
         used = used-away link n g iv p (Into a) (At c size) away (λ l z. never (cc));
         send = send-fate link n g iv c to (bg .on-way);
-        head = λ c′ j. upd-all (λ j l. heads c′ l ≡ ind (headTo 0 y (g .loc) c′) j) (g .cells) p (drop size (g .cells p))
-            (rw cut-cells (ran .heads-left (omega arith) c′ ∙ (rw (upd-same (g .cells) p (tl (g .cells p))) at (popped c′ p))))
-            (λ j ne. rw (upd-miss (g .cells) p (tl (g .cells p)) j ne) at (popped c′ j)) j;
+        head = λ c′ j. alter-all (λ j l. heads c′ l ≡ ind (headTo 0 y (g .loc) c′) j) (g .cells) p (drop size (g .cells p))
+            (rw cut-cells (ran .heads-left (omega arith) c′ ∙ (rw (alter-same (g .cells) p (tl (g .cells p))) at (popped c′ p))))
+            (λ j ne. rw (alter-miss (g .cells) p (tl (g .cells p)) j ne) at (popped c′ j)) j;
         road = iv .road;
         ways = λ c′ h.
             let u = ways-pop link n g iv y c′ h in
             record { no-port = u .no-port; no-fate = ways-fate link n g iv c p to (bg .at-port) c′ h; known = u .known };
         outs = at-or _ p
-            (simp upd-same (record {
+            (simp alter-same (record {
               c = c;
               i = size;
               front = refl;
               number = k;
-              to = upd-same _ _ _;
+              to = alter-same _ _ _;
               place = there;
               so-far = nothing;
               past = (omega arith);
               inside = enough;
             }))
-            (λ j ne. simp upd-miss (out-fate link n g iv c to (bg .on-way) j));
+            (λ j ne. simp alter-miss (out-fate link n g iv c to (bg .on-way) j));
         circs = at-or _ c
-            (simp upd-same (headTo-hit 0 y (g .loc) c z refl, record { i = size; inside = enough; is = nothing }, names))
-            (λ c′ ne. rw (upd-miss (g .fate) c to c′ ne)
+            (simp alter-same (headTo-hit 0 y (g .loc) c z refl, record { i = size; inside = enough; is = nothing }, names))
+            (λ c′ ne. rw (alter-miss (g .fate) c to c′ ne)
             (circ-port link n g iv p (Into a) (At c size) c′ _ (headTo-other 0 y (g .loc) c′ (λ h. ne (sym (h .1))))
             (λ q d f0. never (cc))));
         unborn = λ c′ le.

@@ -19,7 +19,7 @@ use Rattle.bench.specs.Calls.{Call, apply}
 use Rattle.bench.proofs.Lasts.{call-keeps}
 use Rattle.bench.proofs.Computed.{applied, sound-row, Script, calls, fresh-kept}
 use Rattle.bench.proofs.Runs.{update, halfway, narrowed}
-use Rattle.streams.specs.Model.{Info, Given, Fate, Lost, Landed, Here, noBooks, upd, portNo, doorNo, unitDoor, marks}
+use Rattle.streams.specs.Model.{Info, Given, Fate, Lost, Landed, Here, noBooks, alter, portNo, doorNo, unitDoor, marks}
 use Rattle.streams.specs.Watch.{Seen, unseen, sees, seen}
 use Rattle.streams.specs.Observer.{write, jot, anew, misreads, portIn}
 use Rattle.streams.specs.Statement.{observed}
@@ -134,7 +134,7 @@ pub update-books : Shows update accounts
       misread = false;
     }
     ∷ [])
-unfolding computes upd noBooks
+unfolding computes alter noBooks
 update-books = shown update accounts refl
 
 -- the doors that they name: channel 5 and the control unit of the lane; channels 3, 6 and 4 of the hub
@@ -148,7 +148,7 @@ pub update-doors : Shows update (logs named)
     ∷ []
     ∷ marks 4 (1 ∷ 0x101 ∷ [])
     ∷ [])
-unfolding computes upd noBooks
+unfolding computes alter noBooks
 update-doors = shown update (logs named) refl
 
 -- "Hub at one-byte, lane at three-byte": nothing was handed
@@ -161,7 +161,7 @@ pub halfway-books : Shows halfway accounts
       misread = true;
     }
     ∷ [])
-unfolding computes upd noBooks
+unfolding computes alter noBooks
 halfway-books = shown halfway accounts refl
 
 -- "A message sets a node to one-byte": the message was heard, and nothing of the reply was handed
@@ -181,5 +181,5 @@ pub narrowed-books : Shows narrowed accounts
       misread = true;
     }
     ∷ [])
-unfolding computes upd noBooks
+unfolding computes alter noBooks
 narrowed-books = shown narrowed accounts refl

@@ -7,7 +7,7 @@ use mathlib.Core.List.{List, [], _∷_, _++_}
 use Rattle.laws.specs.Pick.{pick}
 use Rattle.laws.proofs.Order.{by-test}
 use Rattle.circuits.specs.declared.Cause.the-variants.{Split}
-use Rattle.streams.specs.Model.{Fate, Flying, Books, noBooks, Notes, noNotes, upd, hd}
+use Rattle.streams.specs.Model.{Fate, Flying, Books, noBooks, Notes, noNotes, alter, hd}
 use Rattle.streams.specs.Events.{Ghost, booksOf, notes, blank}
 use Rattle.streams.specs.Demand.{Demand3}
 use Rattle.streams.specs.Watch.{Seen, unseen, NoneAnew, runAll, sees, seen}
@@ -58,7 +58,7 @@ module _ (link : ℕ → Bool) (m : Machine link) (o : Observer link m) (r : Rea
       by-test (m .anew s c)
       (λ e. rw e (record { table = λ c. false; notes = noNotes; is = rw no-books; marks = blank-marks; tied = o .tied-anew s c e }))
       (λ e. rw e (record {
-        table = pick (r .misreads s c) (upd t (hd (g .cells (r .portIn c)) .circuit) true) t;
+        table = pick (r .misreads s c) (alter t (hd (g .cells (r .portIn c)) .circuit) true) t;
         notes = o .jot c (o .answer s c) k;
         is = rw (o .agrees s g c k good ties e);
         marks = marks-call link (m .events s c) (m .view s) g (good .inv) (m .law s c (good .sane) e .ok) t mk (r .misreads s c)

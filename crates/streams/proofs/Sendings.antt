@@ -20,11 +20,11 @@ use Rattle.tokens.specs.declared.header.Width.{Width}
 use Rattle.tokens.specs.declared.header.Target.{Target}
 use Rattle.tokens.proofs.Headers.{made-marked}
 use Rattle.plans.specs.Plan.{sizeOf}
-use Rattle.streams.specs.Model.{encode, Net, Through, Direct, Info, upd}
+use Rattle.streams.specs.Model.{encode, Moving, Through, Direct, Info, alter}
 use Rattle.streams.specs.Events.{Event, Opens, Puts, Starts, Tells, Takes, Lands, Refuses, Enters, Arrives, Hands, Loses, Wires}
 use Rattle.streams.specs.Events.{Ghost, booksOf, effect, note, notes, blank, Ok, OkAll}
 use Rattle.streams.specs.Demand.{sentIn, sentBy, Marked}
-use Rattle.streams.proofs.Basics.{upd-same, upd-hit, upd-miss, upd-own, Streams}
+use Rattle.streams.proofs.Basics.{alter-same, alter-hit, alter-miss, alter-own, Streams}
 use Rattle.streams.proofs.Headers.{encoded}
 use Rattle.streams.proofs.Inv.{Own, Open, Local, Inv}
 use Rattle.streams.proofs.Theorem.{keep}
@@ -81,10 +81,10 @@ no-more false xs ys h = append-nil xs
 -- the stream of circuit c₀ has one token more
 module _ (info : ℕ → Info) (st : Streams) (c₀ t d : ℕ) where
   abbrev st′ : Streams
-  st′ = upd st c₀ (st c₀ ++ (t ∷ []))
+  st′ = alter st c₀ (st c₀ ++ (t ∷ []))
 
   below : (m : ℕ) → m ≤ c₀ → sentIn info st′ d m ≡ sentIn info st d m
-  below m h = sent-same info info st st′ d m (λ c l. (refl, upd-miss st c₀ _ c (λ e. omega (arith, e, l, h))))
+  below m h = sent-same info info st st′ d m (λ c l. (refl, alter-miss st c₀ _ c (λ e. omega (arith, e, l, h))))
 
   -- of another door
   sent-other : (info c₀ .sender ≡ d → ⊥) → (m : ℕ) → sentIn info st′ d m ≡ sentIn info st d m
@@ -92,7 +92,7 @@ module _ (info : ℕ → Info) (st : Streams) (c₀ t d : ℕ) where
   sent-other ne (suc m) =
       elim (ℕ-discrete m c₀) [
         | yes e ↦ rw (sent-other ne m, e, ne-eqb (info c₀ .sender) d ne)
-        | no off ↦ rw (sent-other ne m, upd-miss st c₀ (st c₀ ++ (t ∷ [])) m off)
+        | no off ↦ rw (sent-other ne m, alter-miss st c₀ (st c₀ ++ (t ∷ [])) m off)
       ]
 
   -- of its own door, of which it is the latest
@@ -109,7 +109,7 @@ module _ (info : ℕ → Info) (st : Streams) (c₀ t d : ℕ) where
               below m (omega (arith, e)),
               e,
               eq-eqb (info c₀ .sender) d own,
-              upd-same st c₀ (st c₀ ++ (t ∷ [])),
+              alter-same st c₀ (st c₀ ++ (t ∷ [])),
               drop-append-le (info c₀ .skip) (st c₀) (t ∷ []) whole,
             )
             (sym (append-assoc (sentIn info st d c₀) (drop (info c₀ .skip) (st c₀)) (t ∷ [])))
@@ -156,49 +156,49 @@ each-at P (x ∷ s) (h, hs) (suc i) l = each-at P s hs i (omega arith)
 
 module _ (info : ℕ → Info) (st : Streams) (mine : ℕ → ℕ) (now : ℕ) (s : Sending info st mine now) where
   -- a token more of circuit c
-  more : (c t : ℕ) → isHeader t ≡ false → Sending info (upd st c (st c ++ (t ∷ []))) mine now
+  more : (c t : ℕ) → isHeader t ≡ false → Sending info (alter st c (st c ++ (t ∷ []))) mine now
   more c t plain =
       record {
         latest = s .latest;
         whole = λ j. elim (ℕ-discrete j c) [
-          | yes e ↦ rw (e, upd-same st c (st c ++ (t ∷ [])), length-append (st c) (t ∷ [])) (omega (arith, s .whole c))
-          | no off ↦ rw (upd-miss st c (st c ++ (t ∷ [])) j off) (s .whole j)
+          | yes e ↦ rw (e, alter-same st c (st c ++ (t ∷ [])), length-append (st c) (t ∷ [])) (omega (arith, s .whole c))
+          | no off ↦ rw (alter-miss st c (st c ++ (t ∷ [])) j off) (s .whole j)
         ];
         marks = λ j. elim (ℕ-discrete j c) [
-          | yes e ↦ rw (e, upd-same st c (st c ++ (t ∷ []))) (marked-more (st c) (info c) t (s .whole c) plain (s .marks c))
-          | no off ↦ rw (upd-miss st c (st c ++ (t ∷ [])) j off) (s .marks j)
+          | yes e ↦ rw (e, alter-same st c (st c ++ (t ∷ []))) (marked-more (st c) (info c) t (s .whole c) plain (s .marks c))
+          | no off ↦ rw (alter-miss st c (st c ++ (t ∷ [])) j off) (s .marks j)
         ];
       }
 
   -- one circuit more
   opened : (e : ℕ) (o : Info) (hs : List ℕ) → o .sender ≡ e → o .skip ≤ length hs → MarkedIn hs o
-      → Sending (upd info now o) (upd st now hs) (upd mine e now) (suc now)
+      → Sending (alter info now o) (alter st now hs) (alter mine e now) (suc now)
   opened e o hs own whole marks =
       record {
         latest = λ c l. elim (ℕ-discrete c now) [
-          | yes q ↦ rw (q, upd-same info now o, own, upd-same mine e now) (le-refl now)
-          | no off ↦ rw (upd-miss info now o c off) (behind c (omega (arith, l, off)))
+          | yes q ↦ rw (q, alter-same info now o, own, alter-same mine e now) (le-refl now)
+          | no off ↦ rw (alter-miss info now o c off) (behind c (omega (arith, l, off)))
         ];
         whole = λ c. elim (ℕ-discrete c now) [
-          | yes q ↦ rw (q, upd-same info now o, upd-same st now hs) whole
-          | no off ↦ rw (upd-miss info now o c off, upd-miss st now hs c off) (s .whole c)
+          | yes q ↦ rw (q, alter-same info now o, alter-same st now hs) whole
+          | no off ↦ rw (alter-miss info now o c off, alter-miss st now hs c off) (s .whole c)
         ];
         marks = λ c. elim (ℕ-discrete c now) [
-          | yes q ↦ rw (q, upd-same info now o, upd-same st now hs) marks
-          | no off ↦ rw (upd-miss info now o c off, upd-miss st now hs c off) (s .marks c)
+          | yes q ↦ rw (q, alter-same info now o, alter-same st now hs) marks
+          | no off ↦ rw (alter-miss info now o c off, alter-miss st now hs c off) (s .marks c)
         ];
       }
     where
-      behind : (c : ℕ) → c < now → c ≤ upd mine e now (info c .sender)
+      behind : (c : ℕ) → c < now → c ≤ alter mine e now (info c .sender)
       behind c l =
           elim (ℕ-discrete (info c .sender) e) [
-            | yes q ↦ rw (upd-hit mine e now (info c .sender) q) (omega arith)
-            | no off ↦ rw (upd-miss mine e now (info c .sender) off) (s .latest c l)
+            | yes q ↦ rw (alter-hit mine e now (info c .sender) q) (omega arith)
+            | no off ↦ rw (alter-miss mine e now (info c .sender) off) (s .latest c l)
           ]
 
   -- a door's circuit, one token more: what the door has put out
   sent-more : (e t d : ℕ) → info (mine e) .sender ≡ e → mine e < now
-      → sentIn info (upd st (mine e) (st (mine e) ++ (t ∷ []))) d now ≡ sentIn info st d now ++ pick (eqb e d) (t ∷ []) []
+      → sentIn info (alter st (mine e) (st (mine e) ++ (t ∷ []))) d now ≡ sentIn info st d now ++ pick (eqb e d) (t ∷ []) []
   sent-more e t d own known =
       elim (ℕ-discrete e d) [
         | yes q ↦
@@ -212,19 +212,19 @@ module _ (info : ℕ → Info) (st : Streams) (mine : ℕ → ℕ) (now : ℕ) (
 
   -- a circuit more, of which nothing but its header is put out
   sent-opened : (o : Info) (hs : List ℕ) (d : ℕ) → drop (o .skip) hs ≡ []
-      → sentIn (upd info now o) (upd st now hs) d (suc now) ≡ sentIn info st d now ++ []
+      → sentIn (alter info now o) (alter st now hs) d (suc now) ≡ sentIn info st d now ++ []
   sent-opened o hs d none =
       rw (
-        sent-same info (upd info now o) st (upd st now hs) d now
-            (λ c l. (upd-miss info now o c (λ e. omega (arith, e, l)), upd-miss st now hs c (λ e. omega (arith, e, l)))),
-        upd-same info now o,
-        upd-same st now hs,
+        sent-same info (alter info now o) st (alter st now hs) d now
+            (λ c l. (alter-miss info now o c (λ e. omega (arith, e, l)), alter-miss st now hs c (λ e. omega (arith, e, l)))),
+        alter-same info now o,
+        alter-same st now hs,
         none,
       )
       (no-more (eqb (o .sender) d) (sentIn info st d now) [] (λ e. refl) ∙ sym (append-nil (sentIn info st d now)))
 
 -- ONE EVENT
-module _ (link : ℕ → Bool) (n : Net) (g : Ghost) (iv : Inv link n g) (s : SendingIn g) where
+module _ (link : ℕ → Bool) (n : Moving) (g : Ghost) (iv : Inv link n g) (s : SendingIn g) where
   -- the circuit of a door that is open is its own
   own-through : (e d : ℕ) → n .busy e ≡ Through d → Own (g .mine e) e (g .info) (g .now)
   own-through e d eb =
@@ -235,8 +235,8 @@ module _ (link : ℕ → Bool) (n : Net) (g : Ghost) (iv : Inv link n g) (s : Se
   own-direct e ch eb = let z : Local ch (g .mine e) e (g .fate) (g .info) (g .now) = rw eb at (iv .send e) in z .own
 
   -- a circuit that has no header has put out nothing yet
-  none-yet : upd (g .stream) (g .now) [] ≡ g .stream
-  none-yet = upd-own (g .stream) (g .now) [] (iv .unborn (g .now) (le-refl _) .no-stream)
+  none-yet : alter (g .stream) (g .now) [] ≡ g .stream
+  none-yet = alter-own (g .stream) (g .now) [] (iv .unborn (g .now) (le-refl _) .no-stream)
 
   header-marked : (e : ℕ) (w : Width) (a : Target) → Carried w a
       → MarkedIn (encode w a) (record { sender = e; dest = a; width = w; skip = sizeOf w })
@@ -288,14 +288,14 @@ module _ (link : ℕ → Bool) (n : Net) (g : Ghost) (iv : Inv link n g) (s : Se
 
 -- ALL OF A CALL
 module _ (link : ℕ → Bool) where
-  pub keep-sendings : (vs : List Event) (n : Net) (g : Ghost) → Inv link n g → OkAll link vs n → Each Unmarked vs → SendingIn g
+  pub keep-sendings : (vs : List Event) (n : Moving) (g : Ghost) → Inv link n g → OkAll link vs n → Each Unmarked vs → SendingIn g
       → SendingIn (notes vs g)
   keep-sendings [] n g iv ok plain s = s
   keep-sendings (v ∷ vs) n g iv ok plain s =
       keep-sendings vs (effect v n) (note v g) (keep link v n g iv (ok .0)) (ok .1) (plain .1)
       (keep-sending link n g iv s v (ok .0) (plain .0))
 
-  pub sent-steps : (vs : List Event) (n : Net) (g : Ghost) → Inv link n g → OkAll link vs n → Each Unmarked vs → SendingIn g → (d : ℕ)
+  pub sent-steps : (vs : List Event) (n : Moving) (g : Ghost) → Inv link n g → OkAll link vs n → Each Unmarked vs → SendingIn g → (d : ℕ)
       → sentBy (booksOf (notes vs g)) d ≡ sentBy (booksOf g) d ++ putsAt vs d
   sent-steps [] n g iv ok plain s d = sym (append-nil _)
   sent-steps (v ∷ vs) n g iv ok plain s d =

@@ -11,10 +11,10 @@ use Rattle.laws.specs.Pick.{pick}
 use Rattle.laws.proofs.Order.{never, clash}
 use Rattle.circuits.specs.declared.Cause.{Cause}
 use Rattle.circuits.specs.declared.Cause.the-variants.{Split, NoRoute}
-use Rattle.streams.specs.Model.{Net, Fate, Flying, Lost, Landed, Here, upd, hd}
+use Rattle.streams.specs.Model.{Moving, Fate, Flying, Lost, Landed, Here, alter, hd}
 use Rattle.streams.specs.Events.{Event, Opens, Puts, Starts, Tells, Takes, Lands, Refuses, Enters, Arrives, Hands, Loses, Wires}
 use Rattle.streams.specs.Events.{Ghost, effect, note, notes, blank, OkAll}
-use Rattle.streams.proofs.Basics.{upd-hit, upd-miss}
+use Rattle.streams.proofs.Basics.{alter-hit, alter-miss}
 use Rattle.streams.proofs.Inv.{Inv}
 use Rattle.streams.proofs.Theorem.{keep}
 use Rattle.streams.proofs.Machine.{fate-stays-all, Machine}
@@ -35,11 +35,11 @@ Mild (Hands p a x) = Unit
 Mild (Loses p q x) = Unit
 Mild (Wires l m) = Unit
 
-other-fate : (fate : ℕ → Fate) (c c′ : ℕ) (f : Fate) → (f ≡ Lost Split → ⊥) → upd fate c f c′ ≡ Lost Split → fate c′ ≡ Lost Split
+other-fate : (fate : ℕ → Fate) (c c′ : ℕ) (f : Fate) → (f ≡ Lost Split → ⊥) → alter fate c f c′ ≡ Lost Split → fate c′ ≡ Lost Split
 other-fate fate c c′ f not-so z =
     elim (ℕ-discrete c′ c) [
-      | yes e ↦ absurd (not-so (sym (upd-hit fate c f c′ e) ∙ z))
-      | no ne ↦ sym (upd-miss fate c f c′ ne) ∙ z
+      | yes e ↦ absurd (not-so (sym (alter-hit fate c f c′ e) ∙ z))
+      | no ne ↦ sym (alter-miss fate c f c′ ne) ∙ z
     ]
 
 mild-lost : (v : Event) (g : Ghost) (c : ℕ) → Mild v → note v g .fate c ≡ Lost Split → g .fate c ≡ Lost Split
@@ -65,11 +65,11 @@ mild-lost-all (v ∷ vs) g c h z = mild-lost v g c (h .0) (mild-lost-all vs (not
 module _ (g : Ghost) (p c : ℕ) where
   not-refused : (c ≡ hd (g .cells p) .circuit → ⊥) → note (Refuses p Split) g .fate c ≡ Lost Split → g .fate c ≡ Lost Split
   unfolding note
-  not-refused ne z = sym (upd-miss (g .fate) (hd (g .cells p) .circuit) (Lost Split) c ne) ∙ z
+  not-refused ne z = sym (alter-miss (g .fate) (hd (g .cells p) .circuit) (Lost Split) c ne) ∙ z
 
   now-refused : c ≡ hd (g .cells p) .circuit → note (Refuses p Split) g .fate c ≡ Lost Split
   unfolding note
-  now-refused e = upd-hit _ _ _ c e
+  now-refused e = alter-hit _ _ _ c e
 
 -- a call refuses a circuit as Split first of all and at the port p, or not at all
 abbrev pub SplitBy : Bool → ℕ → List Event → Type 0
@@ -95,13 +95,13 @@ unfolding blank
 blank-marks c = (λ z. never (cc), λ z. clash (sym z))
 
 -- ONE CALL, by what its events are
-module _ (link : ℕ → Bool) (vs : List Event) (n : Net) (g : Ghost) (iv : Inv link n g) (ok : OkAll link vs n) (t : ℕ → Bool)
+module _ (link : ℕ → Bool) (vs : List Event) (n : Moving) (g : Ghost) (iv : Inv link n g) (ok : OkAll link vs n) (t : ℕ → Bool)
     (marks : Marks g t) where
   still : (c : ℕ) → t c ≡ true → notes vs g .fate c ≡ Lost Split
   still c z = fate-stays-all link vs n g iv ok c (Lost Split) (not-flying Split) (marks c .1 z)
 
   -- the circuit in front of the port is marked, if the call refuses it
-  pub marks-call : (b : Bool) (p : ℕ) → SplitBy b p vs → Marks (notes vs g) (pick b (upd t (hd (g .cells p) .circuit) true) t)
+  pub marks-call : (b : Bool) (p : ℕ) → SplitBy b p vs → Marks (notes vs g) (pick b (alter t (hd (g .cells p) .circuit) true) t)
   marks-call false p mild c = (λ z. marks c .0 (mild-lost-all vs g c mild z), still c)
   marks-call true p (ws, is, mild) c =
       let v = Refuses p Split in
@@ -110,13 +110,13 @@ module _ (link : ℕ → Bool) (vs : List Event) (n : Net) (g : Ghost) (iv : Inv
       let iv′ = keep link v n g iv (ok′ .0) in
       elim (ℕ-discrete c c₀) [
         | yes e ↦ (
-          λ z. upd-hit t c₀ true c e,
+          λ z. alter-hit t c₀ true c e,
           λ z. rw is (fate-stays-all link ws (effect v n) (note v g) iv′ (ok′ .1) c (Lost Split) (not-flying Split) (now-refused g p c e)),
         )
         | no ne ↦ (
           λ z.
               let was = mild-lost-all ws (note v g) c mild (rw is at z) in
-              upd-miss t c₀ true c ne ∙ marks c .0 (not-refused g p c ne was),
-          λ z. still c (sym (upd-miss t c₀ true c ne) ∙ z),
+              alter-miss t c₀ true c ne ∙ marks c .0 (not-refused g p c ne was),
+          λ z. still c (sym (alter-miss t c₀ true c ne) ∙ z),
         )
       ]

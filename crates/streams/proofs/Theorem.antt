@@ -11,7 +11,7 @@ use lib.Seq.{take-length}
 use Rattle.laws.proofs.Order.{never}
 use Rattle.names.specs.declared.NodeNumber.{NodeNumber}
 use Rattle.tokens.specs.Header.{compared}
-use Rattle.streams.specs.Model.{noPause, Out, Net, Fate, Flying, Lost, Landed, Here}
+use Rattle.streams.specs.Model.{noPause, Out, Moving, Fate, Flying, Lost, Landed, Here}
 use Rattle.streams.specs.Events.{Event, Opens, Puts, Starts, Tells, Takes, Lands, Refuses, Enters, Arrives, Hands, Loses, Wires}
 use Rattle.streams.specs.Events.{Cursor, Ghost, booksOf, effect, note, effects, notes, empty, blank, Ok, OkAll}
 use Rattle.streams.specs.Demand.{Faithful}
@@ -64,7 +64,7 @@ module _ (out : ℕ → Out) (front : ℕ → Cursor) (g : Ghost) (c : ℕ) wher
       }
 
 module _ (link : ℕ → Bool) where
-  pub keep : (v : Event) (n : Net) (g : Ghost) → Inv link n g → Ok link n v → Inv link (effect v n) (note v g)
+  pub keep : (v : Event) (n : Moving) (g : Ghost) → Inv link n g → Ok link n v → Inv link (effect v n) (note v g)
   keep (Opens e d w a) n g iv ok = keep-opens link n g iv e d w a ok
   keep (Puts e d t) n g iv ok = keep-puts link n g iv e d t ok
   keep (Starts e k w a ch) n g iv ok = keep-starts link n g iv e k w a ch ok
@@ -78,7 +78,7 @@ module _ (link : ℕ → Bool) where
   keep (Loses p q x) n g iv ok = keep-loses link n g iv p q x ok
   keep (Wires l m) n g iv ok = keep-wires link n g iv l m ok
 
-  pub keeps-all : (vs : List Event) (n : Net) (g : Ghost) → Inv link n g → OkAll link vs n → Inv link (effects vs n) (notes vs g)
+  pub keeps-all : (vs : List Event) (n : Moving) (g : Ghost) → Inv link n g → OkAll link vs n → Inv link (effects vs n) (notes vs g)
   keeps-all [] n g iv ok = iv
   keeps-all (v ∷ vs) n g iv ok = keeps-all vs (effect v n) (note v g) (keep v n g iv (ok .0)) (ok .1)
 
@@ -104,7 +104,7 @@ module _ (link : ℕ → Bool) where
         unborn = λ c le. record { no-stream = refl; no-handed = refl; no-place = refl; no-fate = refl };
       }
 
-  pub faithful : (n : Net) (g : Ghost) → Inv link n g → (c : ℕ) → Faithful (booksOf g) c
+  pub faithful : (n : Moving) (g : Ghost) → Inv link n g → (c : ℕ) → Faithful (booksOf g) c
   faithful n g iv c = faithful-by (n .out) (g .front) g c (g .loc c) (g .now) (g .fate c) refl (iv .circs c)
 
   -- THE THEOREM, over events

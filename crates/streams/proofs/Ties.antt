@@ -22,7 +22,7 @@ use Rattle.streams.specs.Model.{portNo, doorNo, isLink, Cell, Books, Not
 use Rattle.streams.specs.Events.{Cursor, Ghost, booksOf, notes, blank, next, OkAll}
 use Rattle.streams.specs.Demand.{sentBy, tokensGiven, tokensOf, heldAt, Intact, Ties}
 use Rattle.streams.specs.Observer.{anew, jot}
-use Rattle.streams.specs.View.{view}
+use Rattle.streams.specs.View.{moving}
 use Rattle.streams.proofs.Basics.{Streams, Chain}
 use Rattle.streams.proofs.Inv.{Inv}
 use Rattle.streams.proofs.Machine.{line-tokens, no-cells}
@@ -64,7 +64,7 @@ pub tied-anew : (w : World) (c : Call) → anew w c ≡ true → Tied (apply w c
 tied-anew = anew-case (λ z. Tied z blank noNotes) tied-fresh
 
 -- EVERY OTHER CALL
-module _ (w : World) (k : Kept w) (g : Ghost) (iv : Inv isLink (view w) g) (o : Notes) (t : Tied w g o) where
+module _ (w : World) (k : Kept w) (g : Ghost) (iv : Inv isLink (moving w) g) (o : Notes) (t : Tied w g o) where
   refused-jots : (c : Call) (r : ℕ) → jot c (Answers.No r) o ≡ o
   refused-jots (Fresh n) r = refl
   refused-jots (Wire a l b j) r = refl
@@ -74,7 +74,7 @@ module _ (w : World) (k : Kept w) (g : Ghost) (iv : Inv isLink (view w) g) (o : 
   refused-jots (Input a c x) r = refl
   refused-jots (Step a p) r = refl
 
-  made-ties : (c : Call) → done w c ≡ true → isFresh c ≡ false → OkAll isLink (madeEvents w c) (view w)
+  made-ties : (c : Call) → done w c ≡ true → isFresh c ≡ false → OkAll isLink (madeEvents w c) (moving w)
       → made w c .next .net .nodes ≡ w .net .nodes
       → Tied (made w c .next) (notes (madeEvents w c) g) (jot c (made w c .answer) o)
   made-ties c d f ok boards =
@@ -84,11 +84,11 @@ module _ (w : World) (k : Kept w) (g : Ghost) (iv : Inv isLink (view w) g) (o : 
       let h = made-heard w k g iv c p f in
       record {
         aims = m .aims (t .aims);
-        sending = keep-sendings isLink vs (view w) g iv ok (m .unmarked) (t .sending);
+        sending = keep-sendings isLink vs (moving w) g iv ok (m .unmarked) (t .sending);
         sent = λ n e l.
             m .puts n e l
             ∙ ap (λ (ts : List ℕ). ts ++ putsAt vs (doorNo n e)) (t .sent n e l)
-            ∙ sym (sent-steps isLink vs (view w) g iv ok (m .unmarked) (t .sending) (doorNo n e));
+            ∙ sym (sent-steps isLink vs (moving w) g iv ok (m .unmarked) (t .sending) (doorNo n e));
         long = m .long (t .long);
         got = λ n e l.
             log-steps vs g (doorNo n e)
@@ -121,13 +121,13 @@ intact g marks s e (x ∷ xs) (fits, good, rest) = (
   intact g marks (next x) e xs rest,
 )
 
-pub ties-so : (w : World) → Kept w → (g : Ghost) → Inv isLink (view w) g → (o : Notes) → Tied w g o → Ties w (booksOf g) o
+pub ties-so : (w : World) → Kept w → (g : Ghost) → Inv isLink (moving w) g → (o : Notes) → Tied w g o → Ties w (booksOf g) o
 ties-so w k g iv o t =
     record {
       sent = t .sent;
       received = t .got;
       heard = λ n p hn e. hears-so w k g iv n p hn e (t .heard n hn);
       held = λ n p hp. sym (view-queue w n p hp) ∙ iv .ports (portNo n p) .tokens;
-      lines = λ l. no-cells (g .on l) (line-tokens isLink (view w) g iv l);
+      lines = λ l. no-cells (g .on l) (line-tokens isLink (moving w) g iv l);
       intact = λ p. intact g (t .sending .marks) (g .front p) (g .back p) (g .cells p) (iv .ports p .chain);
     }

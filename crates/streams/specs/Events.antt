@@ -16,8 +16,8 @@ use Rattle.tokens.specs.declared.header.Width.{Width}
 use Rattle.tokens.specs.declared.header.Target.{Target}
 use Rattle.plans.specs.Plan.{sizeOf, numberIn}
 use Rattle.streams.specs.Model.{keeps, Plain, Place, ToChannel, placeOf, encode, readIn, nodeOfPort, nodeOfDoor, endAt, Shut, Via}
-use Rattle.streams.specs.Model.{Into, Drops, Use, Nobody, By, Closed, Through, Direct, Net, Cell, Fate, Flying, Lost, Landed, Here}
-use Rattle.streams.specs.Model.{Info, Given, Books, noInfo, upd, hd, pop, push, pushAll, cellsOf, marks}
+use Rattle.streams.specs.Model.{Into, Drops, Use, Nobody, By, Closed, Through, Direct, Moving, Cell, Fate, Flying, Lost, Landed, Here}
+use Rattle.streams.specs.Model.{Info, Given, Books, noInfo, alter, hd, pop, push, pushAll, cellsOf, marks}
 
 -- EVENTS. Doors, ports and links by their numbers through all slots, tokens, then the rest
 pub data Event : Type 0 where
@@ -91,16 +91,16 @@ next x = after (closes (x .token)) (x .circuit) (x .pos)
 
 -- the cell, if it is the first of its circuit, is now at v
 unfoldable pub headTo : ℕ → Cell → (ℕ → ℕ) → ℕ → ℕ
-headTo v x loc = pick (eqb (x .pos) 0) (upd loc (x .circuit) v) loc
+headTo v x loc = pick (eqb (x .pos) 0) (alter loc (x .circuit) v) loc
 
 -- WHAT AN EVENT DOES
-unfoldable pub effect : Event → Net → Net
+unfoldable pub effect : Event → Moving → Moving
 effect (Opens e d w a) n =
     record {
       queue = pushAll (n .queue) d (encode w a);
       out = n .out;
       user = n .user;
-      busy = upd (n .busy) e (Through d);
+      busy = alter (n .busy) e (Through d);
       cable = n .cable;
       line = n .line;
     }
@@ -109,7 +109,7 @@ effect (Puts e d t) n =
       queue = push (n .queue) d t;
       out = n .out;
       user = n .user;
-      busy = upd (n .busy) e (pick (closes t) Closed (Through d));
+      busy = alter (n .busy) e (pick (closes t) Closed (Through d));
       cable = n .cable;
       line = n .line;
     }
@@ -118,7 +118,7 @@ effect (Starts e k w a ch) n =
       queue = n .queue;
       out = n .out;
       user = n .user;
-      busy = upd (n .busy) e (Direct ch);
+      busy = alter (n .busy) e (Direct ch);
       cable = n .cable;
       line = n .line;
     }
@@ -127,23 +127,23 @@ effect (Tells e ch t) n =
       queue = n .queue;
       out = n .out;
       user = n .user;
-      busy = upd (n .busy) e (pick (closes t) Closed (Direct ch));
+      busy = alter (n .busy) e (pick (closes t) Closed (Direct ch));
       cable = n .cable;
       line = n .line;
     }
 effect (Takes p l) n =
     record {
       queue = n .queue;
-      out = upd (n .out) p (Via l);
-      user = upd (n .user) l (By p);
+      out = alter (n .out) p (Via l);
+      user = alter (n .user) l (By p);
       busy = n .busy;
       cable = n .cable;
       line = n .line;
     }
 effect (Lands p w hs a k) n =
     record {
-      queue = upd (n .queue) p (drop (length hs) (n .queue p));
-      out = upd (n .out) p (Into a);
+      queue = alter (n .queue) p (drop (length hs) (n .queue p));
+      out = alter (n .out) p (Into a);
       user = n .user;
       busy = n .busy;
       cable = n .cable;
@@ -152,7 +152,7 @@ effect (Lands p w hs a k) n =
 effect (Refuses p q) n =
     record {
       queue = n .queue;
-      out = upd (n .out) p (Drops q);
+      out = alter (n .out) p (Drops q);
       user = n .user;
       busy = n .busy;
       cable = n .cable;
@@ -161,8 +161,8 @@ effect (Refuses p q) n =
 effect (Enters p l x) n =
     record {
       queue = pop (n .queue) p;
-      out = upd (n .out) p (pick (closes x) Shut (Via l));
-      user = upd (n .user) l (pick (closes x) Nobody (By p));
+      out = alter (n .out) p (pick (closes x) Shut (Via l));
+      user = alter (n .user) l (pick (closes x) Nobody (By p));
       busy = n .busy;
       cable = n .cable;
       line = push (n .line) l x;
@@ -179,7 +179,7 @@ effect (Arrives l m x) n =
 effect (Hands p a x) n =
     record {
       queue = pop (n .queue) p;
-      out = upd (n .out) p (pick (closes x) Shut (Into a));
+      out = alter (n .out) p (pick (closes x) Shut (Into a));
       user = n .user;
       busy = n .busy;
       cable = n .cable;
@@ -188,7 +188,7 @@ effect (Hands p a x) n =
 effect (Loses p q x) n =
     record {
       queue = pop (n .queue) p;
-      out = upd (n .out) p (pick (closes x) Shut (Drops q));
+      out = alter (n .out) p (pick (closes x) Shut (Drops q));
       user = n .user;
       busy = n .busy;
       cable = n .cable;
@@ -200,7 +200,7 @@ effect (Wires l m) n =
       out = n .out;
       user = n .user;
       busy = n .busy;
-      cable = upd (upd (n .cable) l (By m)) m (By l);
+      cable = alter (alter (n .cable) l (By m)) m (By l);
       line = n .line;
     }
 
@@ -211,19 +211,19 @@ note (Opens e d w a) g =
     record {
       cells = pushAll (g .cells) d (cellsOf c 0 hs);
       on = g .on;
-      stream = upd (g .stream) c hs;
+      stream = alter (g .stream) c hs;
       handed = g .handed;
       fate = g .fate;
-      info = upd (g .info) c (record { sender = e; dest = a; width = w; skip = sizeOf w });
-      mine = upd (g .mine) e c;
+      info = alter (g .info) c (record { sender = e; dest = a; width = w; skip = sizeOf w });
+      mine = alter (g .mine) e c;
       now = suc c;
       log = g .log;
       front = g .front;
-      back = upd (g .back) d (At c (sizeOf w));
+      back = alter (g .back) d (At c (sizeOf w));
       tail = g .tail;
-      loc = upd (g .loc) c (suc d);
+      loc = alter (g .loc) c (suc d);
       way = g .way;
-      holder = upd (g .holder) d (By e);
+      holder = alter (g .holder) d (By e);
     }
 note (Puts e d t) g =
     let c = g .mine e in
@@ -231,7 +231,7 @@ note (Puts e d t) g =
     record {
       cells = push (g .cells) d x;
       on = g .on;
-      stream = upd (g .stream) c (g .stream c ++ (t ∷ []));
+      stream = alter (g .stream) c (g .stream c ++ (t ∷ []));
       handed = g .handed;
       fate = g .fate;
       info = g .info;
@@ -239,11 +239,11 @@ note (Puts e d t) g =
       now = g .now;
       log = g .log;
       front = g .front;
-      back = upd (g .back) d (next x);
+      back = alter (g .back) d (next x);
       tail = g .tail;
       loc = g .loc;
       way = g .way;
-      holder = upd (g .holder) d (pick (closes t) Nobody (By e));
+      holder = alter (g .holder) d (pick (closes t) Nobody (By e));
     }
 note (Starts e k w a ch) g =
     let c = g .now in
@@ -252,9 +252,9 @@ note (Starts e k w a ch) g =
       on = g .on;
       stream = g .stream;
       handed = g .handed;
-      fate = upd (g .fate) c (Here k);
-      info = upd (g .info) c (record { sender = e; dest = a; width = w; skip = 0 });
-      mine = upd (g .mine) e c;
+      fate = alter (g .fate) c (Here k);
+      info = alter (g .info) c (record { sender = e; dest = a; width = w; skip = 0 });
+      mine = alter (g .mine) e c;
       now = suc c;
       log = g .log;
       front = g .front;
@@ -269,8 +269,8 @@ note (Tells e ch t) g =
     record {
       cells = g .cells;
       on = g .on;
-      stream = upd (g .stream) c (g .stream c ++ (t ∷ []));
-      handed = upd (g .handed) c (g .handed c ++ keeps t);
+      stream = alter (g .stream) c (g .stream c ++ (t ∷ []));
+      handed = alter (g .handed) c (g .handed c ++ keeps t);
       fate = g .fate;
       info = g .info;
       mine = g .mine;
@@ -294,7 +294,7 @@ note (Takes p l) g =
       mine = g .mine;
       now = g .now;
       log = g .log;
-      front = upd (g .front) p (At (hd (g .cells p) .circuit) 0);
+      front = alter (g .front) p (At (hd (g .cells p) .circuit) 0);
       back = g .back;
       tail = g .tail;
       loc = g .loc;
@@ -304,16 +304,16 @@ note (Takes p l) g =
 note (Lands p w hs a k) g =
     let y = hd (g .cells p) in
     record {
-      cells = upd (g .cells) p (drop (length hs) (g .cells p));
+      cells = alter (g .cells) p (drop (length hs) (g .cells p));
       on = g .on;
       stream = g .stream;
       handed = g .handed;
-      fate = upd (g .fate) (y .circuit) (Landed p k);
+      fate = alter (g .fate) (y .circuit) (Landed p k);
       info = g .info;
       mine = g .mine;
       now = g .now;
       log = g .log;
-      front = upd (g .front) p (At (y .circuit) (length hs));
+      front = alter (g .front) p (At (y .circuit) (length hs));
       back = g .back;
       tail = g .tail;
       loc = headTo 0 y (g .loc);
@@ -326,12 +326,12 @@ note (Refuses p q) g =
       on = g .on;
       stream = g .stream;
       handed = g .handed;
-      fate = upd (g .fate) (hd (g .cells p) .circuit) (Lost q);
+      fate = alter (g .fate) (hd (g .cells p) .circuit) (Lost q);
       info = g .info;
       mine = g .mine;
       now = g .now;
       log = g .log;
-      front = upd (g .front) p (At (hd (g .cells p) .circuit) 0);
+      front = alter (g .front) p (At (hd (g .cells p) .circuit) 0);
       back = g .back;
       tail = g .tail;
       loc = g .loc;
@@ -350,9 +350,9 @@ note (Enters p l x) g =
       mine = g .mine;
       now = g .now;
       log = g .log;
-      front = upd (g .front) p (next y);
+      front = alter (g .front) p (next y);
       back = g .back;
-      tail = upd (g .tail) l (next y);
+      tail = alter (g .tail) l (next y);
       loc = headTo 0 y (g .loc);
       way = headTo (suc l) y (g .way);
       holder = g .holder;
@@ -370,7 +370,7 @@ note (Arrives l m x) g =
       now = g .now;
       log = g .log;
       front = g .front;
-      back = upd (g .back) m (next y);
+      back = alter (g .back) m (next y);
       tail = g .tail;
       loc = headTo (suc m) y (g .loc);
       way = headTo 0 y (g .way);
@@ -382,13 +382,13 @@ note (Hands p a x) g =
       cells = pop (g .cells) p;
       on = g .on;
       stream = g .stream;
-      handed = upd (g .handed) (y .circuit) (g .handed (y .circuit) ++ keeps x);
+      handed = alter (g .handed) (y .circuit) (g .handed (y .circuit) ++ keeps x);
       fate = g .fate;
       info = g .info;
       mine = g .mine;
       now = g .now;
       log = pushAll (g .log) (endAt (nodeOfPort p) a) (marks (y .circuit) (keeps x));
-      front = upd (g .front) p (next y);
+      front = alter (g .front) p (next y);
       back = g .back;
       tail = g .tail;
       loc = headTo 0 y (g .loc);
@@ -407,7 +407,7 @@ note (Loses p q x) g =
       mine = g .mine;
       now = g .now;
       log = g .log;
-      front = upd (g .front) p (next y);
+      front = alter (g .front) p (next y);
       back = g .back;
       tail = g .tail;
       loc = headTo 0 y (g .loc);
@@ -417,7 +417,7 @@ note (Loses p q x) g =
 note (Wires l m) g = g
 
 -- one after the other
-abbrev pub effects : List Event → Net → Net
+abbrev pub effects : List Event → Moving → Moving
 effects [] n = n
 effects (v ∷ vs) n = effects vs (effect v n)
 
@@ -426,7 +426,7 @@ notes [] g = g
 notes (v ∷ vs) g = notes vs (note v g)
 
 -- before all of them
-unfoldable pub empty : Net
+unfoldable pub empty : Moving
 empty =
     record {
       queue = λ p. [];
@@ -471,7 +471,7 @@ pub record Landing (q : List ℕ) (w : Width) (hs : List ℕ) (a : Place) (k : N
 
 -- which of the ports are links
 module _ (link : ℕ → Bool) where
-  abbrev pub Ok : Net → Event → Type 0
+  abbrev pub Ok : Moving → Event → Type 0
   Ok n (Opens e d w a) =
       (n .busy e ≡ Closed) × (link d ≡ false) × ((j : ℕ) → n .busy j ≡ Through d → ⊥) × Carried w a
   Ok n (Puts e d t) = n .busy e ≡ Through d
@@ -491,6 +491,6 @@ module _ (link : ℕ → Bool) where
       × (n .cable l ≡ Nobody) × (n .cable m ≡ Nobody) × (n .user l ≡ Nobody) × (n .user m ≡ Nobody)
 
   -- each, after those before it
-  abbrev pub OkAll : List Event → Net → Type 0
+  abbrev pub OkAll : List Event → Moving → Type 0
   OkAll [] n = Unit
   OkAll (v ∷ vs) n = Ok n v × OkAll vs (effect v n)

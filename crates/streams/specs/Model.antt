@@ -105,7 +105,7 @@ pub data Sender : Type 0 where
   Through : ℕ → Sender
   Direct : ℕ → Sender
 
-pub record Net : Type 0 where
+pub record Moving : Type 0 where
   -- of a port: its tokens, its circuit
   pub queue : ℕ → List ℕ
   pub out : ℕ → Out
@@ -189,8 +189,8 @@ noNotes = record { aimed = λ e. Targets.Unit (record { 0 = 0 }); put = λ e. []
 
 -- WRITING
 -- entry i is a, and every other is as it was
-unfoldable pub upd {ℓ} : {A : Type ℓ} → (ℕ → A) → ℕ → A → ℕ → A
-upd f i a j = pick (eqb j i) a (f j)
+unfoldable pub alter {ℓ} : {A : Type ℓ} → (ℕ → A) → ℕ → A → ℕ → A
+alter f i a j = pick (eqb j i) a (f j)
 
 abbrev pub hd : List Cell → Cell
 hd [] = record { token = 0; circuit = 0; pos = 0 }
@@ -202,13 +202,13 @@ tl (x ∷ xs) = xs
 
 -- off the front of a list of a table, and on to its back
 abbrev pub pop {ℓ} : {A : Type ℓ} → (ℕ → List A) → ℕ → ℕ → List A
-pop q p = upd q p (tl (q p))
+pop q p = alter q p (tl (q p))
 
 abbrev pub push {ℓ} : {A : Type ℓ} → (ℕ → List A) → ℕ → A → ℕ → List A
-push q p x = upd q p (q p ++ (x ∷ []))
+push q p x = alter q p (q p ++ (x ∷ []))
 
 abbrev pub pushAll {ℓ} : {A : Type ℓ} → (ℕ → List A) → ℕ → List A → ℕ → List A
-pushAll q p xs = upd q p (q p ++ xs)
+pushAll q p xs = alter q p (q p ++ xs)
 
 -- a circuit's tokens from a place on, as cells
 abbrev pub cellsOf : ℕ → ℕ → List ℕ → List Cell

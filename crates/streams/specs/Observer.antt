@@ -48,7 +48,7 @@ use Rattle.switch.specs.Step.{portAt}
 use Rattle.bench.specs.Calls.{Call, Fresh, Wire, Set, Aim, Output, Input, Step, apply}
 use Rattle.bench.specs.Writes.{hopClosed}
 use Rattle.streams.specs.Model.{keeps, Place, ToChannel, ToUnit, encode, portNo, doorNo, unitDoor, nodeOfPort, nodeOfDoor, endAt}
-use Rattle.streams.specs.Model.{Lost, Landed, Here, Books, Notes, upd, hd, pop, push, pushAll, cellsOf, marks}
+use Rattle.streams.specs.Model.{Lost, Landed, Here, Books, Notes, alter, hd, pop, push, pushAll, cellsOf, marks}
 
 -- WHAT CAN BE WRITTEN
 -- the door opens a circuit through the port: the header goes in
@@ -57,11 +57,11 @@ opened e d w a k =
     record {
       cells = pushAll (k .cells) d (cellsOf (k .now) 0 (encode w a));
       on = k .on;
-      stream = upd (k .stream) (k .now) (encode w a);
+      stream = alter (k .stream) (k .now) (encode w a);
       handed = k .handed;
       fate = k .fate;
-      info = upd (k .info) (k .now) (record { sender = e; dest = a; width = w; skip = sizeOf w });
-      mine = upd (k .mine) e (k .now);
+      info = alter (k .info) (k .now) (record { sender = e; dest = a; width = w; skip = sizeOf w });
+      mine = alter (k .mine) e (k .now);
       now = suc (k .now);
       log = k .log;
     }
@@ -73,7 +73,7 @@ putOut e d t k =
     record {
       cells = push (k .cells) d (record { token = t; circuit = c; pos = length (k .stream c) });
       on = k .on;
-      stream = upd (k .stream) c (k .stream c ++ (t ∷ []));
+      stream = alter (k .stream) c (k .stream c ++ (t ∷ []));
       handed = k .handed;
       fate = k .fate;
       info = k .info;
@@ -94,9 +94,9 @@ openedHere e n w a k =
       on = k .on;
       stream = k .stream;
       handed = k .handed;
-      fate = upd (k .fate) (k .now) (Here n);
-      info = upd (k .info) (k .now) (record { sender = e; dest = a; width = w; skip = 0 });
-      mine = upd (k .mine) e (k .now);
+      fate = alter (k .fate) (k .now) (Here n);
+      info = alter (k .info) (k .now) (record { sender = e; dest = a; width = w; skip = 0 });
+      mine = alter (k .mine) e (k .now);
       now = suc (k .now);
       log = k .log;
     }
@@ -108,8 +108,8 @@ told e ch t k =
     record {
       cells = k .cells;
       on = k .on;
-      stream = upd (k .stream) c (k .stream c ++ (t ∷ []));
-      handed = upd (k .handed) c (k .handed c ++ keeps t);
+      stream = alter (k .stream) c (k .stream c ++ (t ∷ []));
+      handed = alter (k .handed) c (k .handed c ++ keeps t);
       fate = k .fate;
       info = k .info;
       mine = k .mine;
@@ -121,11 +121,11 @@ told e ch t k =
 abbrev pub landed : ℕ → ℕ → NodeNumber → Books → Books
 landed p size n k =
     record {
-      cells = upd (k .cells) p (drop size (k .cells p));
+      cells = alter (k .cells) p (drop size (k .cells p));
       on = k .on;
       stream = k .stream;
       handed = k .handed;
-      fate = upd (k .fate) (hd (k .cells p) .circuit) (Landed p n);
+      fate = alter (k .fate) (hd (k .cells p) .circuit) (Landed p n);
       info = k .info;
       mine = k .mine;
       now = k .now;
@@ -140,7 +140,7 @@ refused p q k =
       on = k .on;
       stream = k .stream;
       handed = k .handed;
-      fate = upd (k .fate) (hd (k .cells p) .circuit) (Lost q);
+      fate = alter (k .fate) (hd (k .cells p) .circuit) (Lost q);
       info = k .info;
       mine = k .mine;
       now = k .now;
@@ -169,7 +169,7 @@ handedOn p a x k =
       cells = pop (k .cells) p;
       on = k .on;
       stream = k .stream;
-      handed = upd (k .handed) c (k .handed c ++ keeps x);
+      handed = alter (k .handed) c (k .handed c ++ keeps x);
       fate = k .fate;
       info = k .info;
       mine = k .mine;
@@ -302,7 +302,7 @@ wordAs Wants.Data v = dataWord v
 wordAs Wants.Control v = controlWord v
 
 abbrev pub jotAimed : ℕ → Target → Notes → Notes
-jotAimed e g k = record { aimed = upd (k .aimed) e g; put = k .put; taken = k .taken }
+jotAimed e g k = record { aimed = alter (k .aimed) e g; put = k .put; taken = k .taken }
 
 abbrev pub jotPut : ℕ → ℕ → Notes → Notes
 jotPut e t k = record { aimed = k .aimed; put = push (k .put) e t; taken = k .taken }

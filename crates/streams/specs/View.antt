@@ -17,7 +17,7 @@ use Rattle.cells.specs.declared.link.Far.{Far}
 use Rattle.cells.specs.declared.link.Far.the-variants as Fars
 use Rattle.cells.specs.declared.port.Leg.{Leg}
 use Rattle.streams.specs.Model.{portNo, doorsEach, ToChannel, ToUnit, Out, Shut, Via, Into, Drops}
-use Rattle.streams.specs.Model.{Use, Nobody, By, Sender, Closed, Through, Direct, Net}
+use Rattle.streams.specs.Model.{Use, Nobody, By, Sender, Closed, Through, Direct, Moving}
 
 -- k places a node: the place of a number, and the number of a place
 abbrev pub flat : {A : Type 0} → ℕ → (ℕ → ℕ → A) → ℕ → A
@@ -77,8 +77,8 @@ cablesOf cables = flat ports (λ n l. cableOf l (cables n l))
 abbrev pub queues : World → ℕ → List ℕ
 queues w = flat ports (queue w)
 
-abbrev pub view : World → Net
-view w =
+abbrev pub moving : World → Moving
+moving w =
     record {
       queue = queues w;
       out = outs (w .net .ports .legs);

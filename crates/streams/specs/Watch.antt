@@ -5,7 +5,7 @@ use mathlib.Core.Path.{_≡_}
 use mathlib.Core.Bool.{Bool, true, false}
 use mathlib.Core.List.{List, [], _∷_}
 use Rattle.laws.specs.Pick.{pick}
-use Rattle.streams.specs.Model.{Books, noBooks, Notes, noNotes, upd, hd}
+use Rattle.streams.specs.Model.{Books, noBooks, Notes, noNotes, alter, hd}
 
 -- the books; the circuits whose header a switch of the other width has read; the notes of calls and answers
 pub record Seen : Type 0 where
@@ -39,7 +39,7 @@ module _ {S C : Type 0} (apply : S → C → S) where
           let front = hd (k .books .cells (portIn c)) .circuit in
           pick (anew s c) unseen (record {
             books = write (k .notes) s c (answer s c) (k .books);
-            misread = pick (misreads s c) (upd (k .misread) front true) (k .misread);
+            misread = pick (misreads s c) (alter (k .misread) front true) (k .misread);
             notes = jot c (answer s c) (k .notes);
           })
 
