@@ -6,7 +6,7 @@ use mathlib.Core.Bool.{false}
 use mathlib.Core.List.{List, [], _∷_, _++_}
 use lib.ListN.{take}
 use Rattle.laws.specs.Pick.{pick}
-use Rattle.laws.proofs.Order.{by-test, clash, never}
+use Rattle.laws.proofs.Order.{by-test, clash}
 use Rattle.names.specs.Size.{replyPort}
 use Rattle.names.specs.declared.NodeNumber.{NodeNumber}
 use Rattle.names.specs.declared.Slot.{Slot}
@@ -51,7 +51,6 @@ use Rattle.kept.proofs.Chosen as Chosen
 use Rattle.kept.proofs.Calls.{output-sender, step-there}
 use Rattle.streams.specs.Model.{hd, push, Place, ToChannel, ToUnit, portNo, doorNo, unitDoor, isLink, Cell, Books, Notes}
 use Rattle.streams.specs.Events.{Opens, Lands, Hands, Ghost, booksOf, note, notes}
-use Rattle.streams.specs.Demand.{tokensOf}
 use Rattle.streams.specs.Observer.{putAll, landed, writeThrough, writeWay, writeFirst, writeOutput}
 use Rattle.streams.specs.Observer.{writeReply, writeObeyed, writeStep, write, anew}
 use Rattle.streams.specs.View.{moving}

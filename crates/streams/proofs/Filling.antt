@@ -2,7 +2,7 @@
 -- Assumes nothing.
 use Prim.{tt}
 use Prim.Native.Nat.{ℕ, _/_, _%_}
-use mathlib.Core.Path.{_≡_, refl, sym, _∙_}
+use mathlib.Core.Path.{_≡_, refl}
 use mathlib.Core.Bool.{true, false}
 use mathlib.Core.List.{List, [], _∷_, _++_}
 use native.Mathlib.Omega.{arith}
@@ -12,7 +12,7 @@ use Rattle.laws.specs.Pick.{pick}
 use Rattle.laws.proofs.Order.{by-test}
 use Rattle.names.specs.Size.{replyPort}
 use Rattle.tokens.specs.Control.{end, ack, nack}
-use Rattle.tokens.specs.Word.{controlWord, dataWord, isHeader}
+use Rattle.tokens.specs.Word.{controlWord, isHeader}
 use Rattle.tokens.specs.Header.{headerOf, isNarrow}
 use Rattle.tokens.specs.declared.header.Target.{Target}
 use Rattle.tokens.specs.declared.header.Width.{Width}

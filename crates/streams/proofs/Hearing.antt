@@ -1,16 +1,15 @@
 -- WHAT A CONTROL UNIT HEARS is what the circuit has handed that landed at the port which it serves, eleven tokens at most. Assumes nothing.
 use Prim.{tt}
-use Prim.Native.Nat.{ℕ, suc, _/_, _%_, _<_, _≤_}
+use Prim.Native.Nat.{ℕ, _<_}
 use mathlib.Core.Path.{_≡_, refl, sym, ap, _∙_}
 use mathlib.Core.Bool.{Bool, true, false}
-use mathlib.Core.List.{List, [], _∷_, _++_, append-nil}
+use mathlib.Core.List.{List, [], _∷_, _++_}
 use mathlib.Core.Logic.{⊎-elim}
 use native.Mathlib.Decide.{ℕ-discrete}
 use native.Mathlib.Omega.{arith}
 use lib.Dec.{eqb, ltb}
 use lib.ListN.{length, take, length-set}
 use Rattle.laws.specs.All.{Each}
-use Rattle.laws.specs.Pick.{pick}
 use Rattle.laws.specs.Table as Two
 use Rattle.laws.proofs.Order.{by-test, clash, never}
 use Rattle.laws.proofs.Table.{upd-hit, upd-miss, upd-own, upd-all}
@@ -23,23 +22,23 @@ use Rattle.circuits.specs.declared.Hop.the-variants as Hops
 use Rattle.circuits.specs.declared.Peer.{Peer}
 use Rattle.circuits.specs.declared.Peer.the-variants as Peers
 use Rattle.tokens.specs.Control.{end, pause}
-use Rattle.tokens.specs.Word.{closes, controlWord, isPause}
+use Rattle.tokens.specs.Word.{closes, controlWord}
 use Rattle.tokens.specs.Header.{headerOf, words}
 use Rattle.tokens.specs.declared.header.Target.{Target}
 use Rattle.answers.specs.Rows.{Passes}
 use Rattle.cells.specs.View as Cells
-use Rattle.cells.specs.World.{World, hop, farOf}
+use Rattle.cells.specs.World.{World, hop}
 use Rattle.cells.specs.declared.unit.Hearing.{Hearing}
 use Rattle.clauses.specs.Pairs.{portOf, unitOf}
 use Rattle.clauses.specs.declared.pairs.Named.the-variants as Nameds
-use Rattle.acts.specs.Acts.{withNet, widthAt, pushed, pushedAll, firstAt, shut, tiledTo, untilClosed, handed}
+use Rattle.acts.specs.Acts.{withNet, widthAt, pushedAll, firstAt, untilClosed, handed}
 use Rattle.messages.specs.Heard.{messageOf, hearsWord, listens}
 use Rattle.messages.specs.Ended.{obeyed, ended}
-use Rattle.moves.specs.Moves.{took, closesOut, closesChannel, opensChannel, opensUnit, landsUnit}
+use Rattle.moves.specs.Moves.{took, closesOut, opensChannel, opensUnit, landsUnit}
 use Rattle.plans.specs.declared.Plan.{Plan}
 use Rattle.plans.specs.declared.Plan.the-variants.{Idle, Wait, OpenOut, OpenChannel, OpenUnit, Refuse, MoveOut, Hand, Hear, Drop}
 use Rattle.settings.proofs.Leaves.{setting-leaves}
-use Rattle.ends.specs.Plan.{targetOf, outputPlan, lowestFree}
+use Rattle.ends.specs.Plan.{targetOf, outputPlan}
 use Rattle.ends.specs.Output.{wordOf, outputPerformed}
 use Rattle.ends.specs.declared.plan.Plan as Sents
 use Rattle.ends.specs.declared.plan.Plan.the-variants as Sent
@@ -50,8 +49,8 @@ use Rattle.kept.specs.Kept.{Kept}
 use Rattle.kept.proofs.Found.{Going, Found, idle, waits, splits, unrouted, routes, step-found}
 use Rattle.kept.proofs.Found as Found
 use Rattle.kept.proofs.Calls.{step-there}
-use Rattle.streams.specs.Model.{keeps, ToUnit, portNo, doorNo, unitDoor, isLink, Into, Books, alter, hd}
-use Rattle.streams.specs.Events.{Event, Hands, Cursor, At, Ghost, booksOf, after, next, note, notes, OkAll}
+use Rattle.streams.specs.Model.{keeps, ToUnit, portNo, doorNo, unitDoor, isLink, Into, hd}
+use Rattle.streams.specs.Events.{Event, Hands, At, Ghost, booksOf, after, next, note, notes, OkAll}
 use Rattle.streams.specs.Demand.{heardAt, Hears}
 use Rattle.streams.specs.View.{moving, outBy}
 use Rattle.streams.proofs.Basics.{alter-hit, at-same, Fits, each-map}
@@ -59,11 +58,11 @@ use Rattle.streams.proofs.Inv.{Handing, Inv}
 use Rattle.streams.proofs.Keep.{front-at}
 use Rattle.streams.proofs.Theorem.{faithful}
 use Rattle.streams.proofs.Places.{landing-flies}
-use Rattle.streams.proofs.Handings.{Elsewhere, Into-place, stays}
+use Rattle.streams.proofs.Handings.{Elsewhere, stays}
 use Rattle.streams.proofs.View.{view-out, view-queue}
 use Rattle.streams.proofs.Acts.{first-seen}
-use Rattle.streams.proofs.Indoors.{Indoors, indoors-all, indoors-then, indoors-pick, indoors-set, indoors-pushed, indoors-pushedAll}
-use Rattle.streams.proofs.Indoors.{indoors-took, indoors-stripped, indoors-crosses, indoors-claimed, indoors-opens}
+use Rattle.streams.proofs.Indoors.{Indoors, indoors-all, indoors-then, indoors-pushed, indoors-pushedAll}
+use Rattle.streams.proofs.Indoors.{indoors-took, indoors-stripped, indoors-crosses, indoors-claimed, indoors-opens, indoors-closesChannel}
 use Rattle.streams.proofs.Indoors.{indoors-closesOut, indoors-dropped, indoors-obeyed, heardIn, heard-more}
 use Rattle.streams.proofs.Calls.{straightEvents, stepEvents, outputEvents, isFresh, madeEvents, obeyEvents}
 use Rattle.streams.proofs.Filling.{Fills, obey-fills, fills-elsewhere}
@@ -335,10 +334,7 @@ module _ (w : World) (k : Kept w) (g : Ghost) (iv : Inv isLink (moving w) g) whe
         let y = took w n p .net in
         let v = handed y n c x in
         let given : v .units ≡ y .units = by-test (eqb c sink) (λ e. rw e) (λ e. rw e) in
-        let tiled : Indoors v (tiledTo (shut v n p) n t Peers.Nobody) = record { aims = refl; buffers = refl; units = refl } in
-        let after : Indoors v (closesChannel v n p c t x) =
-        indoors-pick (closes x) (indoors-then tiled (indoors-claimed (tiledTo (shut v n p) n t Peers.Nobody) n p c Peers.Nobody))
-        (indoors-all v) in
+        let after = indoors-closesChannel v n p c t x in
         all-stay _ _ (after .units ∙ given ∙ indoors-took w n p .units) (λ m q hq e. (channel-off c t z m q hq e, tt))
 
     step-heard : {x : Plan} → Found w n p x → StepHeard x

@@ -4,20 +4,18 @@ use mathlib.Core.Path.{_≡_, refl, sym, ap, _∙_}
 use mathlib.Core.Bool.{Bool, true, false}
 use mathlib.Core.List.{List, [], _∷_, _++_, append-nil}
 use mathlib.Core.Logic.{⊎-elim}
-use native.Mathlib.Decide.{ℕ-discrete}
 use native.Mathlib.Omega.{arith}
 use lib.Dec.{eqb, ltb}
 use lib.ListN.{length, take, getD, set, length-append, length-take, length-set, List·getD-append}
 use lib.Seq.{length-take-le, take-suc-set, take-all, take-append-le, getD-take, ext-getD}
-use borrow.Author.Tests.{eq-eqb, ne-eqb, eqb-true, lt-ltb, ltb-true, ltb-false}
+use borrow.Author.Tests.{eq-eqb, ne-eqb, lt-ltb, ltb-true, ltb-false}
 use Rattle.laws.specs.Pick.{pick}
 use Rattle.laws.specs.Row.{tab}
 use Rattle.laws.specs.Table as Two
 use Rattle.laws.proofs.Row.{length-tab, getD-tab}
-use Rattle.laws.proofs.Table.{upd-hit, upd-miss, upd-all}
+use Rattle.laws.proofs.Table.{upd-all}
 use Rattle.laws.proofs.Order.{by-test, clash}
 use Rattle.names.specs.Size.{ends, endBuffer, unitBuffer, sink, replyPort}
-use Rattle.circuits.specs.declared.Hop.the-variants as Hops
 use Rattle.circuits.specs.declared.Peer.{Peer}
 use Rattle.circuits.specs.declared.Peer.the-variants as Peers
 use Rattle.tokens.specs.Control.{end}
@@ -32,7 +30,7 @@ use Rattle.cells.specs.declared.end.Buffer.{Buffer}
 use Rattle.cells.specs.declared.link.Far.{Far}
 use Rattle.cells.specs.declared.link.Far.the-variants.{Nowhere, At}
 use Rattle.cells.specs.declared.unit.Hearing.{Hearing}
-use Rattle.acts.specs.Acts.{withNet, widthAt, pushed, pushedAll, firstAt, popped, hopped, shut, tiledTo, untilClosed, claimedBy, bufferAfter}
+use Rattle.acts.specs.Acts.{withNet, widthAt, pushed, pushedAll, popped, shut, tiledTo, claimedBy, bufferAfter}
 use Rattle.acts.specs.Acts.{handed}
 use Rattle.acts.specs.Needs.{Given}
 use Rattle.grants.specs.Grants.{considered}
@@ -46,7 +44,7 @@ use Rattle.messages.specs.declared.heard.Message.the-variants.{Malformed, Wrong
 use Rattle.messages.specs.declared.reply.Reply.{Reply}
 use Rattle.messages.specs.declared.reply.Reply.the-variants.{Nack, Ack, Value}
 use Rattle.messages.proofs.Writes.{write-leaves}
-use Rattle.moves.specs.Moves.{took, stripped, opensChannel, opensUnit, closesOut, closesDropped, arrives, crosses}
+use Rattle.moves.specs.Moves.{took, stripped, opensChannel, closesOut, closesChannel, closesDropped, arrives, crosses}
 use Rattle.kept.proofs.Money.{up-leaves}
 use Rattle.ends.specs.Input.{firstHeld, tookFirst}
 use Rattle.streams.specs.Model.{keeps, ToChannel, doorNo, endAt, sinkDoor}
@@ -116,6 +114,15 @@ module _ (s : Net) (n p : ℕ) where
 
   pub indoors-dropped : (x : ℕ) → Indoors s (closesDropped s n p x)
   indoors-dropped x = indoors-pick (closes x) (record { aims = refl; buffers = refl; units = refl }) (indoors-all s)
+
+  pub indoors-closesChannel : (c t x : ℕ) → Indoors s (closesChannel s n p c t x)
+  indoors-closesChannel c t x =
+      let free = tiledTo (shut s n p) n t Peers.Nobody in
+      let tiled : Indoors s free = record { aims = refl; buffers = refl; units = refl } in
+      indoors-pick (closes x) (indoors-then tiled (of-claim free c)) (indoors-all s)
+    where
+      of-claim : (z : Net) (c : ℕ) → Indoors z (claimedBy z n c Peers.Nobody)
+      of-claim z c = indoors-pick (eqb c sink) (indoors-all z) (record { aims = refl; buffers = refl; units = refl })
 
 -- A MESSAGE AT ITS END
 indoors-reply : (w : World) (n : ℕ) (g : Target) (x : Reply) → Indoors (w .net) (replySent w n g x .next .net)

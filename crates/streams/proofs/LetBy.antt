@@ -5,7 +5,7 @@
 -- 01's programs, which stores nothing (`stores_nothing`); that one breaks `held` of `Ties` too. Assumes nothing.
 use Prim.{tt}
 use Prim.Native.Nat.{ℕ, _≤_}
-use mathlib.Core.Path.{_≡_, refl, sym, _∙_}
+use mathlib.Core.Path.{_≡_, refl, sym}
 use mathlib.Core.Bool.{Bool, true, false}
 use mathlib.Core.List.{List, []}
 use Rattle.laws.specs.Pick.{pick}

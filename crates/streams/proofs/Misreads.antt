@@ -4,38 +4,28 @@ use Prim.{tt}
 use Prim.Native.Nat.{ℕ, _<_, _≤_}
 use mathlib.Core.Path.{_≡_, refl, sym, _∙_}
 use mathlib.Core.Bool.{true, false}
-use mathlib.Core.List.{List, [], _∷_, _++_}
+use mathlib.Core.List.{List, []}
 use native.Mathlib.Omega.{arith}
 use lib.Dec.{leb}
 use borrow.Author.Tests.{lt-ltb, le-leb, leb-true}
 use Rattle.laws.specs.All.{Each}
-use Rattle.laws.specs.Pick.{pick}
 use Rattle.laws.proofs.Order.{by-test, clash, never}
-use Rattle.names.specs.Size.{ports, replyPort}
+use Rattle.names.specs.Size.{ports}
 use Rattle.circuits.specs.Circuit.{peerOf}
 use Rattle.circuits.specs.declared.Hop.{Hop}
 use Rattle.circuits.specs.declared.Hop.the-variants as Hops
 use Rattle.circuits.specs.declared.Peer.{Peer}
 use Rattle.circuits.specs.declared.Peer.the-variants as Peers
-use Rattle.tokens.specs.Control.{end}
-use Rattle.tokens.specs.Word.{closes, controlWord}
-use Rattle.tokens.specs.Header.{headerOf, isNarrow}
+use Rattle.tokens.specs.Word.{closes}
 use Rattle.tokens.specs.declared.header.Target.{Target}
 use Rattle.answers.specs.Rows.{Passes}
 use Rattle.answers.proofs.Refusals.{passed}
 use Rattle.cells.specs.World.{World, hop}
-use Rattle.acts.specs.Acts.{withNet, widthAt, wordAt, firstAt}
+use Rattle.acts.specs.Acts.{widthAt, wordAt, firstAt}
 use Rattle.plans.specs.Plan.{markedWidth, sizeOf, sameWidth}
 use Rattle.plans.specs.declared.Plan.{Plan}
 use Rattle.plans.proofs.Held.{size-some}
-use Rattle.messages.specs.Register.{fieldsOf, readOf}
 use Rattle.messages.specs.Heard.{messageOf}
-use Rattle.messages.specs.Write.{accepted, written}
-use Rattle.messages.specs.Ended.{said}
-use Rattle.messages.specs.declared.heard.Message.{Message}
-use Rattle.messages.specs.declared.heard.Message.the-variants.{Malformed, Wrong, Read, Write}
-use Rattle.messages.specs.declared.reply.Reply.{Reply}
-use Rattle.messages.specs.declared.reply.Reply.the-variants.{Nack, Ack, Value}
 use Rattle.ends.specs.Plan.{targetOf, outputPlan}
 use Rattle.ends.specs.Output.{wordOf}
 use Rattle.ends.specs.declared.plan.Plan as Sents
@@ -54,7 +44,6 @@ use Rattle.streams.specs.Events.{Event}
 use Rattle.streams.specs.Observer.{isShut, misread, misreads, portIn}
 use Rattle.streams.proofs.Basics.{each-map}
 use Rattle.streams.proofs.Splits.{Mild, SplitBy}
-use Rattle.streams.proofs.Sends.{putEach}
 use Rattle.streams.proofs.Filling.{Fills, obey-fills, fills-mild}
 use Rattle.streams.proofs.Calls.{obeyEvents, straightEvents, stepEvents, outputEvents, done, madeEvents, eventsOf}
 

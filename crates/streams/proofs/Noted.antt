@@ -2,14 +2,13 @@
 use Prim.{tt}
 use Prim.Native.Nat.{ℕ, _/_, _%_, _<_, _≤_}
 use mathlib.Core.Path.{_≡_, refl, sym, ap, _∙_, subst}
-use mathlib.Core.Bool.{Bool, true, false, not}
+use mathlib.Core.Bool.{true, false}
 use mathlib.Core.List.{List, [], _∷_, _++_, append-nil, append-assoc}
-use native.Mathlib.Decide.{ℕ-discrete}
 use native.Mathlib.Omega.{arith}
 use lib.Arith.{digits-div}
 use lib.Dec.{eqb}
 use lib.ListN.{length}
-use borrow.Author.Tests.{eq-eqb, ne-eqb, eqb-true, eqb-false, not-false, not-true, ltb-true}
+use borrow.Author.Tests.{ne-eqb, eqb-true, eqb-false, not-false, not-true}
 use Rattle.laws.specs.All.{Each}
 use Rattle.laws.specs.Pick.{pick}
 use Rattle.laws.specs.Table as Two
@@ -17,33 +16,30 @@ use Rattle.laws.proofs.All.{also, below, as-is}
 use Rattle.laws.proofs.Order.{by-test, clash}
 use Rattle.laws.proofs.Table.{upd-all}
 use Rattle.names.specs.Size.{ports, ends, endBuffer, sink}
-use Rattle.circuits.specs.Circuit.{peerOf}
 use Rattle.circuits.specs.declared.Cause.the-variants.{Split, NoRoute}
-use Rattle.circuits.specs.declared.Peer.{Peer}
 use Rattle.circuits.specs.declared.Peer.the-variants as Peers
-use Rattle.tokens.specs.Control.{pause}
-use Rattle.tokens.specs.Word.{closes, isControl, isHeader, valueOf, controlWord}
+use Rattle.tokens.specs.Word.{closes, isHeader, valueOf}
 use Rattle.tokens.specs.Header.{headerOf, words}
 use Rattle.tokens.specs.declared.header.Target.{Target}
 use Rattle.tokens.proofs.Words.{header-back}
 use Rattle.answers.specs.Rows.{Passes}
 use Rattle.answers.specs.declared.Answer.{Answer}
 use Rattle.cells.specs.View as Cells
-use Rattle.cells.specs.World.{World, hop, farOf}
+use Rattle.cells.specs.World.{World}
 use Rattle.cells.specs.declared.end.Aim as Aims
 use Rattle.cells.specs.declared.end.Buffer.{Buffer}
-use Rattle.acts.specs.Acts.{withNet, widthAt, pushed, pushedAll, firstAt, shut, tiledTo, untilClosed, claimedBy, handed}
+use Rattle.acts.specs.Acts.{withNet, widthAt, pushedAll, firstAt, shut, untilClosed, handed}
 use Rattle.acts.specs.Needs.{Given}
 use Rattle.plans.specs.declared.Plan.{Plan}
 use Rattle.plans.specs.declared.Plan.the-variants.{Idle, Wait, OpenOut, OpenChannel, Refuse, MoveOut, Hand, Hear, Drop}
 use Rattle.messages.specs.Heard.{messageOf}
 use Rattle.messages.specs.Ended.{obeyed, ended}
-use Rattle.moves.specs.Moves.{took, opensChannel, opensUnit, closesOut, closesChannel, hands}
+use Rattle.moves.specs.Moves.{took, opensChannel, opensUnit, closesOut, hands}
 use Rattle.settings.specs.Set.{setAnswer}
 use Rattle.settings.proofs.Leaves.{setting-leaves}
 use Rattle.ends.specs.Aim.{aimedAt, aimMade}
 use Rattle.ends.specs.Input.{firstHeld, isWanted, tookFirst, inputMade}
-use Rattle.ends.specs.Plan.{targetOf, lowestFree, outputPlan}
+use Rattle.ends.specs.Plan.{targetOf, lowestFree}
 use Rattle.ends.specs.Output.{wordOf, byteOf, goesStraight, outputPerformed, isNarrowPlan, isFullPlan}
 use Rattle.ends.specs.declared.Token.{Token}
 use Rattle.ends.specs.declared.Token.the-variants as Tokens
@@ -56,22 +52,22 @@ use Rattle.switch.specs.Step.{stepPerformed}
 use Rattle.bench.specs.Calls.{Call, Fresh, Wire, Set, Aim, Output, Input, Step, rows, made}
 use Rattle.bench.specs.Writes.{hopClosed}
 use Rattle.kept.specs.Kept.{Kept}
-use Rattle.kept.proofs.Found.{Going, Found, idle, waits, splits, unrouted, routes, landsChannel, landsUnit, step-found}
+use Rattle.kept.proofs.Found.{Found, idle, waits, splits, unrouted, routes, landsChannel, landsUnit, step-found}
 use Rattle.kept.proofs.Found as Found
 use Rattle.kept.proofs.Chosen as Chosen
 use Rattle.kept.proofs.Calls.{output-sender, step-there}
-use Rattle.streams.specs.Model.{keeps, ToChannel, ToUnit, portNo, doorNo, unitDoor, doorsEach, endAt, Notes, alter, push, pushAll}
+use Rattle.streams.specs.Model.{keeps, ToChannel, portNo, doorNo, unitDoor, doorsEach, endAt, Notes, alter, push}
 use Rattle.streams.specs.Events.{Event}
 use Rattle.streams.specs.Demand.{heldAt}
 use Rattle.streams.specs.Observer.{given, wordAs, jot}
 use Rattle.streams.proofs.Basics.{alter-hit, alter-same, alter-miss, each-map, pushed-at}
 use Rattle.streams.proofs.Sendings.{putsAt, Unmarked}
 use Rattle.streams.proofs.Handings.{handsAt}
-use Rattle.streams.proofs.Indoors.{Indoors, indoors-all, indoors-then, indoors-pick, indoors-set, indoors-pushed, indoors-pushedAll}
-use Rattle.streams.proofs.Indoors.{indoors-took, indoors-stripped, indoors-crosses, indoors-claimed, indoors-opens}
+use Rattle.streams.proofs.Indoors.{Indoors, indoors-all, indoors-then, indoors-set, indoors-pushed, indoors-pushedAll}
+use Rattle.streams.proofs.Indoors.{indoors-took, indoors-stripped, indoors-crosses, indoors-claimed, indoors-opens, indoors-closesChannel}
 use Rattle.streams.proofs.Indoors.{indoors-closesOut, indoors-dropped, indoors-obeyed, heldIn, long-took, held-took}
 use Rattle.streams.proofs.Indoors.{handed-held, handed-long, door-off}
-use Rattle.streams.proofs.Calls.{obeyEvents, straightEvents, stepEvents, outputEvents, isFresh, madeEvents}
+use Rattle.streams.proofs.Calls.{obeyEvents, stepEvents, outputEvents, isFresh, madeEvents}
 use Rattle.streams.proofs.Filling.{Fills, obey-fills, fills-unmarked, fills-hands, fills-puts}
 
 -- what a channel-end that is aimed is aimed at, by the notes
@@ -168,10 +164,7 @@ module _ (w : World) (n p : ℕ) (o : Notes) where
       let y = took w n p .net in
       let before = indoors-took w n p in
       let z = handed y n c x in
-      let tiled : Indoors z (tiledTo (shut z n p) n t Peers.Nobody) = record { aims = refl; buffers = refl; units = refl } in
-      let after : Indoors z (closesChannel z n p c t x) =
-      indoors-pick (closes x) (indoors-then tiled (indoors-claimed (tiledTo (shut z n p) n t Peers.Nobody) n p c Peers.Nobody))
-      (indoors-all z) in
+      let after = indoors-closesChannel z n p c t x in
       let same = before .buffers in
       let long : Long (w .net) → Long y = λ l i j. ap (λ (b : ℕ → ℕ → Buffer). length (b i j .tokens)) same ∙ l i j in
       held-quiet w (hands w n p c t) _ o (after .aims ∙ kept-aims y n c x ∙ before .aims) (tt, tt) (λ i j h. refl)

@@ -6,7 +6,6 @@ use mathlib.Core.Bool.{Bool, true, false}
 use mathlib.Core.List.{List, [], _∷_, _++_, map}
 use Rattle.laws.specs.Row.{tab}
 use Rattle.circuits.specs.declared.Cause.the-variants.{Split}
-use Rattle.tokens.specs.declared.header.Width.{Width}
 use Rattle.tokens.specs.declared.header.Width.the-variants.{One, Three}
 use Rattle.tokens.specs.declared.header.Target.{Target}
 use Rattle.tokens.specs.declared.header.Target.the-variants.{Channel, Unit}

@@ -10,7 +10,7 @@ use native.Mathlib.Omega.{arith}
 use lib.Dec.{eqb, ltb}
 use lib.ListN.{length, drop, getD, length-append, List·getD-append}
 use lib.Seq.{drop-append-le, drop-length, getD-append-seam}
-use borrow.Author.Tests.{eq-eqb, ne-eqb, eqb-true, lt-ltb, ltb-true}
+use borrow.Author.Tests.{eq-eqb, ne-eqb, lt-ltb, ltb-true}
 use Rattle.laws.specs.All.{Each}
 use Rattle.laws.specs.Pick.{pick}
 use Rattle.laws.proofs.Order.{by-test, clash}

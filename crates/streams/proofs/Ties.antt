@@ -5,25 +5,24 @@ use Prim.Native.Nat.{ℕ, _<_}
 use mathlib.Core.Path.{_≡_, refl, sym, ap, _∙_}
 use mathlib.Core.Bool.{true, false}
 use mathlib.Core.List.{List, [], _∷_, _++_}
-use lib.ListN.{getD}
 use Rattle.laws.specs.All.{Each}
-use Rattle.laws.proofs.Order.{by-test, clash, never}
+use Rattle.laws.proofs.Order.{by-test, never}
 use Rattle.names.specs.Size.{ports, ends}
 use Rattle.circuits.specs.declared.Peer.the-variants.{Nobody, Port}
 use Rattle.answers.specs.Rows.{refusal}
 use Rattle.answers.specs.declared.Answer.the-variants as Answers
 use Rattle.answers.proofs.Refusals.{passed}
-use Rattle.cells.specs.World.{World, queue}
+use Rattle.cells.specs.World.{World}
 use Rattle.cells.specs.Fresh.{freshWorld}
 use Rattle.bench.specs.Calls.{Call, Fresh, Wire, Set, Aim, Output, Input, Step, rows, made, apply}
 use Rattle.bench.proofs.Lasts.{call-boards}
 use Rattle.kept.specs.Kept.{Kept}
-use Rattle.streams.specs.Model.{portNo, doorNo, isLink, Cell, Books, Notes, noNotes}
+use Rattle.streams.specs.Model.{portNo, doorNo, isLink, Cell, Notes, noNotes}
 use Rattle.streams.specs.Events.{Cursor, Ghost, booksOf, notes, blank, next, OkAll}
-use Rattle.streams.specs.Demand.{sentBy, tokensGiven, tokensOf, heldAt, Intact, Ties}
+use Rattle.streams.specs.Demand.{sentBy, tokensGiven, heldAt, Intact, Ties}
 use Rattle.streams.specs.Observer.{anew, jot}
 use Rattle.streams.specs.View.{moving}
-use Rattle.streams.proofs.Basics.{Streams, Chain}
+use Rattle.streams.proofs.Basics.{Chain}
 use Rattle.streams.proofs.Inv.{Inv}
 use Rattle.streams.proofs.Machine.{line-tokens, no-cells}
 use Rattle.streams.proofs.Sendings.{putsAt, SendingIn, MarkedIn, keep-sendings, sent-steps, start-sending}
