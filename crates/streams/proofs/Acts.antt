@@ -32,7 +32,8 @@ use Rattle.kept.proofs.Fills.{filled-one}
 use Rattle.kept.proofs.Empties.{emptied-one}
 use Rattle.kept.proofs.Leaves.{taken-is, left, left-is}
 use Rattle.kept.proofs.Moves.{userIf, freed, putThere, freed-is, crosses-as, link-there, by-port, far-room}
-use Rattle.streams.specs.Model.{alter, tl, pop, push, portNo, isLink, Place, ToChannel, ToUnit, Out, Shut, Via, Into, Nobody, By, Moving}
+use Rattle.streams.specs.Model.{alter, tl, pop, push, portNo, isLink, Place, ToChannel, ToUnit, Out}
+use Rattle.streams.specs.Model.{Shut, Via, Into, Nobody, By, Moving}
 use Rattle.streams.specs.Events.{Event, Takes, Refuses, Enters, Arrives, Hands, Loses, effect, Ok}
 use Rattle.streams.specs.View.{moving, farEnd, outBy, outOf, outs, useBy, queues}
 use Rattle.streams.proofs.Basics.{alter-same, passes}

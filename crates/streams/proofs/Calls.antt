@@ -72,7 +72,8 @@ use Rattle.kept.proofs.Calls.{wire-ends, output-sender, step-there}
 use Rattle.kept.proofs.Hears.{keep-freed, ready-after}
 use Rattle.kept.proofs.Sets.{keep-written}
 use Rattle.kept.proofs.Messages.{Address, Replied, replied, Ready, ready-written}
-use Rattle.streams.specs.Model.{alter, Use, Nobody, By, Closed, portNo, doorNo, doorsEach, unitDoor, isLink, ToChannel, ToUnit, Moving}
+use Rattle.streams.specs.Model.{alter, Use, Nobody, By, Closed, portNo, doorNo, doorsEach}
+use Rattle.streams.specs.Model.{unitDoor, isLink, ToChannel, ToUnit, Moving}
 use Rattle.streams.specs.Events.{Event, Opens, Puts, Starts, Tells, Takes, Lands, Refuses, Enters, Arrives, Hands, Loses, Wires}
 use Rattle.streams.specs.Events.{effect, empty}
 use Rattle.streams.specs.Observer.{anew}

@@ -62,8 +62,8 @@ use Rattle.streams.proofs.Handings.{Elsewhere, stays}
 use Rattle.streams.proofs.View.{view-out, view-queue}
 use Rattle.streams.proofs.Acts.{first-seen}
 use Rattle.streams.proofs.Indoors.{Indoors, indoors-all, indoors-then, indoors-pushed, indoors-pushedAll}
-use Rattle.streams.proofs.Indoors.{indoors-took, indoors-stripped, indoors-crosses, indoors-claimed, indoors-opens, indoors-closesChannel}
-use Rattle.streams.proofs.Indoors.{indoors-closesOut, indoors-dropped, indoors-obeyed, heardIn, heard-more}
+use Rattle.streams.proofs.Indoors.{indoors-took, indoors-stripped, indoors-crosses, indoors-claimed, indoors-opens}
+use Rattle.streams.proofs.Indoors.{indoors-closesChannel, indoors-closesOut, indoors-dropped, indoors-obeyed, heardIn, heard-more}
 use Rattle.streams.proofs.Calls.{straightEvents, stepEvents, outputEvents, isFresh, madeEvents, obeyEvents}
 use Rattle.streams.proofs.Filling.{Fills, obey-fills, fills-elsewhere}
 
@@ -245,7 +245,8 @@ module _ (w : World) (k : Kept w) (g : Ghost) (iv : Inv isLink (moving w) g) whe
         let y = hd (g .cells (portNo n p)) in
         let row = g .handed (y .circuit) ++ keeps x in
         one-hears n p (z .holds .node) (z .holds .port) _ _ (w .net .units .serving n 0) (hearsWord u x)
-        (ap (λ (t : Cells.UnitTables). heardNext t) same ∙ ap (λ s. record { serving = s; hearings = Two.upd (w .net .units .hearings) n 0 (hearsWord u x) })
+        (ap (λ (t : Cells.UnitTables). heardNext t) same
+        ∙ ap (λ s. record { serving = s; hearings = Two.upd (w .net .units .hearings) n 0 (hearsWord u x) })
         (sym (upd-own (w .net .units .serving) n 0)))
         (λ m q off hq. (apart n p m q (z .holds .port) hq off, tt))
         (λ l. by-test (ltb (u .heard) unitBuffer) (λ e. rw e (length-set (u .tokens) (u .heard) x ∙ l n)) (λ e. rw e (l n)))
@@ -253,7 +254,8 @@ module _ (w : World) (k : Kept w) (g : Ghost) (iv : Inv isLink (moving w) g) whe
         let (hq, to) = serves-port w k n (z .holds .node) q served in
         let is-p = served-port w k n (z .holds .node) p q (z .holds .port) (z .goes) served in
         let a = going w g iv n p (z .holds .port) (z .goes) in
-        let ft : Fits (At (a .c) (a .i)) y = rw (a .front) at (front-at isLink (moving w) g iv (portNo n p) x _ (first-seen w n p (z .holds)) .fits) in
+        let first = front-at isLink (moving w) g iv (portNo n p) x _ (first-seen w n p (z .holds)) in
+        let ft : Fits (At (a .c) (a .i)) y = rw (a .front) at (first .fits) in
         let front′ : next y ≡ At d i = sym (alter-hit (g .front) (portNo n p) (next y) (portNo n q) (ap (portNo n) is-p)) ∙ front in
         let is-d : y .circuit ≡ d = front-circuit d i front′ in
         let fits = ⊎-elim (λ none. absurd (serves q served none)) (λ h. h .0) (k .hearings n 0 (z .holds .node) (omega arith)) in
@@ -326,7 +328,8 @@ module _ (w : World) (k : Kept w) (g : Ghost) (iv : Inv isLink (moving w) g) whe
         let hp = z .holds .port in
         let em : m ≡ n = omega (arith, same, hp, hq) in
         let eq : q ≡ p = omega (arith, same, hp, hq) in
-        never (let f : Hops.Channel c t ≡ Hops.Unit = sym (z .goes) ∙ sym (ap (λ (i : ℕ). hop (w .net) i p) em) ∙ sym (ap (hop (w .net) m) eq) ∙ e in cc)
+        let same-hop : hop (w .net) m q ≡ hop (w .net) n p = ap (hop (w .net) m) eq ∙ ap (λ (i : ℕ). hop (w .net) i p) em in
+        never (let f : Hops.Channel c t ≡ Hops.Unit = sym (z .goes) ∙ sym same-hop ∙ e in cc)
 
     hands-heard : (c t : ℕ) → Going w n p (Hops.Channel c t) → StepHeard (Hand c t)
     hands-heard c t z =

@@ -67,7 +67,12 @@ indoors-pick true h k = h
 indoors-pick false h k = k
 
 pub indoors-as : {s z : Net} → z ≡ s → Indoors s z
-indoors-as e = record { aims = ap (λ (x : Net). x .ends .aims) e; buffers = ap (λ (x : Net). x .ends .buffers) e; units = ap (λ (x : Net). x .units) e }
+indoors-as e =
+    record {
+      aims = ap (λ (x : Net). x .ends .aims) e;
+      buffers = ap (λ (x : Net). x .ends .buffers) e;
+      units = ap (λ (x : Net). x .units) e;
+    }
 
 pub indoors-set : {s z : Net} → Leaves s z → Indoors s z
 indoors-set l =
@@ -84,8 +89,9 @@ indoors-pushedAll (t ∷ ts) w n p = indoors-then (indoors-pushed w n p t) (indo
 
 pub indoors-took : (w : World) (n p : ℕ) → Indoors (w .net) (took w n p .net)
 unfolding took popped
-indoors-took w n p = let e = up-leaves (popped w n p .net) n p in
-    record { aims = ap (λ (s : Net). s .ends .aims) e; buffers = ap (λ (s : Net). s .ends .buffers) e; units = ap (λ (s : Net). s .units) e }
+indoors-took w n p =
+    let u = indoors-as (up-leaves (popped w n p .net) n p) in
+    record { aims = u .aims; buffers = u .buffers; units = u .units }
 
 pub indoors-stripped : (w : World) (n p : ℕ) (x : Width) → Indoors (w .net) (stripped w n p x .net)
 indoors-stripped w n p One = indoors-took w n p
@@ -94,7 +100,9 @@ indoors-stripped w n p Three =
 
 pub indoors-crosses : (w : World) (n l x : ℕ) → Indoors (w .net) (crosses w n l x .net)
 unfolding crosses considered
-indoors-crosses w n l x = let z = there (farOf (w .net .links .cables n l)) in record { aims = z .aims; buffers = z .buffers; units = z .units }
+indoors-crosses w n l x =
+    let z = there (farOf (w .net .links .cables n l)) in
+    record { aims = z .aims; buffers = z .buffers; units = z .units }
   where
     there : (f : Far) → Indoors (w .net) (arrives w f x .net)
     there Nowhere = indoors-all (w .net)
@@ -107,7 +115,9 @@ module _ (s : Net) (n p : ℕ) where
 
   pub indoors-opens : (c t : ℕ) → Indoors s (opensChannel s n p c t)
   indoors-opens c t =
-      indoors-pick (eqb c sink) (record { aims = refl; buffers = refl; units = refl }) (record { aims = refl; buffers = refl; units = refl })
+      indoors-pick (eqb c sink)
+      (record { aims = refl; buffers = refl; units = refl })
+      (record { aims = refl; buffers = refl; units = refl })
 
   pub indoors-closesOut : (l x : ℕ) → Indoors s (closesOut s n p l x)
   indoors-closesOut l x = indoors-pick (closes x) (record { aims = refl; buffers = refl; units = refl }) (indoors-all s)
@@ -229,7 +239,8 @@ pub handed-long : (s : Net) (n c x : ℕ) → ((m e : ℕ) → length (s .ends .
 handed-long s n c x long m e =
     by-test (eqb c sink)
     (λ q. rw q (long m e))
-    (λ q. rw q (upd-all (λ i j (b : Buffer). length (b .tokens) ≡ endBuffer) (s .ends .buffers) n c (bufferAfter (s .ends .buffers n c) x) m e
+    (λ q. rw q (upd-all (λ i j (b : Buffer). length (b .tokens) ≡ endBuffer) (s .ends .buffers) n c
+    (bufferAfter (s .ends .buffers n c) x) m e
     (λ a b. long-after (s .ends .buffers n c) x (long n c))
     (λ o. long m e)))
 

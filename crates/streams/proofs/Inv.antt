@@ -15,7 +15,8 @@ use Rattle.circuits.specs.declared.Cause.{Cause}
 use Rattle.tokens.specs.Header.{Carried}
 use Rattle.plans.specs.Plan.{sizeOf}
 use Rattle.streams.specs.Model.{noPause, body, Plain, Place, ToChannel, placeOf, encode, Out, Shut, Via, Into, Drops, Use}
-use Rattle.streams.specs.Model.{Nobody, By, Sender, Closed, Through, Direct, Moving, Cell, Fate, Flying, Lost, Landed, Here, Info, alter}
+use Rattle.streams.specs.Model.{Nobody, By, Sender, Closed, Through, Direct, Moving, Cell, Fate, Flying}
+use Rattle.streams.specs.Model.{Lost, Landed, Here, Info, alter}
 use Rattle.streams.specs.Model.{hd, tl, pop, push, pushAll, cellsOf}
 use Rattle.streams.specs.Events.{Cursor, Idle, At, Ghost, next}
 use Rattle.streams.specs.Demand.{Names, tokensOf}

@@ -104,7 +104,7 @@ abbrev none : Call → Bool
 none c = false
 
 module _ (n : ℕ) (some : 1 ≤ n) (few : n ≤ nodes) where
-  pub refuses-all : (cs : List Call) → Demand3 (seenOf none (No (number Unsound)) n cs .books) (seenOf none (No (number Unsound)) n cs .misread)
+  pub refuses-all : (cs : List Call) → let s = seenOf none (No (number Unsound)) n cs in Demand3 (s .books) (s .misread)
   refuses-all = let-by none (No (number Unsound)) n some few unwritten unnoted
     where
       unwritten : (o : Notes) (w : World) (c : Call) (k : Books) → none c ≡ false → write o w c (No (number Unsound)) k ≡ k

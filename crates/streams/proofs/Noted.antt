@@ -64,8 +64,9 @@ use Rattle.streams.proofs.Basics.{alter-hit, alter-same, alter-miss, ea
 use Rattle.streams.proofs.Sendings.{putsAt, Unmarked}
 use Rattle.streams.proofs.Handings.{handsAt}
 use Rattle.streams.proofs.Indoors.{Indoors, indoors-all, indoors-then, indoors-set, indoors-pushed, indoors-pushedAll}
-use Rattle.streams.proofs.Indoors.{indoors-took, indoors-stripped, indoors-crosses, indoors-claimed, indoors-opens, indoors-closesChannel}
-use Rattle.streams.proofs.Indoors.{indoors-closesOut, indoors-dropped, indoors-obeyed, heldIn, long-took, held-took}
+use Rattle.streams.proofs.Indoors.{indoors-took, indoors-stripped, indoors-crosses, indoors-claimed, indoors-opens}
+use Rattle.streams.proofs.Indoors.{indoors-closesChannel, indoors-closesOut, indoors-dropped, indoors-obeyed}
+use Rattle.streams.proofs.Indoors.{heldIn, long-took, held-took}
 use Rattle.streams.proofs.Indoors.{handed-held, handed-long, door-off}
 use Rattle.streams.proofs.Calls.{obeyEvents, stepEvents, outputEvents, isFresh, madeEvents}
 use Rattle.streams.proofs.Filling.{Fills, obey-fills, fills-unmarked, fills-hands, fills-puts}
@@ -290,7 +291,8 @@ module _ (w : World) (n c : ℕ) (x : Token) (o : Notes) where
       let hs = words (headerOf g (widthAt (w .net) n)) in
       let y = pushedAll w n q hs in
       let u = indoors-then (indoors-pushedAll hs w n q) (indoors-pushed y n q t) in
-      told-by _ _ (record { aims = u .aims; buffers = u .buffers; units = u .units }) (tt, (unmarked-word x, tt)) (λ d. append-nil _) (λ d. refl)
+      told-by _ _ (record { aims = u .aims; buffers = u .buffers; units = u .units })
+      (tt, (unmarked-word x, tt)) (λ d. append-nil _) (λ d. refl)
   output-told hc (Chosen.behind p goes room) e f =
       let u = indoors-pushed w n p t in
       told-by _ _ (record { aims = u .aims; buffers = u .buffers; units = u .units }) (unmarked-word x, tt) (λ d. append-nil _) (λ d. refl)

@@ -21,7 +21,8 @@ use Rattle.streams.specs.Model.{hd, tl}
 use Rattle.streams.specs.Events.{Takes, Lands, Refuses, Enters, Arrives, Hands, Loses, Idle, At, Ghost, next, headTo, effect, note}
 use Rattle.streams.specs.Events.{Ok}
 use Rattle.streams.specs.Demand.{Names}
-use Rattle.streams.proofs.Basics.{alter-hit, alter-same, alter-miss, alter-all, at-or, via-same, by-same, at-same, landed-same, nobody-by}
+use Rattle.streams.proofs.Basics.{alter-hit, alter-same, alter-miss, alter-all, at-or, via-same}
+use Rattle.streams.proofs.Basics.{by-same, at-same, landed-same, nobody-by}
 use Rattle.streams.proofs.Basics.{Fits, fits-norm, norm-next, after-closed, after-open, heads, HeadOf, head-or, ind, headTo-hit}
 use Rattle.streams.proofs.Basics.{headTo-other, heads-at, heads-pop, heads-push, Ran, run-off}
 use Rattle.streams.proofs.Headers.{size-pos, same-header, read-back, body-step, body-none}

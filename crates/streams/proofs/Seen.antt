@@ -114,4 +114,5 @@ module _ (link : ℕ → Bool) (m : Machine link) (o : Observer link m) (r : Rea
       → P (reached link m cs) (sighted cs .books) (sighted cs .notes)
   so-tied P h cs =
       let all = same cs in
-      rw (all .is) (h (reached link m cs) (watched link m cs) (all .notes) (always link m cs (m .fresh) blank (fresh-good link m)) (all .tied))
+      let good = always link m cs (m .fresh) blank (fresh-good link m) in
+      rw (all .is) (h (reached link m cs) (watched link m cs) (all .notes) good (all .tied))
