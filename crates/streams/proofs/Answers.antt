@@ -6,7 +6,8 @@ use mathlib.Core.Bool.{true, false, not}
 use mathlib.Core.List.{List}
 use native.Mathlib.Omega.{arith}
 use lib.Dec.{eqb}
-use borrow.Author.Tests.{eqb-true, eqb-false, not-false, not-true}
+use lib.ListN.{getD}
+use borrow.Author.Tests.{eq-eqb, eqb-true, eqb-false, not-false, not-true}
 use Rattle.laws.specs.Pick.{pick}
 use Rattle.laws.proofs.All.{also, below, as-is}
 use Rattle.laws.proofs.Order.{by-test, clash, never}
@@ -38,7 +39,7 @@ use Rattle.switch.specs.Step.{portAt, stepPerformed}
 use Rattle.bench.specs.Calls.{Call, Input, Step, rows, apply}
 use Rattle.bench.specs.Writes.{hopClosed}
 use Rattle.bench.specs.Runs.{run}
-use Rattle.bench.proofs.Lasts.{run-keeps, fresh-keeps}
+use Rattle.bench.proofs.Lasts.{boards, run-keeps, fresh-keeps}
 use Rattle.kept.specs.Kept.{Kept}
 use Rattle.kept.proofs.Parts.{kept-sound}
 use Rattle.kept.proofs.Calls.{step-there}
@@ -115,6 +116,15 @@ not-pause : (t : ℕ) → t < 0x1C2 → eqb t (controlWord pause) ≡ false → 
 not-pause t small other control value =
     eqb-false t (controlWord pause) other (let c = eqb-true (t / 256 % 2) 1 control in omega (arith, small, c, value))
 
+-- the i-th token that a channel-end holds
+module _ (w : World) (k : Kept w) (n e : ℕ) (hn : n < w .net .nodes) (he : e < ends) where
+  pub held-legal : (i : ℕ) → i < w .net .ends .buffers n e .held
+      → (getD (w .net .ends .buffers n e .tokens) i 0 < 0x1C2) × (eqb (getD (w .net .ends .buffers n e .tokens) i 0) (controlWord pause) ≡ false)
+  held-legal i l =
+      let x = getD (w .net .ends .buffers n e .tokens) i 0 in
+      let parts = also (below x 0x1C2) (also (as-is (not (eqb x (controlWord pause)))) (as-is true)) .sure (k .buffers n e hn he .1 i l) in
+      (parts .0, not-true _ (parts .1 .0))
+
 pub input-answers : (w : World) → Kept w → (a : Slot) (c : ℕ) → apply w (Input a c Control) .answer ≡ Token pause → ⊥
 unfolding apply
 input-answers w k a c =
@@ -124,10 +134,8 @@ input-answers w k a c =
     let there = also (below (a .0) (w .net .nodes)) (below c ends) .sure (not-false _ ok) in
     let b = w .net .ends .buffers (a .0) c in
     let held = eqb-false (b .held) 0 some in
-    let legal = k .buffers (a .0) c (there .0) (there .1) .1 0 (omega arith) in
-    let x = firstHeld b in
-    let parts = also (below x 0x1C2) (also (as-is (not (eqb x (controlWord pause)))) (as-is true)) .sure legal in
-    rw t (λ e. not-pause x (parts .0) (not-true _ (parts .1 .0)) (not-false _ wanted) (cc)))
+    let legal = held-legal w k (a .0) c (there .0) (there .1) 0 (omega arith) in
+    rw t (λ e. not-pause (firstHeld b) (legal .0) (legal .1) (not-false _ wanted) (cc)))
     (λ t. rw t (λ e. never (cc)))
 
 -- of every state of every run
@@ -138,6 +146,16 @@ module _ (n : ℕ) (some : 1 ≤ n) (few : n ≤ nodes) (cs : List Call) where
   -- "no Input of any run answers control 2"
   pub never-pause : (a : Slot) (c : ℕ) → apply (run (freshWorld n) cs .last) (Input a c Control) .answer ≡ Token pause → ⊥
   never-pause = input-answers (run (freshWorld n) cs .last) kept
+
+  -- "PAUSE is never stored in a channel-end"
+  pub never-held : (m e i : ℕ) → m < n → e < ends
+      → i < run (freshWorld n) cs .last .net .ends .buffers m e .held
+      → getD (run (freshWorld n) cs .last .net .ends .buffers m e .tokens) i 0 ≡ controlWord pause
+      → ⊥
+  never-held m e i hm he l z =
+      let w = run (freshWorld n) cs .last in
+      let other = held-legal w kept m e (rw (boards n cs) hm) he i l .1 in
+      clash (sym (eq-eqb (getD (w .net .ends .buffers m e .tokens) i 0) (controlWord pause) z) ∙ other)
 
   pub always-splits : (a : Slot) (p : ℕ)
       → (apply (run (freshWorld n) cs .last) (Step a p) .answer ≡ Refused Split → misread (run (freshWorld n) cs .last) (a .0) p ≡ true)
