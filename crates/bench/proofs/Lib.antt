@@ -10,3 +10,4 @@ pub mod Lasts
 pub mod Computed
 pub mod Example
 pub mod Runs
+pub mod Published

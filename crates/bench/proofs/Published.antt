@@ -1,0 +1,47 @@
+-- WHAT A PRODUCT ABOVE THE BENCH MAY REST ON: every statement of the bench by its name, and no other. A later crate imports this page and
+-- nothing below it. Each call's contract (bench/src/lib.rt) is one equation, for all arguments and any two memories lent:
+--     out answer (world state' memory') ≡ apply (world state memory) CALL
+
+-- THE STATEMENTS' WORDS
+-- a world is the state as tables and the token memory; `world` reads it off two lent slices
+pub use Rattle.cells.specs.World.{World, world}
+pub use Rattle.cells.specs.Fresh.{freshWorld}
+-- calls with their arguments; when each is refused, what it makes, and both together; a list of calls, each on what the one before left
+pub use Rattle.bench.specs.Calls.{Call, rows, made, apply}
+pub use Rattle.bench.specs.Runs.{Ran, run}
+-- what comes of a call; the paper's numbers for no and values
+pub use Rattle.answers.specs.Out.{Out, out}
+pub use Rattle.answers.specs.Answer.{numberOf}
+pub use Rattle.names.specs.No.{No, number, passes}
+-- Sound, the ties that make it last, and both by parts
+pub use Rattle.sound.specs.Sound.{sound, tight, quiet}
+pub use Rattle.kept.specs.Kept.{Kept}
+pub use Rattle.kept.proofs.Parts.{sound-kept, kept-sound}
+
+-- OVER EVERY CALL
+-- two results that meet a call's statement are equal, word for word
+pub use Rattle.bench.proofs.Applied.{one-result}
+-- the number is that of the first row that holds; each is given exactly under its condition; the rows rise, Fresh's two excepted
+pub use Rattle.bench.proofs.Applied.{numbered, exactly, accepted, in-order}
+-- "A refused call returns its number and changes nothing"
+pub use Rattle.bench.proofs.Applied.{refused-changes-nothing}
+-- "A Waiting or Idle step changes nothing either."
+pub use Rattle.bench.proofs.Waits.{waits-change-nothing}
+-- what a Fresh leaves that is not refused
+pub use Rattle.bench.proofs.Started.{started, started-sound, started-tight, started-quiet}
+-- each number of each call, its condition spelt out
+pub use Rattle.bench.proofs.Numbers.{Refused, fresh-no-such, fresh-unsound, wire-unsound, wire-no-such, wire-value, wire-busy}
+pub use Rattle.bench.proofs.Numbers.{set-unsound, set-no-such, set-value, set-busy, aim-unsound, aim-no-such, aim-value, aim-open}
+pub use Rattle.bench.proofs.Numbers.{output-unsound, output-no-such, output-unaimed, output-hardware, output-privileged}
+pub use Rattle.bench.proofs.Numbers.{output-narrow, output-full, input-unsound, input-no-such, input-empty, input-trap}
+pub use Rattle.bench.proofs.Numbers.{step-unsound, step-no-such}
+-- a write by switch message is the same Sets made by call, or nothing; the Step that ends the message is those Sets and the reply
+pub use Rattle.bench.proofs.Written.{none-refused, writes-as-sets, call-writes, call-refuses}
+
+-- OVER EVERY RUN
+-- what is kept is kept; no call changes how many boards there are; from Fresh on no call is Unsound but a Fresh of another number
+pub use Rattle.bench.specs.Lasts.{OtherBoards, NeverUnsound, Throughout}
+pub use Rattle.bench.proofs.Lasts.{call-keeps, run-keeps, fresh-keeps, call-boards, run-boards, boards}
+pub use Rattle.bench.proofs.Lasts.{always-sound, never-unsound, since-fresh}
+-- what holds of every link of every state: room, silence while disabled, nobody's while disabled, disabling once more
+pub use Rattle.bench.proofs.Lasts.{always-room, always-silent, always-unused, always-disabled}
