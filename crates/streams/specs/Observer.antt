@@ -1,6 +1,6 @@
--- THE OBSERVER: what a person beside the bench writes down of each call, who sees the state before it, the call and its answer, and nothing
--- else: no plan, no event, nothing that a header says. Document 01 is all that he knows: an Output that is done opens a circuit where the
--- channel-end had none, within the node or through the lowest free port; a Step that answers Moved takes the port's first word.
+-- THE OBSERVER: what a person beside the bench writes down of each call, who sees the state before it, the call and its answer, and has his
+-- own notes: no plan, no event, nothing that a header says. Document 01 is all that he knows: an Output that is done opens a circuit where
+-- the channel-end had none, within the node or through the lowest free port; a Step that answers Moved takes the port's first word.
 use Prim.Native.Nat.{ℕ, suc}
 use mathlib.Core.Bool.{Bool, true, false, not, _&&_}
 use mathlib.Core.List.{List, [], _∷_, _++_}
