@@ -3,3 +3,5 @@ pub mod There
 pub mod Carried
 pub mod Possibles
 pub mod Sent
+pub mod Refusals
+pub mod Lawful

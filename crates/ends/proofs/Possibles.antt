@@ -43,11 +43,11 @@ use Rattle.ends.proofs.There.{is-there}
 one-not-two : {a : ℕ} → a ≡ 1 → a ≡ 2 → ⊥
 one-not-two e f = omega arith
 
-tile-there : (p : ℕ) → tilePort p ≡ true → p < ports
+pub tile-there : (p : ℕ) → tilePort p ≡ true → p < ports
 tile-there p e = let z = also (as-is (leb firstTilePort p)) (below p replyPort) .sure e in omega (arith, z .1)
 
 -- a channel that can be named is the sink, or is there
-legal-door : (d : ℕ) → legalChannel d ≡ true → Door d
+pub legal-door : (d : ℕ) → legalChannel d ≡ true → Door d
 legal-door d l = ⊎-elim (λ h. inr (omega arith)) (λ h. inl h) (legal-channel d .sure l)
 
 module _ (w : World) (n c t : ℕ) (g : Target) (s : Sends w n c g) where
@@ -106,7 +106,7 @@ module _ (w : World) (n c t : ℕ) (g : Target) (s : Sends w n c g) where
   peer-possible (Peers.End d) h l = straight-possible d (either (equal d sink) (below d ends) .sure h)
 
   -- a channel-end that is open goes where it can go
-  opened : openBy (w .net) n (peerOf (w .net .ends .sendings n c)) ≡ true
+  pub opened : openBy (w .net) n (peerOf (w .net .ends .sendings n c)) ≡ true
   opened =
       by-test (eqb (w .net .ends .sendings n c .kind) 0)
       (λ e. rw (eqb-true (w .net .ends .sendings n c .kind) 0 e))
@@ -118,7 +118,7 @@ module _ (w : World) (n c t : ℕ) (g : Target) (s : Sends w n c g) where
   aim-facts : AimFacts (w .net .ends .aims n c)
   aim-facts = ⊎-elim (λ z. absurd (s .aimed z)) (λ f. f) (end-facts w (s .all) n (s .node) c (s .end) .aim)
 
-  legal : legalTarget g ≡ true
+  pub legal : legalTarget g ≡ true
   legal =
       rw (s .target) (by-test (eqb (w .net .ends .aims n c .kind) 1)
       (λ e. rw e (⊎-elim (λ z. absurd (one-not-two (eqb-true _ _ e) z)) (λ z. z .1) (aim-facts .place)))

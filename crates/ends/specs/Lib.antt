@@ -4,4 +4,5 @@ pub mod Aim
 pub mod Input
 pub mod Plan
 pub mod Output
+pub mod Refusals
 pub mod Needs
