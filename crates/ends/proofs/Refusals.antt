@@ -71,7 +71,7 @@ of-nobody k l e =
     few : (a : ℕ) → a ≤ 2 → (a ≡ 1 → ⊥) → (a ≡ 2 → ⊥) → a ≡ 0
     few a l x y = omega arith
 
-of-port : (k : Circuit) (p : ℕ) → peerOf k ≡ Peers.Port p → (k .kind ≡ 1) × (k .index ≡ p)
+pub of-port : (k : Circuit) (p : ℕ) → peerOf k ≡ Peers.Port p → (k .kind ≡ 1) × (k .index ≡ p)
 of-port k p e =
     by-test (eqb (k .kind) 1)
     (λ f. (eqb-true _ _ f, let z : Peers.Port (k .index) ≡ Peers.Port p = rw f at e in cc))
@@ -79,7 +79,7 @@ of-port k p e =
     (λ g. never (let z : Peers.End (k .index) ≡ Peers.Port p = rw (f, g) at e in cc))
     (λ g. never (let z : Peers.Nobody ≡ Peers.Port p = rw (f, g) at e in cc)))
 
-of-end : (k : Circuit) (d : ℕ) → peerOf k ≡ Peers.End d → (k .kind ≡ 2) × (k .index ≡ d)
+pub of-end : (k : Circuit) (d : ℕ) → peerOf k ≡ Peers.End d → (k .kind ≡ 2) × (k .index ≡ d)
 of-end k d e =
     by-test (eqb (k .kind) 1)
     (λ f. never (let z : Peers.Port (k .index) ≡ Peers.End d = rw f at e in cc))
@@ -198,7 +198,8 @@ module _ (w : World) (n c t : ℕ) (g : Target) (s : Sends w n c g) where
   peer-narrow : (x : Peer) → peerOf (w .net .ends .sendings n c) ≡ x
       → isNarrowPlan (byPeer (w .net) n x g t) ≡ (not (isOpen (w .net) n c) && narrow (widthAt (w .net) n) g)
   peer-narrow Peers.Nobody e = rw (is-shut e) open-narrow
-  peer-narrow (Peers.Port p) e = rw (by-port p e) (not-narrow-by (leb capacity (w .net .ports .counters n p .held)) Full (Behind p) refl refl)
+  peer-narrow (Peers.Port p) e =
+      rw (by-port p e) (not-narrow-by (leb capacity (w .net .ports .counters n p .held)) Full (Behind p) refl refl)
   peer-narrow (Peers.End d) e = rw (by-end d e) (straight-wide d)
 
   pub narrow-plan : isNarrowPlan (outputPlan (w .net) n c g t) ≡ opensNarrow (w .net) n c
