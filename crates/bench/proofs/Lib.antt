@@ -5,6 +5,8 @@ pub mod Numbers
 pub mod Cabled
 pub mod Started
 pub mod Waits
+pub mod Untouched
+pub mod Frees
 pub mod Written
 pub mod Lasts
 pub mod Computed

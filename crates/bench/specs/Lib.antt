@@ -3,3 +3,4 @@ pub mod Calls
 pub mod Runs
 pub mod Lasts
 pub mod Writes
+pub mod Frees
