@@ -7,6 +7,7 @@ pub mod Started
 pub mod Waits
 pub mod Untouched
 pub mod Frees
+pub mod Stays
 pub mod Written
 pub mod Lasts
 pub mod Computed

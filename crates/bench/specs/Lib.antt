@@ -4,3 +4,4 @@ pub mod Runs
 pub mod Lasts
 pub mod Writes
 pub mod Frees
+pub mod Stays
