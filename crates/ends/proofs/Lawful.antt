@@ -2,20 +2,23 @@
 -- control unit Output passes exactly the tokens whose word is legal past a header, and towards a channel those but the two commands WRITEC
 -- and READC. Channel-ends and control units hold the same words, but for those that they do not keep. Assumes nothing.
 use Prim.Native.Nat.{ℕ, _-_, _<_, _≤_}
-use mathlib.Core.Path.{_≡_, refl, sym, _∙_}
+use mathlib.Core.Path.{_≡_, refl, sym, ap, _∙_}
 use mathlib.Core.Bool.{Bool, true, false, not, _&&_, _||_, and-true}
 use mathlib.Core.Logic.{inl, inr, ⊎-elim}
 use native.Mathlib.Omega.{arith}
 use lib.Dec.{eqb, ltb}
-use borrow.Author.Tests.{lt-ltb, le-ltb, ne-eqb}
+use borrow.Author.Tests.{lt-ltb, le-ltb, ltb-true, eq-eqb, ne-eqb, eqb-true}
 use Rattle.laws.specs.Pick.{pick}
+use Rattle.laws.specs.All.{Means}
 use Rattle.laws.proofs.All.{either, equal}
 use Rattle.laws.proofs.Order.{by-test, order, clash}
 use Rattle.names.specs.No.{passes}
+use Rattle.names.specs.declared.NodeNumber.{NodeNumber}
 use Rattle.tokens.specs.Control.{end, pause, writec, readc, ssctrl, outputNo}
 use Rattle.tokens.specs.Word.{controlWord, dataWord, closes, isPause}
 use Rattle.tokens.specs.Shape.{legalChannel, threeShape, shapeOf}
 use Rattle.tokens.specs.declared.header.Target.{Target}
+use Rattle.tokens.specs.declared.header.Target.the-variants.{Unit}
 use Rattle.grammar.specs.Stage.{isBad, nextStage}
 use Rattle.grammar.specs.declared.stage.Stage.the-variants.{Body}
 use Rattle.clauses.specs.Contents.{legalWord}
@@ -119,6 +122,34 @@ module _ (v : ℕ) (fits : v < 256) (u : Bool) where
 pub output-legal : (x : Token) (g : Target) → eqb (tokenNo x g) passes ≡ (pastHeader (wordOf x) && (isUnit g || not (isOrder x)))
 output-legal (Data v) g = rw (legal-below (dataWord (byteOf v)) (omega arith), or-true (isUnit g))
 output-legal (Control v) g = control-legal (byteOf v) (omega arith) (isUnit g)
+
+-- ONE SET: a word may stand past a header exactly when it is the word of a token that Output lets out towards a control unit
+pub record LetOut (t : ℕ) : Type 0 where
+  pub token : Token
+  pub word : wordOf token ≡ t
+  pub lets : (m : NodeNumber) → tokenNo token (Unit m) ≡ passes
+
+let-out : (x : Token) (t : ℕ) → wordOf x ≡ t → pastHeader t ≡ true → LetOut t
+let-out x t e legal =
+    record {
+      token = x;
+      word = e;
+      lets = λ m. eqb-true (tokenNo x (Unit m)) passes
+          (output-legal x (Unit m) ∙ and-true (pastHeader (wordOf x)) ∙ ap (λ (y : ℕ). pastHeader y) e ∙ legal);
+    }
+
+pub legal-let-out : (t : ℕ) → Means (pastHeader t) (LetOut t)
+legal-let-out t =
+    record {
+      sure = λ legal.
+          let small : t < 0x1C2 = ltb-true t 0x1C2 (sym (past-header t) ∙ legal) in
+          ⊎-elim (λ l. let-out (Data t) t (omega arith) legal) (λ l. let-out (Control (t - 0x100)) t (omega arith) legal) (order t 0x100);
+      back = λ z.
+          let m : NodeNumber = record { 0 = 0 } in
+          ap (λ (y : ℕ). pastHeader y) (sym (z .word))
+          ∙ sym (output-legal (z .token) (Unit m) ∙ and-true (pastHeader (wordOf (z .token))))
+          ∙ eq-eqb (tokenNo (z .token) (Unit m)) passes (z .lets m);
+    }
 
 -- HELD: a channel-end holds what may stand past a header, but PAUSE; a control unit has heard the same, but END and PAUSE
 pub held-legal : (t : ℕ) → legalWord true t ≡ (pastHeader t && not (isPause t))

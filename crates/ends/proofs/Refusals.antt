@@ -71,7 +71,7 @@ of-nobody k l e =
     few : (a : ℕ) → a ≤ 2 → (a ≡ 1 → ⊥) → (a ≡ 2 → ⊥) → a ≡ 0
     few a l x y = omega arith
 
-pub of-port : (k : Circuit) (p : ℕ) → peerOf k ≡ Peers.Port p → (k .kind ≡ 1) × (k .index ≡ p)
+of-port : (k : Circuit) (p : ℕ) → peerOf k ≡ Peers.Port p → (k .kind ≡ 1) × (k .index ≡ p)
 of-port k p e =
     by-test (eqb (k .kind) 1)
     (λ f. (eqb-true _ _ f, let z : Peers.Port (k .index) ≡ Peers.Port p = rw f at e in cc))
@@ -79,7 +79,7 @@ of-port k p e =
     (λ g. never (let z : Peers.End (k .index) ≡ Peers.Port p = rw (f, g) at e in cc))
     (λ g. never (let z : Peers.Nobody ≡ Peers.Port p = rw (f, g) at e in cc)))
 
-pub of-end : (k : Circuit) (d : ℕ) → peerOf k ≡ Peers.End d → (k .kind ≡ 2) × (k .index ≡ d)
+of-end : (k : Circuit) (d : ℕ) → peerOf k ≡ Peers.End d → (k .kind ≡ 2) × (k .index ≡ d)
 of-end k d e =
     by-test (eqb (k .kind) 1)
     (λ f. never (let z : Peers.Port (k .index) ≡ Peers.End d = rw f at e in cc))
