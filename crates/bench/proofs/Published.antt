@@ -17,7 +17,6 @@ pub use Rattle.names.specs.No.{No, number, passes}
 pub use Rattle.sound.specs.Sound.{sound, tight, quiet}
 pub use Rattle.kept.specs.Kept.{Kept}
 pub use Rattle.kept.proofs.Parts.{sound-kept, kept-sound}
-
 -- OVER EVERY CALL
 -- two results that meet a call's statement are equal, word for word
 pub use Rattle.bench.proofs.Applied.{one-result}
@@ -37,7 +36,6 @@ pub use Rattle.bench.proofs.Numbers.{output-narrow, output-full, input-
 pub use Rattle.bench.proofs.Numbers.{step-unsound, step-no-such}
 -- a write by switch message is the same Sets made by call, or nothing; the Step that ends the message is those Sets and the reply
 pub use Rattle.bench.proofs.Written.{none-refused, writes-as-sets, call-writes, call-refuses}
-
 -- OVER EVERY RUN
 -- what is kept is kept; no call changes how many boards there are; from Fresh on no call is Unsound but a Fresh of another number
 pub use Rattle.bench.specs.Lasts.{OtherBoards, NeverUnsound, Throughout}

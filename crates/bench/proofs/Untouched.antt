@@ -85,7 +85,7 @@ module _ {A : Type 0} (f : Net → A) (u : Untouched f) where
       ∙ all-leave (said x) (pushedAll w n replyPort (words h)) n replyPort
       ∙ all-leave (words h) w n replyPort))
 
-  obeyed-leaves : (w : World) (n : ℕ) (m : Message) → f (obeyed w n m .next .net) ≡ f (w .net)
+  pub obeyed-leaves : (w : World) (n : ℕ) (m : Message) → f (obeyed w n m .next .net) ≡ f (w .net)
   obeyed-leaves w n Malformed = refl
   obeyed-leaves w n (Wrong g) = answer-leaves w n g Nack
   obeyed-leaves w n (Read g r) = answer-leaves w n g (Value (readOf (w .net) n r))

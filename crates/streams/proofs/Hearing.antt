@@ -370,7 +370,7 @@ module _ (w : World) (k : Kept w) (g : Ghost) (iv : Inv isLink (moving w) g) whe
     output-units Sent.Full = refl
     output-units (Sent.Opens p) =
         let hs = words (headerOf goal (widthAt (w .net) n)) in
-        indoors-then (indoors-pushedAll hs w n p) (indoors-pushed (pushedAll w n p hs) n p t) .units
+        indoors-then (indoors-pushedAll w n p hs) (indoors-pushed (pushedAll w n p hs) n p t) .units
     output-units (Sent.Behind p) = indoors-pushed w n p t .units
     output-units (Sent.Straight d) =
         let z = handed (w .net) n d t in

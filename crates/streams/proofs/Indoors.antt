@@ -15,37 +15,25 @@ use Rattle.laws.specs.Table as Two
 use Rattle.laws.proofs.Row.{length-tab, getD-tab}
 use Rattle.laws.proofs.Table.{upd-all}
 use Rattle.laws.proofs.Order.{by-test, clash}
-use Rattle.names.specs.Size.{ends, endBuffer, unitBuffer, sink, replyPort}
+use Rattle.names.specs.Size.{ends, endBuffer, unitBuffer, sink}
 use Rattle.circuits.specs.declared.Peer.{Peer}
 use Rattle.circuits.specs.declared.Peer.the-variants as Peers
-use Rattle.tokens.specs.Control.{end}
-use Rattle.tokens.specs.Word.{closes, isPause, controlWord}
-use Rattle.tokens.specs.Header.{headerOf, words, isNarrow}
-use Rattle.tokens.specs.declared.header.Target.{Target}
+use Rattle.tokens.specs.Word.{closes, isPause}
 use Rattle.tokens.specs.declared.header.Width.{Width}
-use Rattle.tokens.specs.declared.header.Width.the-variants.{One, Three}
-use Rattle.cells.specs.View.{Net}
-use Rattle.cells.specs.World.{World, farOf}
+use Rattle.cells.specs.View.{Net, UnitTables}
+use Rattle.cells.specs.World.{World}
+use Rattle.cells.specs.declared.end.Aim.{Aim}
 use Rattle.cells.specs.declared.end.Buffer.{Buffer}
-use Rattle.cells.specs.declared.link.Far.{Far}
-use Rattle.cells.specs.declared.link.Far.the-variants.{Nowhere, At}
 use Rattle.cells.specs.declared.unit.Hearing.{Hearing}
-use Rattle.acts.specs.Acts.{withNet, widthAt, pushed, pushedAll, popped, shut, tiledTo, claimedBy, bufferAfter}
+use Rattle.acts.specs.Acts.{pushed, pushedAll, shut, tiledTo, claimedBy, bufferAfter}
 use Rattle.acts.specs.Acts.{handed}
 use Rattle.acts.specs.Needs.{Given}
-use Rattle.grants.specs.Grants.{considered}
 use Rattle.settings.proofs.Leaves.{Leaves}
-use Rattle.messages.specs.Register.{fieldsOf, readOf}
 use Rattle.messages.specs.Heard.{hearsWord}
-use Rattle.messages.specs.Write.{accepted, written}
-use Rattle.messages.specs.Ended.{said, replySent, obeyed}
+use Rattle.messages.specs.Ended.{obeyed}
 use Rattle.messages.specs.declared.heard.Message.{Message}
-use Rattle.messages.specs.declared.heard.Message.the-variants.{Malformed, Wrong, Read, Write}
-use Rattle.messages.specs.declared.reply.Reply.{Reply}
-use Rattle.messages.specs.declared.reply.Reply.the-variants.{Nack, Ack, Value}
-use Rattle.messages.proofs.Writes.{write-leaves}
-use Rattle.moves.specs.Moves.{took, stripped, opensChannel, closesOut, closesChannel, closesDropped, arrives, crosses}
-use Rattle.kept.proofs.Money.{up-leaves}
+use Rattle.moves.specs.Moves.{took, stripped, opensChannel, closesOut, closesChannel, closesDropped, crosses}
+use Rattle.bench.proofs.Untouched.{Untouched, put-leaves, all-leave, took-leaves, strip-leaves, cross-leaves, obeyed-leaves}
 use Rattle.ends.specs.Input.{firstHeld, tookFirst}
 use Rattle.streams.specs.Model.{keeps, ToChannel, doorNo, endAt, sinkDoor}
 
@@ -66,47 +54,44 @@ pub indoors-pick : (b : Bool) {s x y : Net} → Indoors s x → Indoors s y → 
 indoors-pick true h k = h
 indoors-pick false h k = k
 
-pub indoors-as : {s z : Net} → z ≡ s → Indoors s z
-indoors-as e =
-    record {
-      aims = ap (λ (x : Net). x .ends .aims) e;
-      buffers = ap (λ (x : Net). x .ends .buffers) e;
-      units = ap (λ (x : Net). x .units) e;
-    }
-
 pub indoors-set : {s z : Net} → Leaves s z → Indoors s z
 indoors-set l =
     record { aims = ap (λ t. t .aims) (l .ends); buffers = ap (λ t. t .buffers) (l .ends); units = l .units }
 
--- TOKENS PUT AND TAKEN
-pub indoors-pushed : (w : World) (n p t : ℕ) → Indoors (w .net) (pushed w n p t .net)
-unfolding pushed
-indoors-pushed w n p t = record { aims = refl; buffers = refl; units = refl }
+-- TOKENS PUT AND TAKEN, AND A MESSAGE AT ITS END: nothing indoors hangs on what ports hold or on credits, and no Set changes it
+record Inside : Type 0 where
+  aims : ℕ → ℕ → Aim
+  buffers : ℕ → ℕ → Buffer
+  units : UnitTables
 
-pub indoors-pushedAll : (ts : List ℕ) (w : World) (n p : ℕ) → Indoors (w .net) (pushedAll w n p ts .net)
-indoors-pushedAll [] w n p = indoors-all (w .net)
-indoors-pushedAll (t ∷ ts) w n p = indoors-then (indoors-pushed w n p t) (indoors-pushedAll ts (pushed w n p t) n p)
+abbrev inside : Net → Inside
+inside s = record { aims = s .ends .aims; buffers = s .ends .buffers; units = s .units }
 
-pub indoors-took : (w : World) (n p : ℕ) → Indoors (w .net) (took w n p .net)
-unfolding took popped
-indoors-took w n p =
-    let u = indoors-as (up-leaves (popped w n p .net) n p) in
-    record { aims = u .aims; buffers = u .buffers; units = u .units }
+inside-untouched : Untouched inside
+inside-untouched =
+    record { counters = λ s n p q. refl; flows = λ s n l k. refl; settings = λ s z v. rw (v .ends, v .units) }
 
-pub indoors-stripped : (w : World) (n p : ℕ) (x : Width) → Indoors (w .net) (stripped w n p x .net)
-indoors-stripped w n p One = indoors-took w n p
-indoors-stripped w n p Three =
-    indoors-then (indoors-took w n p) (indoors-then (indoors-took (took w n p) n p) (indoors-took (took (took w n p) n p) n p))
+by-inside : {s z : Net} → inside z ≡ inside s → Indoors s z
+by-inside e = record { aims = ap (λ (i : Inside). i .aims) e; buffers = ap (λ (i : Inside). i .buffers) e; units = ap (λ (i : Inside). i .units) e }
 
-pub indoors-crosses : (w : World) (n l x : ℕ) → Indoors (w .net) (crosses w n l x .net)
-unfolding crosses considered
-indoors-crosses w n l x =
-    let z = there (farOf (w .net .links .cables n l)) in
-    record { aims = z .aims; buffers = z .buffers; units = z .units }
-  where
-    there : (f : Far) → Indoors (w .net) (arrives w f x .net)
-    there Nowhere = indoors-all (w .net)
-    there (At m j) = indoors-pushed w (m .0) j x
+module _ (w : World) (n p : ℕ) where
+  pub indoors-pushed : (t : ℕ) → Indoors (w .net) (pushed w n p t .net)
+  indoors-pushed t = by-inside (put-leaves inside inside-untouched w n p t)
+
+  pub indoors-pushedAll : (ts : List ℕ) → Indoors (w .net) (pushedAll w n p ts .net)
+  indoors-pushedAll ts = by-inside (all-leave inside inside-untouched ts w n p)
+
+  pub indoors-took : Indoors (w .net) (took w n p .net)
+  indoors-took = by-inside (took-leaves inside inside-untouched w n p)
+
+  pub indoors-stripped : (x : Width) → Indoors (w .net) (stripped w n p x .net)
+  indoors-stripped x = by-inside (strip-leaves inside inside-untouched w n p x)
+
+  pub indoors-crosses : (x : ℕ) → Indoors (w .net) (crosses w n p x .net)
+  indoors-crosses x = by-inside (cross-leaves inside inside-untouched w n p x)
+
+pub indoors-obeyed : (w : World) (n : ℕ) (m : Message) → Indoors (w .net) (obeyed w n m .next .net)
+indoors-obeyed w n m = by-inside (obeyed-leaves inside inside-untouched w n m)
 
 -- CIRCUITS
 module _ (s : Net) (n p : ℕ) where
@@ -133,26 +118,6 @@ module _ (s : Net) (n p : ℕ) where
     where
       of-claim : (z : Net) (c : ℕ) → Indoors z (claimedBy z n c Peers.Nobody)
       of-claim z c = indoors-pick (eqb c sink) (indoors-all z) (record { aims = refl; buffers = refl; units = refl })
-
--- A MESSAGE AT ITS END
-indoors-reply : (w : World) (n : ℕ) (g : Target) (x : Reply) → Indoors (w .net) (replySent w n g x .next .net)
-indoors-reply w n g x =
-    let ws = words (headerOf g (widthAt (w .net) n)) in
-    let y = pushedAll w n replyPort ws in
-    let z = pushedAll y n replyPort (said x) in
-    by-test (isNarrow (headerOf g (widthAt (w .net) n)))
-    (λ e. rw e (indoors-all (w .net)))
-    (λ e. rw e (indoors-then (indoors-pushedAll ws w n replyPort)
-    (indoors-then (indoors-pushedAll (said x) y n replyPort) (indoors-pushed z n replyPort (controlWord end)))))
-
-pub indoors-obeyed : (w : World) (n : ℕ) (m : Message) → Indoors (w .net) (obeyed w n m .next .net)
-indoors-obeyed w n Malformed = indoors-all (w .net)
-indoors-obeyed w n (Wrong g) = indoors-reply w n g Nack
-indoors-obeyed w n (Read g r) = indoors-reply w n g (Value (readOf (w .net) n r))
-indoors-obeyed w n (Write g r v) =
-    let xs = fieldsOf r v in
-    indoors-then (indoors-set (write-leaves (w .net) n xs))
-    (indoors-reply (withNet w (written (w .net) n xs)) n g (pick (accepted (w .net) n xs) Ack Nack))
 
 -- BUFFERS
 abbrev pub heldIn : Buffer → List ℕ

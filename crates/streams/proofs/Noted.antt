@@ -290,7 +290,7 @@ module _ (w : World) (n c : ℕ) (x : Token) (o : Notes) where
       let g = targetOf (w .net .ends .aims n c) in
       let hs = words (headerOf g (widthAt (w .net) n)) in
       let y = pushedAll w n q hs in
-      let u = indoors-then (indoors-pushedAll hs w n q) (indoors-pushed y n q t) in
+      let u = indoors-then (indoors-pushedAll w n q hs) (indoors-pushed y n q t) in
       told-by _ _ (record { aims = u .aims; buffers = u .buffers; units = u .units })
       (tt, (unmarked-word x, tt)) (λ d. append-nil _) (λ d. refl)
   output-told hc (Chosen.behind p goes room) e f =
