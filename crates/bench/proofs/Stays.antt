@@ -5,7 +5,7 @@ use Prim.{tt}
 use Prim.Native.Nat.{ℕ, _≤_}
 use mathlib.Core.Path.{_≡_, refl, sym, ap, _∙_}
 use mathlib.Core.Bool.{true, false, not}
-use mathlib.Core.List.{List, [], _∷_}
+use mathlib.Core.List.{List, [], _∷_, _++_}
 use native.Mathlib.Omega.{arith}
 use lib.Dec.{eqb, leb}
 use borrow.Author.Tests.{eq-eqb, eqb-true, eqb-false, not-false, not-true}
@@ -27,9 +27,11 @@ use Rattle.ports.specs.Queue.{capacity}
 use Rattle.answers.specs.Answer.{numberOf}
 use Rattle.answers.specs.Rows.{refusal, Passes}
 use Rattle.cells.specs.View.{Net, EndTables}
-use Rattle.cells.specs.World.{World}
+use Rattle.cells.specs.World.{World, queue}
 use Rattle.acts.specs.Acts.{withNet, widthAt, pushed, pushedAll, firstAt, shut, hopped, tiledTo, handed, claimedBy, untilClosed}
-use Rattle.acts.specs.Acts.{channelFull}
+use Rattle.acts.specs.Acts.{channelFull, bufferAfter}
+use Rattle.acts.specs.Needs.{Room}
+use Rattle.acts.proofs.Queues.{pushed-queue}
 use Rattle.circuits.specs.declared.Hop.the-variants as Hops
 use Rattle.settings.proofs.Leaves.{setting-leaves}
 use Rattle.sound.proofs.Facts.{end-facts}
@@ -39,7 +41,8 @@ use Rattle.ends.specs.Output.{wordOf, goesBehind, goesStraight, outputPerformed
 use Rattle.ends.specs.declared.Token.{Token}
 use Rattle.ends.specs.declared.plan.Plan as Outputs
 use Rattle.ends.specs.declared.plan.Plan.the-variants.{Narrow, Full, Opens, Behind, Straight}
-use Rattle.ends.proofs.There.{is-there}
+use Rattle.ends.specs.Needs.{Sends}
+use Rattle.ends.proofs.Possibles.{plan-possible, sends-here}
 use Rattle.plans.specs.Plan.{stepPlan}
 use Rattle.plans.specs.declared.Plan.{Plan}
 use Rattle.plans.specs.declared.Plan.the-variants.{Idle, Wait, OpenOut, OpenChannel, OpenUnit, Refuse, MoveOut, Hand, Hear, Drop}
@@ -168,12 +171,33 @@ module _ (w : World) (a : Slot) (c : ℕ) (x : Token) (ok : numberOf (apply w (O
       (λ f. clash (rw (e, f) at not-full))
       (λ f. rw (e, f))
 
+  -- .. so it stands last in that port, or is what that channel was handed last
+  sends : Sends w (a .0) c (targetOf (w .net .ends .aims (a .0) c))
+  sends =
+      let p = rows-pass w (Output a c x) ok in
+      sends-here w (a .0) c (not-false _ (p .0)) (not-false _ (p .1 .0)) _ (p .1 .1 .0, refl)
+
+  behind-room : (p : ℕ) → peerOf (w .net .ends .sendings (a .0) c) ≡ Peers.Port p → Room w (a .0) p 1
+  unfolding outputPlan
+  behind-room p e =
+      by-test (leb capacity (w .net .ports .counters (a .0) p .held))
+      (λ f. clash (rw (e, f) at not-full))
+      (λ f. rw (e, f) at (plan-possible w (a .0) c (wordOf x) _ sends))
+
+  pub behind-last : (p : ℕ) → peerOf (w .net .ends .sendings (a .0) c) ≡ Peers.Port p
+      → queue (apply w (Output a c x) .next) (a .0) p ≡ queue w (a .0) p ++ (wordOf x ∷ [])
+  behind-last p e =
+      ap (λ (z : World). queue z (a .0) p) (goes-behind p e) ∙ pushed-queue w (a .0) p (wordOf x) (behind-room p e)
+
+  pub straight-last : (d : ℕ) → peerOf (w .net .ends .sendings (a .0) c) ≡ Peers.End d → eqb d sink ≡ false
+      → apply w (Output a c x) .next .net .ends .buffers (a .0) d ≡ bufferAfter (w .net .ends .buffers (a .0) d) (wordOf x)
+  straight-last d e other =
+      ap (λ (z : World). z .net .ends .buffers (a .0) d) (goes-straight d e)
+      ∙ rw other (upd-same (w .net .ends .buffers) (a .0) d (bufferAfter (w .net .ends .buffers (a .0) d) (wordOf x)))
+
   -- and the circuit is what it was, unless the token closes it
   kind-few : w .net .ends .sendings (a .0) c .kind ≤ 2
-  kind-few =
-      let p = rows-pass w (Output a c x) ok in
-      let there = is-there (w .net) (a .0) c (not-false _ (p .1 .0)) in
-      end-facts w (not-false _ (p .0)) (a .0) (there .0) c (there .1) .sending
+  kind-few = end-facts w (sends .all) (a .0) (sends .node) c (sends .end) .sending
 
   own-stays : isOpen (w .net) (a .0) c ≡ true → closes (wordOf x) ≡ false
       → apply w (Output a c x) .next .net .ends .sendings (a .0) c ≡ w .net .ends .sendings (a .0) c
