@@ -28,8 +28,13 @@ pub use Rattle.bench.proofs.Applied.{refused-changes-nothing}
 pub use Rattle.bench.proofs.Waits.{waits-change-nothing}
 -- what a Fresh leaves that is not refused
 pub use Rattle.bench.proofs.Started.{started, started-sound, started-tight, started-quiet}
--- each number of each call, its condition spelt out
-pub use Rattle.bench.proofs.Numbers.{Refused, fresh-no-such, fresh-unsound, wire-unsound, wire-no-such, wire-value, wire-busy}
+-- END and PAUSE free what the hop held; a circuit stays as it was opened, and its tokens go the way that it was opened
+pub use Rattle.bench.specs.Frees.{tookOne, Freed, Closed}
+pub use Rattle.bench.proofs.Frees.{step-frees}
+pub use Rattle.bench.specs.Stays.{EndsCircuit}
+pub use Rattle.bench.proofs.Stays.{circuit-stays, goes-behind, goes-straight, behind-last, straight-last, circuit-ends}
+-- each number of each call: given exactly where no earlier row refuses and its own condition holds
+pub use Rattle.bench.proofs.Numbers.{NoEarlier, Refused, fresh-no-such, fresh-unsound, wire-unsound, wire-no-such, wire-value, wire-busy}
 pub use Rattle.bench.proofs.Numbers.{set-unsound, set-no-such, set-value, set-busy, aim-unsound, aim-no-such, aim-value, aim-open}
 pub use Rattle.bench.proofs.Numbers.{output-unsound, output-no-such, output-unaimed, output-hardware, output-privileged}
 pub use Rattle.bench.proofs.Numbers.{output-narrow, output-full, input-unsound, input-no-such, input-empty, input-trap}
@@ -41,5 +46,6 @@ pub use Rattle.bench.proofs.Written.{none-refused, writes-as-sets, call
 pub use Rattle.bench.specs.Lasts.{OtherBoards, NeverUnsound, Throughout}
 pub use Rattle.bench.proofs.Lasts.{call-keeps, run-keeps, fresh-keeps, call-boards, run-boards, boards}
 pub use Rattle.bench.proofs.Lasts.{always-sound, never-unsound, since-fresh}
+pub use Rattle.bench.proofs.Stays.{circuit-lasts}
 -- what holds of every link of every state: room, silence while disabled, nobody's while disabled, disabling once more
 pub use Rattle.bench.proofs.Lasts.{always-room, always-silent, always-unused, always-disabled}
