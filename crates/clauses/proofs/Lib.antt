@@ -1,3 +1,4 @@
 -- Laws of the clauses.
 pub mod Readies
 pub mod Meanings
+pub mod Spoken

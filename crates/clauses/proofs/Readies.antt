@@ -1,13 +1,13 @@
 -- A port that is ready: the memory reaches past its stretch, its counters are those of a ring, and the stages read off its tokens are those
 -- of the port. Assumes nothing.
 use Prim.Native.Nat.{ℕ, _+_, _*_, _/_, _≤_, _<_}
-use mathlib.Core.Bool.{true, false, not, _&&_}
+use mathlib.Core.Bool.{true, false, not}
 use mathlib.Core.List.{List, []}
 use mathlib.Core.Path.{_≡_, refl, sym, ap}
 use native.Mathlib.Omega.{arith}
-use lib.Dec.{ltb, leb}
 use lib.ListN.{length}
-use Rattle.laws.proofs.All.{both, below, at-most}
+use Rattle.laws.specs.All.{Means}
+use Rattle.laws.proofs.All.{also, same-as, below, at-most}
 use Rattle.laws.proofs.Order.{by-test}
 use Rattle.names.specs.Size.{ports}
 use Rattle.circuits.specs.Circuit.{hopOf}
@@ -33,16 +33,18 @@ module _ (w : World) (n p : ℕ) where
     pub head : w .net .ports .counters n p .head < capacity
     pub held : w .net .ports .counters n p .held ≤ capacity
 
+  readies : Means (ready w n p) Ready
+  readies =
+      same-as
+      (λ z. record { node = z .0; port = z .1 .0; head = z .1 .1 .0; held = z .1 .1 .1 })
+      (λ f. (f .node, (f .port, (f .head, f .held))))
+      (also (below _ _) (also (below _ _) (also (below _ _) (at-most _ _))))
+
   pub is-ready : ready w n p ≡ true → Ready
-  is-ready e =
-      let c = w .net .ports .counters n p in
-      let a = ltb n (length (w .memory) / (ports * capacity)) in
-      let b = ltb p ports in
-      let d = ltb (c .head) capacity in
-      let f = leb (c .held) capacity in
-      let ring = both d f (below (c .head) _) (at-most (c .held) _) in
-      let z = both a (b && (d && f)) (below n _) (both b (d && f) (below p _) ring) .sure e in
-      record { node = z .0; port = z .1 .0; head = z .1 .1 .0; held = z .1 .1 .1 }
+  is-ready = readies .sure
+
+  pub made-ready : Ready → ready w n p ≡ true
+  made-ready = readies .back
 
   module _ (e : ready w n p ≡ true) where
     pub reaches : place n p + capacity ≤ length (w .memory)

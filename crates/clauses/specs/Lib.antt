@@ -3,4 +3,5 @@ pub mod Counts
 pub mod Cables
 pub mod Pairs
 pub mod Contents
+pub mod Sentences
 pub mod Ties
