@@ -51,11 +51,11 @@ by-pick : (P : Shape → Type 0) (b : Bool) (x y : Shape) → (b ≡ true → P 
 by-pick P true x y f g = f refl
 by-pick P false x y f g = g refl
 
-closing : (w : ℕ) → Means (closes w) (Closing w)
+pub closing : (w : ℕ) → Means (closes w) (Closing w)
 unfolding closes
 closing w = either (equal w (controlWord end)) (equal w (controlWord pause))
 
-plain-word : (w : ℕ) → closes w ≡ false → w < 0x1C2 → Plain w
+pub plain-word : (w : ℕ) → closes w ≡ false → w < 0x1C2 → Plain w
 plain-word w e h =
     let closes-not : Closing w → ⊥ = λ k. clash (sym (closing w .back k) ∙ e) in
     ⊎-elim (λ l. inl (record { value = w; legal = l; word = omega arith }))
@@ -82,7 +82,7 @@ module _ (w : ℕ) (h : 0x600 ≤ w) where
       let m = w - 0x600 in
       by-pick (Says w) (legalChannel m) _ _ (λ e. channel-byte (legal-channel m .sure e))
       (λ e. by-pick (Says w) (ltb m 0x100) _ _ (λ f. three-byte (ltb-true m 0x100 f))
-      (λ f. by-pick (Says w) (eqb m (controlWord ssctrl)) _ _ (λ g. let q = eqb-true m (controlWord ssctrl) g in inr (omega arith)) (λ g. tt)))
+      (λ f. by-pick (Says w) (eqb m (controlWord ssctrl)) _ _ (λ g. inr (omega (arith, eqb-true m (controlWord ssctrl) g))) (λ g. tt)))
 
 says : (w : ℕ) → Says w (shapeOf w)
 unfolding shapeOf
@@ -98,14 +98,19 @@ says w =
 
 -- .. and back
 
-plain-shape : (w : ℕ) → Plain w → shapeOf w ≡ S.Body
-unfolding shapeOf closes
-plain-shape w (inl d) = let q = d .word in rw (open-word w (inl (omega arith)), lt-ltb w 0x1C2 (omega arith))
-plain-shape w (inr c) =
+-- a plain token closes nothing, and is none of the control tokens that Output refuses
+pub plain-open : (w : ℕ) → Plain w → (closes w ≡ false) × (w < 0x1C2)
+unfolding closes
+plain-open w (inl d) = let q = d .word in (open-word w (inl (omega arith)), omega arith)
+plain-open w (inr c) =
     let q = c .word in
     let a : (w ≡ controlWord end) → ⊥ = λ e. c .no-end (omega arith) in
     let b : (w ≡ controlWord pause) → ⊥ = λ e. c .no-pause (omega arith) in
-    rw (ne-eqb w (controlWord end) a, ne-eqb w (controlWord pause) b, lt-ltb w 0x1C2 (omega arith))
+    (rw (ne-eqb w (controlWord end) a, ne-eqb w (controlWord pause) b), omega arith)
+
+plain-shape : (w : ℕ) → Plain w → shapeOf w ≡ S.Body
+unfolding shapeOf
+plain-shape w k = let z = plain-open w k in rw (z .0, lt-ltb w 0x1C2 (z .1))
 
 closing-shape : (w : ℕ) → Closing w → shapeOf w ≡ S.Closing
 unfolding shapeOf
