@@ -108,3 +108,12 @@ module _ (w : World) (c : Call) where
   pub refused-changes-nothing : (numberOf (apply w c .answer) ≡ Names.passes → ⊥) → apply w c .next ≡ w
   unfolding apply
   refused-changes-nothing h = refused-keeps (rows w c) w (made w c) (passing w c) h
+
+-- .. and over the lent words themselves: whatever words meet the contract of a call that is refused are the words that were lent
+pub refused-words : (st mem zt nem : List ℕ) (c : Call) (r : Answer)
+    → (numberOf (apply (world st mem) c .answer) ≡ Names.passes → ⊥)
+    → out r (world zt nem) ≡ apply (world st mem) c
+    → (zt ≡ st) × (nem ≡ mem)
+refused-words st mem zt nem c r h e =
+    let same : world zt nem ≡ world st mem = ap (λ (o : Out World). o .next) e ∙ refused-changes-nothing (world st mem) c h in
+    (whole-state zt st (ap (λ (w : World). w .net) same), ap (λ (w : World). w .memory) same)

@@ -1,6 +1,7 @@
 -- Theorems over every call.
 pub mod Lifted
 pub mod Applied
+pub mod Bounded
 pub mod Numbers
 pub mod Cabled
 pub mod Started
