@@ -1,3 +1,4 @@
 -- Laws of the crossing.
 pub mod Shows
 pub mod Crosses
+pub mod Told
