@@ -2,3 +2,4 @@
 pub mod Readies
 pub mod Meanings
 pub mod Spoken
+pub mod Destined

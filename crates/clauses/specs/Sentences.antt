@@ -52,7 +52,8 @@ pub record LastByte (w : ℕ) : Type 0 where
 abbrev pub Last : ℕ → Type 0
 Last w = LastByte w ⊎ (w ≡ unitWord)
 
--- a whole header: "number high byte, number low byte, channel", or one byte
+-- a whole header: "number high byte, number low byte, channel", or one byte; just what the headers of destinations are (`destined`,
+-- `has-header` in clauses/proofs/Destined.antt)
 pub data Header : List ℕ → Type 0 where
   one : {a : ℕ} → Byte One a → Header (a ∷ [])
   three : {a b c : ℕ} → Byte Three a → Byte Three b → Last c → Header (a ∷ b ∷ c ∷ [])
