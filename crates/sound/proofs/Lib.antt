@@ -4,3 +4,4 @@ pub mod OnePass
 pub mod Facts
 pub mod Fresh
 pub mod Alone
+pub mod Spelled

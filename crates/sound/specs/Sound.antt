@@ -7,7 +7,8 @@ use Rattle.sound.specs.Clauses.{soundClauses, allHold, askAll}
 use Rattle.sound.specs.Questions.{everywhere}
 use Rattle.sound.specs.declared.questions.Question.the-variants.{Tied, Sends, Replied, QuietPort, QuietEnd}
 
--- Sound (document 01): both memories have their lengths, and the list holds
+-- Sound (document 01): both memories have their lengths, and the list holds; what that says with no test in it is `sound-spelled` in
+-- sound/proofs/Spelled.antt
 unfoldable pub sound : World → Bool
 sound w = shaped w && allHold soundClauses w
 
