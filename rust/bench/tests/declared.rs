@@ -1,0 +1,129 @@
+//! The functions that `src/proved.rs` declares are those that crate `host` exports: the same names,
+//! and of each the same parameters and result, by kind, width and order. The linker asks for names
+//! alone, so a width that differs would go unseen.
+
+use std::collections::BTreeMap;
+use std::fs;
+use std::path::{Path, PathBuf};
+
+/// Each function with the types that it crosses with, its result last.
+type Functions = BTreeMap<String, Vec<String>>;
+
+fn here(name: &str) -> PathBuf {
+    Path::new(env!("CARGO_MANIFEST_DIR")).join(name)
+}
+
+/// A file without its comments, each stretch of blanks one blank.
+fn read(path: &Path) -> String {
+    let text = fs::read_to_string(path).unwrap_or_else(|e| panic!("{path:?}: {e}"));
+    let code = text.lines().map(|line| line.split("//").next());
+    let code: Vec<&str> = code.map(Option::unwrap_or_default).collect();
+    let words: Vec<&str> = code
+        .iter()
+        .flat_map(|line| line.split_whitespace())
+        .collect();
+    words.join(" ")
+}
+
+/// All code of crate `host`.
+fn host() -> String {
+    let folder = here("../../crates/host/src");
+    let entries = fs::read_dir(&folder).unwrap_or_else(|e| panic!("{folder:?}: {e}"));
+    let paths = entries.map(|entry| entry.expect("an entry").path());
+    paths.map(|path| read(&path) + " ").collect()
+}
+
+/// What stands behind each place of a mark, to the end of the text.
+fn behind<'a>(text: &'a str, mark: &'a str) -> impl Iterator<Item = &'a str> {
+    let places = text.match_indices(mark);
+    places.map(move |(place, _)| &text[place + mark.len()..])
+}
+
+/// The functions that follow the mark, each `NAME(NAME: TYPE, ..) -> TYPE` up to the end mark.
+fn functions(text: &str, mark: &str, end: &str) -> Functions {
+    let mut found = Functions::new();
+    for rest in behind(text, mark) {
+        let (name, rest) = rest.split_once('(').expect("parameters");
+        let (parameters, rest) = rest.split_once(')').expect("their end");
+        let (result, _) = rest.split_once(end).expect("the end of a function's head");
+        let result = result.trim().strip_prefix("->").expect("a result");
+        let parameters = parameters.split(',').filter(|p| !p.trim().is_empty());
+        let types = parameters.map(|p| p.split_once(':').expect("a type").1);
+        let mut crossed: Vec<String> = types.flat_map(crossing).collect();
+        crossed.extend(crossing(result));
+        let before = found.insert(name.trim().to_owned(), crossed);
+        assert!(before.is_none(), "{name} stands there twice");
+    }
+    found
+}
+
+/// What a type crosses as: a slice as two words, its pointer and its length.
+fn crossing(kind: &str) -> Vec<String> {
+    let kind = kind.trim();
+    let slice = |start| {
+        kind.strip_prefix(start)
+            .and_then(|rest: &str| rest.strip_suffix(']'))
+    };
+    if let Some(words) = slice("&mut [") {
+        return vec![format!("*mut {words}"), "usize".to_owned()];
+    }
+    if let Some(words) = slice("&[") {
+        return vec![format!("*const {words}"), "usize".to_owned()];
+    }
+    vec![kind.to_owned()]
+}
+
+fn exported(text: &str) -> Functions {
+    functions(text, "#[no_mangle] pub extern \"C\" fn ", "ensures")
+}
+
+fn declared(text: &str) -> Functions {
+    functions(text, "pub fn ", ";")
+}
+
+#[test]
+fn what_is_declared_is_what_is_exported() {
+    let (exports, declarations) = (host(), read(&here("src/proved.rs")));
+    let found = exported(&exports);
+    assert_eq!(
+        found.len(),
+        exports.matches("extern").count(),
+        "all are read"
+    );
+    assert_eq!(found.len(), declarations.matches("tarvelgyo_").count());
+    assert_eq!(declared(&declarations), found);
+}
+
+/// A type that crosses both ways under one name and width, and no other.
+#[test]
+fn the_types_are_those_that_cross_as_they_are() {
+    let all = exported(&host());
+    for kind in all.values().flatten() {
+        let known = ["u8", "u32", "u64", "usize", "bool"].contains(&kind.as_str());
+        let pointer = ["*mut u32", "*const u32", "*mut u16", "*const u16"];
+        assert!(known || pointer.contains(&kind.as_str()), "{kind}");
+    }
+}
+
+/// Any one type of a declaration changed, or a declaration less, is seen.
+#[test]
+fn a_change_of_any_declaration_is_seen() {
+    let text = read(&here("src/proved.rs"));
+    let right = declared(&text);
+    for (from, to) in [
+        ("usize", "u32"),
+        ("u32", "u64"),
+        ("u8", "u32"),
+        ("mut", "const"),
+        ("bool", "u8"),
+    ] {
+        for (place, _) in text.match_indices(from) {
+            let changed = format!("{}{to}{}", &text[..place], &text[place + from.len()..]);
+            assert_ne!(declared(&changed), right, "{from} at {place}");
+        }
+    }
+    for (place, _) in text.match_indices("pub fn ") {
+        let changed = format!("{}fn {}", &text[..place], &text[place + 7..]);
+        assert_ne!(declared(&changed), right, "{place}");
+    }
+}
