@@ -120,8 +120,9 @@ fn the_first_start_builds_and_runs() {
     let expected = format!("{}\n<run>\n<a file.txt>\n<*>\n<>\n", here.display());
     assert_eq!(text(&said.stdout), expected);
     assert_eq!(clone.calls(), ALL);
-    for line in ["1 of 3 crates proved: low,", "2 of 3 crates proved: high,"] {
-        assert!(errors.contains(line), "{errors}");
+    for (number, name) in [(1, "low"), (2, "high"), (3, "host")] {
+        let line = format!("bench: {number} of 3 crates proved: {name}, at ");
+        assert!(errors.contains(&line), "{errors}");
     }
 }
 

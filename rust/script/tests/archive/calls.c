@@ -1,0 +1,90 @@
+// Makes calls of the proved library as a C program does, linked with the archive that `rt staticlib` wrote for x86-64. Reads a call a
+// line, the name of its function and five numbers; writes its answer and then both memories, each with its length in front.
+
+typedef unsigned char u8;
+typedef unsigned short u16;
+typedef unsigned int u32;
+typedef unsigned long u64;
+
+u64 tarvelgyo_fresh(u32 *, u64, u16 *, u64, u64 nodes);
+u64 tarvelgyo_wire(u32 *, u64, const u16 *, u64, u64 slot, u64 link, u64 far_slot, u64 far_link);
+u64 tarvelgyo_set_number(u32 *, u64, const u16 *, u64, u64 slot, u32 value);
+u64 tarvelgyo_set_width(u32 *, u64, const u16 *, u64, u64 slot, u32 value);
+u64 tarvelgyo_set_direction(u32 *, u64, const u16 *, u64, u64 slot, u32 bit, u32 value);
+u64 tarvelgyo_set_link_direction(u32 *, u64, const u16 *, u64, u64 slot, u64 link, u32 value);
+u64 tarvelgyo_set_network(u32 *, u64, const u16 *, u64, u64 slot, u64 link, u32 value);
+u64 tarvelgyo_set_enable(u32 *, u64, const u16 *, u64, u64 slot, u64 link, u32 value);
+u64 tarvelgyo_hello(u32 *, u64, const u16 *, u64, u64 slot, u64 link);
+u64 tarvelgyo_aim_channel(u32 *, u64, const u16 *, u64, u64 slot, u64 end, u32 number, u32 channel, u32 network);
+u64 tarvelgyo_aim_unit(u32 *, u64, const u16 *, u64, u64 slot, u64 end, u32 number, u32 network);
+u64 tarvelgyo_output_data(u32 *, u64, u16 *, u64, u64 slot, u64 end, u8 value);
+u64 tarvelgyo_output_control(u32 *, u64, u16 *, u64, u64 slot, u64 end, u8 value);
+u64 tarvelgyo_input_data(u32 *, u64, const u16 *, u64, u64 slot, u64 end);
+u64 tarvelgyo_input_control(u32 *, u64, const u16 *, u64, u64 slot, u64 end);
+u64 tarvelgyo_step(u32 *, u64, u16 *, u64, u64 slot, u64 port);
+u64 tarvelgyo_state_words(void);
+
+// Of the C library; the toolchain has no headers.
+extern void *stdout;
+int scanf(const char *, ...);
+int strcmp(const char *, const char *);
+u64 fwrite(const void *, u64, u64, void *);
+void *calloc(u64, u64);
+void abort(void);
+
+static u32 *state;
+static u16 *memory;
+static u64 words, tokens;
+
+// A Fresh is made on memories of its own, which take the place of the old ones where it is done.
+static u64 fresh(u64 nodes, u64 room) {
+    u64 size = (nodes < 16 ? nodes : 16) * tarvelgyo_state_words();
+    u32 *new_state = calloc(size + 1, sizeof(u32));
+    u16 *new_memory = calloc(room + 1, sizeof(u16));
+    u64 answer = tarvelgyo_fresh(new_state, size, new_memory, room, nodes);
+    if (answer >> 32 == 1) {
+        state = new_state, memory = new_memory;
+        words = size, tokens = room;
+    }
+    return answer;
+}
+
+#define CALL(name, ...) \
+    if (!strcmp(called, #name)) return tarvelgyo_##name(state, words, memory, tokens, __VA_ARGS__)
+
+static u64 answer(const char *called, u64 a, u64 b, u64 c, u64 d, u64 e) {
+    if (!strcmp(called, "fresh")) return fresh(a, b);
+    CALL(wire, a, b, c, d);
+    CALL(set_number, a, b);
+    CALL(set_width, a, b);
+    CALL(set_direction, a, b, c);
+    CALL(set_link_direction, a, b, c);
+    CALL(set_network, a, b, c);
+    CALL(set_enable, a, b, c);
+    CALL(hello, a, b);
+    CALL(aim_channel, a, b, c, d, e);
+    CALL(aim_unit, a, b, c, d);
+    CALL(output_data, a, b, c);
+    CALL(output_control, a, b, c);
+    CALL(input_data, a, b);
+    CALL(input_control, a, b);
+    CALL(step, a, b);
+    abort();
+    return 0;
+}
+
+static void put(const void *from, u64 size, u64 many) {
+    if (fwrite(from, size, many, stdout) != many) abort();
+}
+
+int main(void) {
+    char called[32];
+    u64 a, b, c, d, e;
+    while (scanf("%31s %lu %lu %lu %lu %lu", called, &a, &b, &c, &d, &e) == 6) {
+        u64 head[3] = {answer(called, a, b, c, d, e), words, tokens};
+        put(head, sizeof(u64), 3);
+        put(state, sizeof(u32), words);
+        put(memory, sizeof(u16), tokens);
+    }
+    return 0;
+}
