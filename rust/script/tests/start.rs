@@ -19,7 +19,7 @@ shift
 mkdir -p target/log
 for name; do
     [ ! -f "$NOTES/slow" ] || { echo "$$" >"$NOTES/running"; sleep 60; }
-    if grep -q wrong "crates/$name/lib.rt"; then
+    if grep -q wrong "crates/$name/lib.txt"; then
         echo "rt: $name NOT PROVED (exit 1, 0 s)"
         exit 1
     fi
@@ -61,8 +61,9 @@ impl Clone {
             "crates.txt",
             "# some crates\nlow:\nother: low\nhigh: low io\nhost: high\nprogram: low\n",
         );
+        // not .rt: rt takes every file of that name below a repository's root for one to be proved
         for name in ["low", "high", "host", "other", "program"] {
-            clone.file(&format!("crates/{name}/lib.rt"), "fine\n");
+            clone.file(&format!("crates/{name}/lib.txt"), "fine\n");
         }
         clone.file("rust/main", PROGRAM);
         clone.file("elsewhere/a file.txt", "");
@@ -152,7 +153,7 @@ fn what_has_changed_is_built_anew() {
     clone.calls();
     assert_eq!(clone.start(&[]).status.code(), Some(8));
     assert_eq!(clone.calls(), ALL);
-    let added = clone.file("crates/low/more.rt", "");
+    let added = clone.file("crates/low/more.txt", "");
     clone.start(&[]);
     assert_eq!(clone.calls(), ALL);
     fs::remove_file(added).expect("a file less");
@@ -167,7 +168,7 @@ fn what_has_changed_is_built_anew() {
 fn what_is_not_proved_is_not_run() {
     let clone = Clone::new("unproved");
     clone.start(&[]);
-    clone.file("crates/high/lib.rt", "wrong\n");
+    clone.file("crates/high/lib.txt", "wrong\n");
     clone.calls();
     for _ in 0..2 {
         let said = clone.start(&[]);
@@ -178,7 +179,7 @@ fn what_is_not_proved_is_not_run() {
         assert!(errors.contains("bench: the library is not proved"));
         assert_eq!(clone.calls(), ["rt check low high"]);
     }
-    clone.file("crates/high/lib.rt", "fine\n");
+    clone.file("crates/high/lib.txt", "fine\n");
     assert_eq!(clone.start(&[]).status.code(), Some(7));
 }
 
