@@ -7,6 +7,7 @@ use std::io::Read;
 use std::os::unix::fs::{symlink, PermissionsExt};
 use std::path::{Path, PathBuf};
 use std::process::{Child, Command, Output, Stdio};
+use std::sync::{Mutex, MutexGuard, PoisonError};
 use std::thread::sleep;
 use std::time::{Duration, Instant};
 
@@ -43,6 +44,24 @@ for word; do echo "<$word>"; done
 exit 7
 "#;
 
+/// Held while a script is written and while a process is started: a file that one test has open for
+/// writing, and a process that another test starts just then has too, cannot be executed.
+static STARTING: Mutex<()> = Mutex::new(());
+
+fn alone() -> MutexGuard<'static, ()> {
+    STARTING.lock().unwrap_or_else(PoisonError::into_inner)
+}
+
+fn spawned(command: &mut Command) -> Child {
+    let _alone = alone();
+    command.stdout(Stdio::piped()).stderr(Stdio::piped());
+    command.spawn().expect("a start")
+}
+
+fn output(command: &mut Command) -> Output {
+    spawned(command).wait_with_output().expect("an end")
+}
+
 /// A repository that nothing has been built of, and the folder where its tools write their notes.
 struct Clone {
     root: PathBuf,
@@ -78,6 +97,7 @@ impl Clone {
     }
 
     fn executable(&self, name: &str, text: &str) {
+        let _alone = alone();
         let path = self.file(name, text);
         fs::set_permissions(path, fs::Permissions::from_mode(0o755)).expect("a script");
     }
@@ -93,7 +113,7 @@ impl Clone {
     }
 
     fn start(&self, words: &[&str]) -> Output {
-        self.command(words).output().expect("a start")
+        output(&mut self.command(words))
     }
 
     /// What the tools were called for since they were last asked.
@@ -200,8 +220,7 @@ fn a_tool_that_is_missing_is_named() {
     let tools = clone.root.join("few-tools");
     let few = ["bash", "cat", "dirname", "find", "readlink", "sha256sum"];
     links(&tools, &few);
-    let said = clone.command(&[]).env("PATH", &tools).output();
-    let said = said.expect("a start");
+    let said = output(clone.command(&[]).env("PATH", &tools));
     assert_eq!(said.status.code(), Some(125));
     let errors = text(&said.stderr);
     assert!(errors.contains("rt is not on the PATH"), "{errors}");
@@ -223,8 +242,8 @@ fn awaited(path: &Path) -> String {
 /// What a child that was told to end said, and its exit status.
 fn interrupted(child: &mut Child) -> (String, Option<i32>) {
     let id = child.id().to_string();
-    let told = Command::new("kill").args(["-INT", &id]).status();
-    assert!(told.expect("a signal").success());
+    let told = output(Command::new("kill").args(["-INT", &id]));
+    assert!(told.status.success());
     let status = child.wait().expect("an end");
     let mut errors = String::new();
     let mut pipe = child.stderr.take().expect("its errors");
@@ -236,9 +255,7 @@ fn interrupted(child: &mut Child) -> (String, Option<i32>) {
 fn an_interrupt_leaves_nothing_running_and_nothing_broken() {
     let clone = Clone::new("interrupted");
     let slow = clone.file("tools/slow", "");
-    let mut child = clone.command(&[]);
-    let child = child.stderr(Stdio::piped()).stdout(Stdio::null());
-    let mut child = child.spawn().expect("a start");
+    let mut child = spawned(&mut clone.command(&[]));
     let tool = awaited(&clone.root.join("tools/running"));
     let (errors, status) = interrupted(&mut child);
     assert_eq!(status, Some(130), "{errors}");
