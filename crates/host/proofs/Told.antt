@@ -1,6 +1,6 @@
 -- What crosses is the answer itself: two answers of calls that cross as one number are one answer, and a refusal leaves the very words that
 -- were lent. Assumes nothing.
-use Prim.Native.Nat.{ℕ, _+_, _*_, _<_}
+use Prim.Native.Nat.{ℕ, _+_, _*_, _<_, _≤_}
 use mathlib.Core.Path.{_≡_, refl, sym, ap, _∙_}
 use mathlib.Core.List.{List}
 use native.Mathlib.Omega.{arith}
@@ -82,22 +82,23 @@ answer-heard w c r left a h e q =
 
 -- Refusals
 
--- a refusal crosses as its own number, and every other answer as one of 33 bits and more
-refused-low : (a : Answer) → Bounded a → answerNumber a < 4294967296 → numberOf a ≡ passes → ⊥
-refused-low (No n) h l e = let z = h .0 in omega arith
-refused-low Done h l e = omega arith
-refused-low (Granted g) h l e = omega arith
-refused-low (Token v) h l e = omega arith
-refused-low Idle h l e = omega arith
-refused-low Waiting h l e = omega arith
-refused-low Moved h l e = omega arith
-refused-low (OpenedLink k) h l e = omega arith
-refused-low OpenedChannel h l e = omega arith
-refused-low OpenedUnit h l e = omega arith
-refused-low (Refused c) h l e = omega arith
-refused-low (Dropped c) h l e = omega arith
-refused-low Malformed h l e = omega arith
-refused-low Unheard h l e = omega arith
+-- a refusal crosses as its own number, 1 to 12, and every other answer as 2 to the 32nd or more
+pub refusal-number : (a : Answer) → Bounded a → answerNumber a < 4294967296
+    → (numberOf a ≡ answerNumber a) × ((1 ≤ numberOf a) × (numberOf a ≤ 12))
+refusal-number (No n) h l = (omega arith, h)
+refusal-number Done h l = absurd (omega arith)
+refusal-number (Granted g) h l = absurd (omega arith)
+refusal-number (Token v) h l = absurd (omega arith)
+refusal-number Idle h l = absurd (omega arith)
+refusal-number Waiting h l = absurd (omega arith)
+refusal-number Moved h l = absurd (omega arith)
+refusal-number (OpenedLink k) h l = absurd (omega arith)
+refusal-number OpenedChannel h l = absurd (omega arith)
+refusal-number OpenedUnit h l = absurd (omega arith)
+refusal-number (Refused c) h l = absurd (omega arith)
+refusal-number (Dropped c) h l = absurd (omega arith)
+refusal-number Malformed h l = absurd (omega arith)
+refusal-number Unheard h l = absurd (omega arith)
 
 module _ (st mem zt nem : List ℕ) (c : Call) (r : ℕ) (e : crossing r (world zt nem) ≡ crossed (apply (world st mem) c)) where
   number-is : r ≡ answerNumber (apply (world st mem) c .answer)
@@ -105,10 +106,11 @@ module _ (st mem zt nem : List ℕ) (c : Call) (r : ℕ) (e : crossing r (world 
 
   -- "A refused call returns its number and leaves the state as it was": a caller that hears a number below 2 to the 32nd hears the paper's
   -- number, and has every word of both memories as it lent them
-  pub refused-as-lent : r < 4294967296 → (zt ≡ st) × (nem ≡ mem)
+  pub refused-as-lent : r < 4294967296 → (numberOf (apply (world st mem) c .answer) ≡ r) × (zt ≡ st) × (nem ≡ mem)
   refused-as-lent l =
       let a = apply (world st mem) c .answer in
       let low : answerNumber a < 4294967296 = omega (arith, number-is) in
-      let same : world zt nem ≡ world st mem =
-      ap (λ (x : Crossing). x .next) e ∙ refused-changes-nothing (world st mem) c (refused-low a (bounded (world st mem) c) low) in
-      (whole-state zt st (ap (λ (w : World). w .net) same), ap (λ (w : World). w .memory) same)
+      let z = refusal-number a (bounded (world st mem) c) low in
+      let some : numberOf a ≡ passes → ⊥ = λ q. let k = z .1 .0 in omega arith in
+      let same : world zt nem ≡ world st mem = ap (λ (x : Crossing). x .next) e ∙ refused-changes-nothing (world st mem) c some in
+      (z .0 ∙ sym number-is, whole-state zt st (ap (λ (w : World). w .net) same), ap (λ (w : World). w .memory) same)
