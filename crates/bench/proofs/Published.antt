@@ -23,7 +23,9 @@ pub use Rattle.bench.proofs.Applied.{one-result}
 -- the number is that of the first row that holds; each is given exactly under its condition; the rows rise, Fresh's two excepted
 pub use Rattle.bench.proofs.Applied.{numbered, exactly, accepted, in-order}
 -- "A refused call returns its number and changes nothing"
-pub use Rattle.bench.proofs.Applied.{refused-changes-nothing}
+pub use Rattle.bench.proofs.Applied.{refused-changes-nothing, refused-words}
+-- the bounds of every answer
+pub use Rattle.bench.proofs.Bounded.{bounded, small-value}
 -- "A Waiting or Idle step changes nothing either."
 pub use Rattle.bench.proofs.Waits.{waits-change-nothing}
 -- what a Fresh leaves that is not refused
