@@ -170,29 +170,45 @@ fn of_cause(cause: bench::Cause) -> Cause {
     }
 }
 
-/// Makes a call on both sides, whose states are the same before it. Says how the answers or the
-/// states behind it differ, or that a refused call has changed a word.
+/// "A Waiting or Idle step changes nothing either": neither does what is refused.
+fn changes_nothing(answer: Answer) -> bool {
+    matches!(answer, Answer::No(_) | Answer::Idle | Answer::Waiting)
+}
+
+/// Complains where an answer that changes nothing has changed a word of state or token memory.
+pub fn hold_unchanged(answer: Answer, before: &Lent, after: &Lent) -> Result<(), String> {
+    match changes_nothing(answer) && before != after {
+        true => Err(format!("{answer}, and a word has changed")),
+        false => Ok(()),
+    }
+}
+
+/// Makes a call on both sides, whose states are the same before it, and gives the answer of both.
+/// Says how the answers or the states behind it differ, or that a call which was refused, waits or
+/// is idle has changed a word. Words are read only where one has changed: where none has, they say
+/// what the model's state said before.
 pub fn compare(
     apply: Apply,
     network: &mut Option<Network>,
     lent: &mut Lent,
     call: &Call,
-) -> Result<(), String> {
-    let before = lent.clone();
+) -> Result<Answer, String> {
+    let (before, state_before) = (lent.clone(), network.clone());
     let found = make(lent, call);
     let expected = apply(network, call);
     if found != expected {
         return Err(format!("{call}: the library {found}, the model {expected}"));
     }
-    if matches!(found, Answer::No(_)) && *lent != before {
-        return Err(format!("{call}: refused, and a word has changed"));
-    }
+    hold_unchanged(found, &before, lent).map_err(|how| format!("{call}: {how}"))?;
     let Some(network) = network else {
-        return Ok(());
+        return Ok(found);
     };
-    let read = read(&lent.state, &lent.memory).map_err(|why| format!("{call}: {}", why.0))?;
-    match difference::first(&read, network) {
+    let seen = match state_before {
+        Some(state) if *lent == before => state,
+        _ => read(&lent.state, &lent.memory).map_err(|why| format!("{call}: {}", why.0))?,
+    };
+    match difference::first(&seen, network) {
         Some(difference) => Err(format!("{call}: {difference}")),
-        None => Ok(()),
+        None => Ok(found),
     }
 }

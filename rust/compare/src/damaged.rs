@@ -8,10 +8,11 @@ use model::network::Network;
 use model::random::Random;
 use model::{Answer, No};
 
-use crate::calls::{compare, make, Lent};
+use crate::calls::{hold_unchanged, make, Lent};
 use crate::choice::any;
 use crate::damage::{disturb, things};
-use crate::reading;
+use crate::pair::Pair;
+use crate::reached::Reached;
 use crate::verdict::{verdict, Verdict};
 
 /// How many calls are made on each memory.
@@ -31,21 +32,22 @@ pub fn other_things(network: &Network, random: &mut Random) -> Lent {
     Lent::of(Some(&network), random)
 }
 
-/// Asks both sides of a memory, makes every look at it, and [`CALLS`] calls on copies of it.
-pub fn check(lent: &Lent) -> Result<Verdict, String> {
+/// Asks both sides of a memory, makes every look at it, and [`CALLS`] calls on copies of it. Gives
+/// what both say, and what the calls have reached on both sides.
+pub fn check(lent: &Lent) -> Result<(Verdict, Reached), String> {
     let before = lent.clone();
-    let verdict = verdict(&lent.state, &lent.memory)?;
+    let (verdict, read) = verdict(&lent.state, &lent.memory)?;
     look_everywhere(Looks::over(&lent.state, &lent.memory))?;
     if *lent != before {
         return Err("a look has changed a word".to_owned());
     }
-    let read = reading::read(&lent.state, &lent.memory).ok();
     let mut random = Random::new(sum(&lent.state));
+    let mut reached = Reached::default();
     for _ in 0..CALLS {
         let call = any(&mut random, read.as_ref());
-        call_on(verdict, read.clone(), lent.clone(), &call)?;
+        reached += call_on(read.as_ref(), lent.clone(), &call)?;
     }
-    Ok(verdict)
+    Ok((verdict, reached))
 }
 
 /// A seed, so that the same words meet the same calls.
@@ -54,21 +56,24 @@ fn sum(words: &[u32]) -> u64 {
     words.iter().fold(0, mix)
 }
 
-/// Makes a call on a damaged memory. An unsound one is refused as that and left as it is; what is
-/// sound is a state of the model, which must answer the same.
-fn call_on(
-    verdict: Verdict,
-    mut network: Option<Network>,
-    mut lent: Lent,
-    call: &Call,
-) -> Result<(), String> {
-    if verdict == Verdict::Sound || matches!(call, Call::Fresh { .. }) {
-        return compare(model::apply, &mut network, &mut lent, call);
+/// Makes a call on a damaged memory. Where its words are a state of the model, sound or not, the
+/// model must answer the same. Where they are none the proved bench refuses the call as Unsound, and
+/// leaves every word as it is.
+fn call_on(read: Option<&Network>, lent: Lent, call: &Call) -> Result<Reached, String> {
+    let no_state = read.is_none();
+    if no_state && !matches!(call, Call::Fresh { .. }) {
+        return refuses(lent, call).map(|()| Reached::default());
     }
+    let mut pair = Pair::on(model::apply, read.cloned(), lent);
+    pair.call(call)?;
+    Ok(pair.reached())
+}
+
+/// Holds that a call on an unsound memory is refused as that, and changes no word.
+fn refuses(mut lent: Lent, call: &Call) -> Result<(), String> {
     let before = lent.clone();
     match make(&mut lent, call) {
-        Answer::No(No::Unsound) if lent == before => Ok(()),
-        Answer::No(No::Unsound) => Err(format!("{call}: refused, and a word has changed")),
+        unsound @ Answer::No(No::Unsound) => hold_unchanged(unsound, &before, &lent),
         found => Err(format!("{call} on an unsound memory: {found:?}")),
     }
 }

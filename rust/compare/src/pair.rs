@@ -7,12 +7,14 @@ use model::random::Random;
 use model::script::Outcome;
 
 use crate::calls::{compare, Apply, Lent};
+use crate::reached::{message_ended_by, Reached};
 
 /// The model's state and the library's words, which say the same.
 pub struct Pair {
     apply: Apply,
     network: Option<Network>,
     lent: Lent,
+    reached: Reached,
 }
 
 impl Pair {
@@ -27,6 +29,17 @@ impl Pair {
             apply,
             network: network.cloned(),
             lent: Lent::of(network, &mut random),
+            reached: Reached::default(),
+        }
+    }
+
+    /// Both sides at words that are a state of the model, sound or not.
+    pub fn on(apply: Apply, network: Option<Network>, lent: Lent) -> Pair {
+        Pair {
+            apply,
+            network,
+            lent,
+            reached: Reached::default(),
         }
     }
 
@@ -35,9 +48,18 @@ impl Pair {
         self.network.as_ref()
     }
 
+    /// What the calls so far have reached, on both sides.
+    pub fn reached(self) -> Reached {
+        self.reached
+    }
+
     /// Makes a call on both sides and says how they differ behind it.
     pub fn call(&mut self, call: &Call) -> Result<(), String> {
-        compare(self.apply, &mut self.network, &mut self.lent, call)
+        let ending = message_ended_by(self.network.as_ref(), call);
+        let answer = compare(self.apply, &mut self.network, &mut self.lent, call)?;
+        let after = self.network.as_ref();
+        self.reached.call(ending, call, answer, after);
+        Ok(())
     }
 }
 
@@ -48,17 +70,22 @@ pub struct Differing {
     pub how: String,
 }
 
-/// Makes calls from nothing. Gives the run up to the first call in which the sides differ, if they
-/// do.
-pub fn differing(apply: Apply, calls: &[Call]) -> Option<Differing> {
+/// Makes calls from nothing. Gives what they have reached, or the run up to the first call in which
+/// the sides differ.
+pub fn reached_by(apply: Apply, calls: &[Call]) -> Result<Reached, Differing> {
     let mut pair = Pair::new(apply);
     for (place, call) in calls.iter().enumerate() {
         if let Err(how) = pair.call(call) {
             let calls = calls[..=place].to_vec();
-            return Some(Differing { calls, how });
+            return Err(Differing { calls, how });
         }
     }
-    None
+    Ok(pair.reached())
+}
+
+/// The run up to the first call in which the sides differ, if they do.
+pub fn differing(apply: Apply, calls: &[Call]) -> Option<Differing> {
+    reached_by(apply, calls).err()
 }
 
 /// What the model says of a run, as a script that states it: `bench check` names the call in which

@@ -6,7 +6,7 @@ use std::ops::AddAssign;
 
 use model::calls::Call;
 use model::random::Random;
-use model::runs::{self, Runner};
+use model::runs;
 
 use crate::asking;
 use crate::calls::Apply;
@@ -14,11 +14,12 @@ use crate::changing;
 use crate::choice::{self, any};
 use crate::damaged;
 use crate::filling;
-use crate::pair::{differing, Differing, Pair};
+use crate::pair::{differing, reached_by, Differing, Pair};
+use crate::reached::Reached;
 use crate::watch;
 
 /// From each state of a run so many calls are made in a row, aside from the run.
-const ASIDE: usize = 4;
+const ASIDE: usize = 6;
 
 /// What was compared.
 #[derive(Clone, Debug, Default, PartialEq, Eq)]
@@ -30,6 +31,8 @@ pub struct Figures {
     pub aside: usize,
     /// Memories that were damaged.
     pub damaged: usize,
+    /// What all these calls answered, on both sides.
+    pub reached: Reached,
     /// What was met in the runs with a watcher beside the library.
     pub watched: watch::Figures,
 }
@@ -40,6 +43,7 @@ impl AddAssign for Figures {
         self.calls += more.calls;
         self.aside += more.aside;
         self.damaged += more.damaged;
+        self.reached += more.reached;
         self.watched += more.watched;
     }
 }
@@ -70,29 +74,31 @@ pub enum Found {
 
 /// A random run of that many calls, with calls aside from each of its states and damage to each.
 pub fn run(apply: Apply, seed: u64, count: usize) -> Result<Figures, Found> {
-    let mut runner = Runner::new(seed);
+    thorough(apply, seed, &runs::calls(seed, count))
+}
+
+/// A run with calls aside from each of its states and damage to each.
+pub fn thorough(apply: Apply, seed: u64, calls: &[Call]) -> Result<Figures, Found> {
     let mut random = Random::new(seed ^ 0xCA11);
     let mut pair = Pair::at(apply, None, Random::new(seed ^ 0x4EAD));
-    let mut made = Vec::new();
     let mut figures = Figures {
         runs: 1,
         ..Figures::default()
     };
-    for _ in 0..count {
-        figures.aside += aside(apply, &pair, &made, &mut random)?;
-        figures.damaged += damage(&pair, made.len(), &mut random)?;
-        let (call, _) = runner.call();
-        made.push(call);
-        match pair.call(&call) {
+    for (behind, call) in calls.iter().enumerate() {
+        figures += aside(apply, &pair, &calls[..behind], &mut random)?;
+        figures += damage(&pair, behind, &mut random)?;
+        match pair.call(call) {
             Ok(()) => figures.calls += 1,
-            Err(how) => return Err(found(apply, made, how)),
+            Err(how) => return Err(found(apply, calls[..=behind].to_vec(), how)),
         }
     }
+    figures.reached += pair.reached();
     Ok(figures)
 }
 
-/// A few calls from the state of a run on; says how many.
-fn aside(apply: Apply, pair: &Pair, made: &[Call], random: &mut Random) -> Result<usize, Found> {
+/// A few calls from the state of a run on.
+fn aside(apply: Apply, pair: &Pair, made: &[Call], random: &mut Random) -> Result<Figures, Found> {
     let mut pair = Pair::at(apply, pair.network(), random.clone());
     let mut more = Vec::new();
     for _ in 0..ASIDE {
@@ -101,21 +107,29 @@ fn aside(apply: Apply, pair: &Pair, made: &[Call], random: &mut Random) -> Resul
         pair.call(&call)
             .map_err(|how| found(apply, [made, &more].concat(), how))?;
     }
-    Ok(ASIDE)
+    Ok(Figures {
+        aside: ASIDE,
+        reached: pair.reached(),
+        ..Figures::default()
+    })
 }
 
-/// The state of a run, damaged by words or by things; says how many memories were asked of.
-fn damage(pair: &Pair, behind: usize, random: &mut Random) -> Result<usize, Found> {
+/// The state of a run, damaged by words or by things; nothing where there is no network yet.
+fn damage(pair: &Pair, behind: usize, random: &mut Random) -> Result<Figures, Found> {
     let Some(network) = pair.network() else {
-        return Ok(0);
+        return Ok(Figures::default());
     };
     let lent = match random.chance(50) {
         true => damaged::other_words(network, random),
         false => damaged::other_things(network, random),
     };
     let checked = damaged::check(&lent);
-    checked.map_err(|how| Found::Memory { behind, how })?;
-    Ok(1)
+    let (_, reached) = checked.map_err(|how| Found::Memory { behind, how })?;
+    Ok(Figures {
+        damaged: 1,
+        reached,
+        ..Figures::default()
+    })
 }
 
 /// A run without a Step that fills ports and channel-ends.
@@ -146,14 +160,13 @@ pub fn watched(seed: u64, count: usize) -> Result<Figures, Found> {
 }
 
 fn all(apply: Apply, calls: &[Call]) -> Result<Figures, Found> {
-    match differing(apply, calls) {
-        Some(differing) => Err(Found::Run(differing)),
-        None => Ok(Figures {
-            runs: 1,
-            calls: calls.len(),
-            ..Figures::default()
-        }),
-    }
+    let reached = reached_by(apply, calls).map_err(Found::Run)?;
+    Ok(Figures {
+        runs: 1,
+        calls: calls.len(),
+        reached,
+        ..Figures::default()
+    })
 }
 
 /// The run that differs, made once more from nothing, as a script would make it.

@@ -1,6 +1,7 @@
 //! Both sides asked whether the same words are sound.
 
 use bench::Looks;
+use model::network::Network;
 use model::sound;
 
 use crate::reading::read;
@@ -15,24 +16,25 @@ pub enum Verdict {
     Unreadable,
 }
 
-/// Asks both sides of any words. Where they differ, or the proved tests differ among themselves,
-/// says how.
-pub fn verdict(state: &[u32], memory: &[u16]) -> Result<Verdict, String> {
+/// Asks both sides of any words, and gives the state of the model that they are, if they are one.
+/// Where the sides differ, or the proved tests differ among themselves, says how.
+pub fn verdict(state: &[u32], memory: &[u16]) -> Result<(Verdict, Option<Network>), String> {
     let looks = Looks::over(state, memory);
     let proved = looks.is_sound();
     let clause = looks.failing_clause();
     if proved != clause.is_none() {
         return Err(format!("is_sound is {proved}, and {clause:?} fails"));
     }
-    let (expected, why) = match read(state, memory) {
-        Ok(network) => match sound::first_failing(&network) {
+    let read = read(state, memory);
+    let (expected, why) = match &read {
+        Ok(network) => match sound::first_failing(network) {
             None => (Verdict::Sound, String::new()),
             Some(failing) => (Verdict::Unsound, format!("{failing:?}")),
         },
-        Err(unreadable) => (Verdict::Unreadable, unreadable.0),
+        Err(unreadable) => (Verdict::Unreadable, unreadable.0.clone()),
     };
     if proved == (expected == Verdict::Sound) {
-        return Ok(expected);
+        return Ok((expected, read.ok()));
     }
     let found = clause.map_or("sound".to_owned(), |clause| clause.to_string());
     Err(format!(

@@ -1,20 +1,16 @@
 //! Calls made on both sides: every answer and the whole visible state are the same, and a refused
 //! call has changed no word.
 
-use std::collections::BTreeSet;
-
 use compare::calls::{compare, Lent};
 use compare::pair::Pair;
 use compare::reduce::report;
 use compare::soak::{ask, fill, run, Figures, Found};
-use compare::{choice, filling, layout, reading};
+use compare::{filling, layout, reading};
 use model::calls::Call;
 use model::network::{LinkEnd, Network};
 use model::random::Random;
-use model::runs::Runner;
 use model::set::Setting;
 use model::tokens::{header, Destination, Token};
-use model::{Answer, No};
 
 const RUNS: u64 = 100;
 const CALLS: usize = 400;
@@ -60,86 +56,6 @@ fn runs_that_ask_control_units() {
         add(&mut figures, seed, ask(model::apply, seed, ASKING));
     }
     println!("{figures}");
-}
-
-/// Which call it is, by its first word; settings by their own.
-fn name(call: &Call) -> String {
-    let text = call.to_string();
-    let mut words = text.split_whitespace();
-    match (words.next(), words.nth(1)) {
-        (Some("set"), Some(setting)) => setting.to_owned(),
-        (first, _) => first.unwrap_or_default().to_owned(),
-    }
-}
-
-/// The refusals that a call can be given.
-fn refusals(name: &str) -> &'static [No] {
-    match name {
-        "fresh" => &[No::Unsound, No::NoSuch],
-        "wire" | "network" | "enable" => &[No::NoSuch, No::Value, No::Busy],
-        "number" | "width" | "direction" | "linkdirection" => &[No::NoSuch, No::Value],
-        "hello" => &[No::NoSuch, No::Busy],
-        "aim" => &[No::NoSuch, No::Value, No::Open],
-        "output" => &[
-            No::NoSuch,
-            No::Unaimed,
-            No::Hardware,
-            No::Privileged,
-            No::Narrow,
-            No::Full,
-        ],
-        _ => &[No::NoSuch, No::Empty, No::Trap],
-    }
-}
-
-/// What calls made up in this way answer on a sound state.
-fn answers_met() -> BTreeSet<(String, String)> {
-    let mut met = BTreeSet::new();
-    for seed in 0..40 {
-        let mut runner = Runner::new(seed);
-        let mut random = Random::new(seed);
-        for _ in 0..CALLS {
-            runner.call();
-            let mut network = runner.network().cloned();
-            for _ in 0..6 {
-                let call = choice::any(&mut random, network.as_ref());
-                let answer = model::apply(&mut network, &call);
-                met.insert((name(&call), answer.to_string()));
-            }
-        }
-    }
-    met
-}
-
-/// Every refusal of every call, and every success, is among what is compared.
-#[test]
-fn every_refusal_of_every_call_is_met() {
-    let met = answers_met();
-    let calls = [
-        "fresh",
-        "wire",
-        "number",
-        "width",
-        "direction",
-        "linkdirection",
-        "network",
-        "enable",
-        "hello",
-        "aim",
-        "output",
-        "input",
-    ];
-    for call in calls {
-        for no in refusals(call) {
-            let case = (call.to_owned(), Answer::No(*no).to_string());
-            assert!(met.contains(&case), "no {call} was refused as {no:?}");
-        }
-        let mut of_call = met.iter().filter(|(name, _)| name == call);
-        assert!(
-            of_call.any(|(_, answer)| !answer.starts_with("no ")),
-            "{call}"
-        );
-    }
 }
 
 /// What the states of runs that fill have: how full a port 8..11 and a channel-end were.

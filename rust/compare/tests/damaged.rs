@@ -58,7 +58,9 @@ fn check(state: &[u32], memory: &[u16], from: &str) -> Verdict {
         state: state.to_vec(),
         memory: memory.to_vec(),
     };
-    damaged::check(&lent).unwrap_or_else(|difference| panic!("{from}: {difference}"))
+    let checked = damaged::check(&lent);
+    let (verdict, _) = checked.unwrap_or_else(|difference| panic!("{from}: {difference}"));
+    verdict
 }
 
 /// The words that a fresh network has.

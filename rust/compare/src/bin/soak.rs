@@ -5,9 +5,10 @@ use std::process::ExitCode;
 use std::time::{Duration, Instant, SystemTime, UNIX_EPOCH};
 
 use compare::reduce::{report, report_by};
-use compare::soak::{ask, fill, run, watched, Figures, Found};
+use compare::soak::{thorough, watched, Figures, Found};
 use compare::watch::library;
-use model::Call;
+use compare::{asking, changing, filling};
+use model::{runs, Call};
 
 const ABOUT: &str = "\
 soak: compares the proved bench with the model on random runs and damaged memories, and watches
@@ -18,16 +19,19 @@ soak: compares the proved bench with the model on random runs and damaged memori
 Seeds are taken one after the other, from N or from the clock, until a difference or a stream gone
 wrong is found or the minutes (60 if not given) have passed. A run that differs is made as short as it can be and written
 as a script, FOLDER/soak-SEED.txt (the folder at hand if none is given), with the model's answers
-stated. The same seed gives the same run.
+stated. The same seed gives the same run. At the end it says how often each call gave each answer,
+and each switch message each of its ends, on both sides.
 
 Exit status: 0 no difference, 1 a difference, 2 words that are not understood.
 ";
 
 /// Calls of each random run, most of them behind the setting up of its network, of each run that
-/// fills buffers, of each that asks control units, and of each that is watched.
+/// fills buffers, of each that asks control units, of each in which settings change, and of each
+/// that is watched.
 const CALLS: usize = 1500;
 const FILLING: usize = 1500;
 const ASKING: usize = 3000;
+const CHANGING: usize = 1500;
 const WATCHED: usize = 3000;
 
 /// How often it says how far it is.
@@ -95,15 +99,24 @@ fn soak(asked: &Asked) -> ExitCode {
             break;
         }
     }
+    print!(
+        "reached on both sides, by call and answer\n{}",
+        figures.reached
+    );
     println!("no difference");
     ExitCode::SUCCESS
 }
 
 fn compare_with(seed: u64) -> Result<Figures, Found> {
-    let mut figures = run(model::apply, seed, CALLS)?;
-    figures += fill(model::apply, seed, FILLING)?;
-    figures += ask(model::apply, seed, ASKING)?;
-    figures += watched(seed, WATCHED)?;
+    let mut figures = watched(seed, WATCHED)?;
+    for calls in [
+        runs::calls(seed, CALLS),
+        filling::calls(seed, FILLING),
+        asking::calls(seed, ASKING),
+        changing::calls(seed, CHANGING),
+    ] {
+        figures += thorough(model::apply, seed, &calls)?;
+    }
     Ok(figures)
 }
 

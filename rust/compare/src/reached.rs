@@ -1,0 +1,191 @@
+//! What compared calls have reached: how often each call gave each answer, and each switch message
+//! each of its ends. A call is counted where both sides gave the answer and were left the same.
+
+mod ends;
+
+use std::collections::BTreeMap;
+use std::fmt;
+use std::ops::AddAssign;
+
+use model::answers::{Cause, Opening};
+use model::calls::Call;
+use model::network::Network;
+use model::set::Setting;
+use model::{Answer, No};
+
+use ends::Message;
+
+/// What can be reached, by call: its answers, and each number for no that document 01 has for it.
+#[rustfmt::skip]
+const CASES: [(&str, &[&str]); 15] = [
+    ("fresh", &["done", "no 1", "no 2"]),
+    ("wire", &["done", "no 1", "no 2", "no 3", "no 4"]),
+    ("set number", &["done", "no 1", "no 2", "no 3"]),
+    ("set width", &["done", "no 1", "no 2", "no 3"]),
+    ("set direction", &["done", "no 1", "no 2", "no 3"]),
+    ("set linkdirection", &["done", "no 1", "no 2", "no 3"]),
+    ("set network", &["done", "no 1", "no 2", "no 3", "no 4"]),
+    ("set enable", &["done", "no 1", "no 2", "no 3", "no 4"]),
+    ("set hello", &["granted 0", "granted 8", "granted 16", "granted 64", "no 1", "no 2", "no 4"]),
+    ("aim", &["done", "no 1", "no 2", "no 3", "no 6"]),
+    ("output", &["done", "no 1", "no 2", "no 5", "no 7", "no 8", "no 9", "no 10"]),
+    ("input", &["token", "no 1", "no 2", "no 11", "no 12"]),
+    ("step", &[
+        "idle", "waiting", "moved", "opened link", "opened channel", "opened control",
+        "refused split", "refused noroute", "dropped split", "dropped noroute", "malformed",
+        "unheard", "no 1", "no 2",
+    ]),
+    ("message answered", ends::ANSWERED),
+    ("message not answered", ends::NOT_ANSWERED),
+];
+
+/// A call, and what it answered; or a message, and its end.
+type Case = (&'static str, &'static str);
+
+/// How often each case was reached.
+#[derive(Clone, Debug, Default, PartialEq, Eq)]
+pub struct Reached(BTreeMap<Case, usize>);
+
+impl Reached {
+    /// How often a call gave an answer, both by their names in the table.
+    pub fn times(&self, call: &str, answer: &str) -> usize {
+        self.0.get(&(call, answer)).copied().unwrap_or(0)
+    }
+
+    /// The cases of the table that were not reached.
+    pub fn missing(&self) -> Vec<Case> {
+        let reached = |(call, answer): &Case| self.times(call, answer) > 0;
+        all().filter(|case| !reached(case)).collect()
+    }
+
+    /// What was reached and has no place in the table.
+    pub fn unforeseen(&self) -> Vec<Case> {
+        let known: Vec<Case> = all().collect();
+        let met = self.0.keys().copied();
+        met.filter(|case| !known.contains(case)).collect()
+    }
+
+    fn count(&mut self, case: Case) {
+        *self.0.entry(case).or_default() += 1;
+    }
+
+    /// Counts a call that was made on a state, answered so and left another.
+    pub(crate) fn call(
+        &mut self,
+        ending: Option<Message>,
+        call: &Call,
+        answer: Answer,
+        after: Option<&Network>,
+    ) {
+        self.count((call_name(call), answer_name(answer)));
+        let ended = ending.zip(after);
+        if let Some(case) = ended.and_then(|(message, after)| message.case(answer, after)) {
+            self.count(case);
+        }
+    }
+}
+
+/// The message that a call is about to end, for [`Reached::call`].
+pub(crate) fn message_ended_by(network: Option<&Network>, call: &Call) -> Option<Message> {
+    Message::ended_by(network?, call)
+}
+
+fn all() -> impl Iterator<Item = Case> {
+    let calls = CASES.iter();
+    calls.flat_map(|(call, answers)| answers.iter().map(move |answer| (*call, *answer)))
+}
+
+impl AddAssign for Reached {
+    fn add_assign(&mut self, more: Reached) {
+        for (case, times) in more.0 {
+            *self.0.entry(case).or_default() += times;
+        }
+    }
+}
+
+/// A line a call: every answer of the table with its count, those at zero too.
+impl fmt::Display for Reached {
+    fn fmt(&self, f: &mut fmt::Formatter<'_>) -> fmt::Result {
+        for (call, answers) in CASES {
+            let counted = answers
+                .iter()
+                .map(|answer| format!("{answer} {}", self.times(call, answer)));
+            let counted: Vec<String> = counted.collect();
+            writeln!(f, "{call}: {}", counted.join(", "))?;
+        }
+        Ok(())
+    }
+}
+
+fn call_name(call: &Call) -> &'static str {
+    match call {
+        Call::Fresh { .. } => "fresh",
+        Call::Wire { .. } => "wire",
+        Call::Set { setting, .. } => setting_name(setting),
+        Call::Aim { .. } => "aim",
+        Call::Output { .. } => "output",
+        Call::Input { .. } => "input",
+        Call::Step { .. } => "step",
+    }
+}
+
+fn setting_name(setting: &Setting) -> &'static str {
+    match setting {
+        Setting::Number { .. } => "set number",
+        Setting::Width { .. } => "set width",
+        Setting::Direction { .. } => "set direction",
+        Setting::LinkDirection { .. } => "set linkdirection",
+        Setting::Network { .. } => "set network",
+        Setting::Enable { .. } => "set enable",
+        Setting::Hello { .. } => "set hello",
+    }
+}
+
+/// The answer as scripts have it, without a token's value or a link's place.
+fn answer_name(answer: Answer) -> &'static str {
+    match answer {
+        Answer::No(no) => no_name(no),
+        Answer::Done => "done",
+        Answer::Granted(credit) => grant_name(credit),
+        Answer::Token(_) => "token",
+        Answer::Idle => "idle",
+        Answer::Waiting => "waiting",
+        Answer::Moved => "moved",
+        Answer::Opened(Opening::Link(_)) => "opened link",
+        Answer::Opened(Opening::Channel) => "opened channel",
+        Answer::Opened(Opening::Control) => "opened control",
+        Answer::Refused(Cause::Split) => "refused split",
+        Answer::Refused(Cause::NoRoute) => "refused noroute",
+        Answer::Dropped(Cause::Split) => "dropped split",
+        Answer::Dropped(Cause::NoRoute) => "dropped noroute",
+        Answer::Malformed => "malformed",
+        Answer::Unheard => "unheard",
+    }
+}
+
+fn grant_name(credit: usize) -> &'static str {
+    match credit {
+        0 => "granted 0",
+        8 => "granted 8",
+        16 => "granted 16",
+        64 => "granted 64",
+        _ => "granted another number",
+    }
+}
+
+fn no_name(no: No) -> &'static str {
+    match no {
+        No::Unsound => "no 1",
+        No::NoSuch => "no 2",
+        No::Value => "no 3",
+        No::Busy => "no 4",
+        No::Unaimed => "no 5",
+        No::Open => "no 6",
+        No::Hardware => "no 7",
+        No::Privileged => "no 8",
+        No::Narrow => "no 9",
+        No::Full => "no 10",
+        No::Empty => "no 11",
+        No::Trap => "no 12",
+    }
+}
