@@ -2,6 +2,7 @@
 
 mod common;
 
+use std::collections::BTreeSet;
 use std::path::PathBuf;
 
 use common::{bench, file, scripts_in, text};
@@ -50,6 +51,66 @@ fn the_scripts_beside_it_have_every_answer() {
     }
     for answer in ANSWERS {
         assert!(all.contains(&format!("-> {answer} #")), "{answer}");
+    }
+}
+
+/// The numbers for no that document 01 has for each call.
+#[rustfmt::skip]
+const REFUSALS: [(&str, &[u32]); 13] = [
+    ("fresh", &[1, 2]),
+    ("wire", &[1, 2, 3, 4]),
+    ("set number", &[1, 2, 3]),
+    ("set width", &[1, 2, 3]),
+    ("set direction", &[1, 2, 3]),
+    ("set linkdirection", &[1, 2, 3]),
+    ("set network", &[1, 2, 3, 4]),
+    ("set enable", &[1, 2, 3, 4]),
+    ("set hello", &[1, 2, 4]),
+    ("aim", &[1, 2, 3, 6]),
+    ("output", &[1, 2, 5, 7, 8, 9, 10]),
+    ("input", &[1, 2, 11, 12]),
+    ("step", &[1, 2]),
+];
+
+/// A stated refusal: which call, a Set by its setting, and the number.
+fn refusal(line: &str) -> Option<(String, u32)> {
+    let (call, answer) = line.split_once(" -> no ")?;
+    let number = answer.split(' ').next()?.parse().ok()?;
+    let name = match call.split(' ').collect::<Vec<_>>()[..] {
+        ["set", _, setting, ..] => format!("set {setting}"),
+        [first, ..] => first.to_owned(),
+        [] => return None,
+    };
+    Some((name, number))
+}
+
+/// Every refusal of every call is stated in them, and no call is given a number that is not its own.
+#[test]
+fn the_scripts_beside_it_state_every_refusal_of_every_call() {
+    let mut stated = BTreeSet::new();
+    for path in scripts() {
+        let script = std::fs::read_to_string(&path).expect("a script");
+        stated.extend(calls(&script).into_iter().filter_map(refusal));
+    }
+    let numbers = |(call, numbers): (&str, &'static [u32])| {
+        let call = call.to_owned();
+        numbers.iter().map(move |number| (call.clone(), *number))
+    };
+    let expected: BTreeSet<_> = REFUSALS.into_iter().flat_map(numbers).collect();
+    assert_eq!(stated, expected);
+}
+
+/// "Credit 7: 16, making 23": what `show` says of the link before and behind the 57th token.
+#[test]
+fn credit_seven_makes_twenty_three() {
+    let path = PathBuf::from(env!("CARGO_MANIFEST_DIR")).join("scripts/credit-seven.txt");
+    let script = std::fs::read_to_string(path).expect("a script");
+    for (before, credit) in [("// the 57th: ", 8), ("// taken: ", 23)] {
+        let (part, _) = script.split_once(before).expect("a part of the script");
+        let part = file(&format!("credit-{credit}.txt"), part);
+        let shown = text(&bench(&["show", &part]).stdout);
+        let fact = format!("board 0 link A: credit {credit}\n");
+        assert!(shown.contains(&fact), "{shown}");
     }
 }
 
