@@ -1,0 +1,384 @@
+//! For each sentence of the list "Sound" a state that fails it alone, and its twin, which is sound.
+//! Both sides say so, and every call on a state that fails is refused with 1 and changes no word.
+
+use bench::raw;
+use compare::calls::{compare, hold_unchanged, make, Lent};
+use compare::layout::{FIRST_PORT, NODE_TOKENS, NODE_WORDS, PORT};
+use model::answers::Cause;
+use model::network::{Aim, Claim, Hop, LinkEnd, Network, Node, Sending};
+use model::random::Random;
+use model::set::Setting;
+use model::sound::{self, Clause};
+use model::tokens::{Destination, Kind, Token, END, PAUSE, READC, SINK, SSCTRL};
+use model::{Answer, Call, No};
+
+/// Changes slot 1 of a fresh network of two nodes.
+type Change = fn(&mut Node);
+
+/// A sentence and what it is about, what fails it alone, and the twin that passes.
+struct Pair {
+    about: &'static str,
+    fails: Change,
+    passes: Change,
+}
+
+const fn pair(about: &'static str, fails: Change, passes: Change) -> Pair {
+    Pair {
+        about,
+        fails,
+        passes,
+    }
+}
+
+fn one_byte_header() -> Token {
+    Token::data(0x27).in_header(1)
+}
+
+/// A token of a three-byte header: of its number, or its last.
+fn of_three(value: u8) -> Token {
+    Token::data(value).in_header(3)
+}
+
+fn data() -> Token {
+    Token::data(5)
+}
+
+/// Port 12 holds these, with no circuit.
+fn reply_port<const N: usize>(node: &mut Node, tokens: [Token; N]) {
+    node.ports[12].tokens = tokens.into();
+}
+
+/// Port 0 has a circuit with the last token of its header in front.
+fn header_in_front(node: &mut Node, hop: Hop) {
+    node.ports[0].tokens = [of_three(7), data()].into();
+    node.ports[0].hop = Some(hop);
+}
+
+fn to_the_sink(node: &mut Node, port: usize, tile_link: usize) {
+    node.ports[port].hop = Some(Hop::Channel(SINK));
+    node.tile_links[tile_link] = Some(port);
+}
+
+fn outward(node: &mut Node, port: usize, link: usize) {
+    node.ports[port].hop = Some(Hop::Outward(link));
+    node.links[link].used_by = Some(port);
+}
+
+fn served(node: &mut Node, port: usize) {
+    node.ports[port].hop = Some(Hop::Control);
+    node.control_unit.serves = Some(port);
+}
+
+/// A channel-end that is open by a port, which holds the header.
+fn open_by(node: &mut Node, end: usize, port: usize) {
+    node.ports[port].tokens = [one_byte_header()].into();
+    opened(node, end, Sending::ByPort(port));
+}
+
+fn opened(node: &mut Node, end: usize, sending: Sending) {
+    node.channel_ends[end].aim = Some(Aim {
+        destination: Destination::Control { number: 0 },
+        network: 0,
+    });
+    node.channel_ends[end].sending = Some(sending);
+}
+
+/// "tokens and headers are legal"
+#[rustfmt::skip]
+const LEGAL_TOKENS: &[Pair] = &[
+    pair("0xC2 behind a header; 0xC1",
+        |node| reply_port(node, [one_byte_header(), Token::control(0xC2)]),
+        |node| reply_port(node, [one_byte_header(), Token::control(READC)])),
+    pair("0xE0 behind a header; 0xBF",
+        |node| reply_port(node, [one_byte_header(), Token::control(0xE0)]),
+        |node| reply_port(node, [one_byte_header(), Token::control(0xBF)])),
+];
+
+#[rustfmt::skip]
+const LEGAL_HEADERS: &[Pair] = &[
+    pair("channel 32; channel 31",
+        |node| reply_port(node, [of_three(0), of_three(1), of_three(32)]),
+        |node| reply_port(node, [of_three(0), of_three(1), of_three(31)])),
+    pair("two widths in one header; SSCTRL behind the number",
+        |node| reply_port(node, [of_three(0), of_three(1), one_byte_header()]),
+        |node| reply_port(node, [of_three(0), of_three(1), Token::control(SSCTRL).in_header(3)])),
+    pair("control in a header's number; data",
+        |node| reply_port(node, [of_three(0), Token::control(SSCTRL).in_header(3)]),
+        |node| reply_port(node, [of_three(0), of_three(SSCTRL)])),
+];
+
+/// "a port with no circuit is empty or starts with a header"
+#[rustfmt::skip]
+const STARTS: &[Pair] = &[
+    pair("data; a header", |node| reply_port(node, [data()]), |node| reply_port(node, [one_byte_header()])),
+    pair("END; empty", |node| reply_port(node, [Token::control(END)]), |node| reply_port(node, [])),
+];
+
+/// ".. and so does what follows an END or PAUSE"
+#[rustfmt::skip]
+const FOLLOWS: &[Pair] = &[
+    pair("data behind END; a header",
+        |node| reply_port(node, [one_byte_header(), Token::control(END), data()]),
+        |node| reply_port(node, [one_byte_header(), Token::control(END), one_byte_header()])),
+    pair("data behind PAUSE; a header",
+        |node| reply_port(node, [one_byte_header(), Token::control(PAUSE), data()]),
+        |node| reply_port(node, [one_byte_header(), Token::control(PAUSE), one_byte_header()])),
+];
+
+/// "such a header is short only at its port's end"
+#[rustfmt::skip]
+const SHORT: &[Pair] = &[
+    pair("two of three tokens, then data; two at the end",
+        |node| reply_port(node, [of_three(0), of_three(1), data()]),
+        |node| reply_port(node, [of_three(0), of_three(1)])),
+    pair("one of three tokens, then END; one at the end",
+        |node| reply_port(node, [of_three(0), Token::control(END)]),
+        |node| reply_port(node, [of_three(0)])),
+];
+
+/// "header tokens stand elsewhere only at the front of a circuit still sending its header outward or
+/// being dropped"
+#[rustfmt::skip]
+const ELSEWHERE: &[Pair] = &[
+    pair("a header behind data; behind END",
+        |node| reply_port(node, [one_byte_header(), data(), one_byte_header()]),
+        |node| reply_port(node, [one_byte_header(), Token::control(END), one_byte_header()])),
+    pair("in front towards a channel; being dropped",
+        |node| { to_the_sink(node, 0, 1); header_in_front(node, Hop::Channel(SINK)) },
+        |node| header_in_front(node, Hop::Dropped(Cause::Split))),
+    pair("in front towards the control unit; on its way outward",
+        |node| { served(node, 0); header_in_front(node, Hop::Control) },
+        |node| { outward(node, 0, 2); header_in_front(node, Hop::Outward(2)) }),
+    pair("behind the front of a circuit outward; in front",
+        |node| { outward(node, 0, 2); node.ports[0].tokens = [data(), of_three(7)].into() },
+        |node| { outward(node, 0, 2); node.ports[0].tokens = [of_three(7), data()].into() }),
+];
+
+/// "a port's output names that port back and no other": links, tile links, the control unit
+#[rustfmt::skip]
+const OUTPUTS: &[Pair] = &[
+    pair("a hop by a link that nobody uses; that names its port",
+        |node| node.ports[8].hop = Some(Hop::Outward(2)),
+        |node| outward(node, 8, 2)),
+    pair("two hops by one link; by two",
+        |node| { outward(node, 9, 2); outward(node, 8, 2) },
+        |node| { outward(node, 9, 3); outward(node, 8, 2) }),
+    pair("a link that names a port with no circuit; with its own",
+        |node| node.links[2].used_by = Some(8),
+        |node| outward(node, 8, 2)),
+    pair("two links that name one port; one",
+        |node| { outward(node, 8, 2); node.links[3].used_by = Some(8) },
+        |node| outward(node, 8, 3)),
+    pair("a hop by a tile link that nobody uses; that names its port",
+        |node| node.ports[0].hop = Some(Hop::Channel(SINK)),
+        |node| to_the_sink(node, 0, 1)),
+    pair("two hops by one tile link; by two",
+        |node| { to_the_sink(node, 3, 1); to_the_sink(node, 0, 1) },
+        |node| { to_the_sink(node, 3, 2); to_the_sink(node, 0, 1) }),
+    pair("a tile link that names a port with no circuit; with its own",
+        |node| node.tile_links[1] = Some(0),
+        |node| to_the_sink(node, 0, 1)),
+    pair("two tile links that name one port; one",
+        |node| { to_the_sink(node, 0, 1); to_the_sink(node, 0, 2) },
+        |node| to_the_sink(node, 0, 2)),
+    pair("a hop to a control unit that serves nobody; that serves its port",
+        |node| node.ports[0].hop = Some(Hop::Control),
+        |node| served(node, 0)),
+    pair("two hops to one control unit; one",
+        |node| { served(node, 3); served(node, 0) },
+        |node| served(node, 3)),
+    pair("a control unit that serves a port with no circuit; with its own",
+        |node| node.control_unit.serves = Some(0),
+        |node| served(node, 0)),
+];
+
+/// "each .. open channel-end names one circuit that exists". One that sends straight to a channel
+/// that is not there has no claim either, and so fails two clauses.
+#[rustfmt::skip]
+const OPEN: &[Pair] = &[
+    pair("open by a port and not aimed; aimed",
+        |node| { open_by(node, 4, 9); node.channel_ends[4].aim = None },
+        |node| open_by(node, 4, 9)),
+    pair("open straight to the sink and not aimed; aimed",
+        |node| node.channel_ends[4].sending = Some(Sending::Straight(SINK)),
+        |node| opened(node, 4, Sending::Straight(SINK))),
+    pair("open by port 7; by port 8", |node| open_by(node, 4, 7), |node| open_by(node, 4, 8)),
+    pair("open by port 12; by port 11", |node| open_by(node, 4, 12), |node| open_by(node, 4, 11)),
+    pair("open by a port that nothing has taken; that holds its header",
+        |node| opened(node, 4, Sending::ByPort(9)),
+        |node| open_by(node, 4, 9)),
+    pair("two open by one port; by two",
+        |node| { open_by(node, 4, 9); open_by(node, 5, 9) },
+        |node| { open_by(node, 4, 9); open_by(node, 5, 10) }),
+];
+
+/// The other clauses, one state each.
+#[rustfmt::skip]
+const COUNTS: &[Pair] = &[pair("width two; one", |node| node.width = 2, |node| node.width = 1)];
+
+#[rustfmt::skip]
+const CLAIMS: &[Pair] = &[
+    pair("by a port with no circuit; by the port whose circuit goes there",
+        |node| node.channel_ends[5].claim = Some(Claim::ByPort(0)),
+        |node| {
+            to_the_sink(node, 0, 1);
+            node.ports[0].hop = Some(Hop::Channel(5));
+            node.channel_ends[5].claim = Some(Claim::ByPort(0));
+        }),
+];
+
+#[rustfmt::skip]
+const REPLY_PORT: &[Pair] = &[
+    pair("a reply in port 12 while a circuit is served; none",
+        |node| { served(node, 0); reply_port(node, [one_byte_header()]) },
+        |node| served(node, 0)),
+];
+
+/// What the library numbers and the model names, with the states of it.
+const SENTENCES: [(u32, Clause, &[Pair]); 11] = [
+    (2, Clause::Counts, COUNTS),
+    (7, Clause::LegalTokens, LEGAL_TOKENS),
+    (7, Clause::LegalHeaders, LEGAL_HEADERS),
+    (7, Clause::StartsWithHeader, STARTS),
+    (7, Clause::HeaderAfterEnd, FOLLOWS),
+    (7, Clause::ShortHeader, SHORT),
+    (7, Clause::HeaderElsewhere, ELSEWHERE),
+    (9, Clause::OutputNamesBack, OUTPUTS),
+    (10, Clause::Claims, CLAIMS),
+    (11, Clause::OpenChannelEnds, OPEN),
+    (12, Clause::ReplyPort, REPLY_PORT),
+];
+
+fn with(change: Change) -> Network {
+    let mut network = Network::fresh(2, 2 * NODE_TOKENS);
+    change(&mut network.nodes[1]);
+    network
+}
+
+fn words(network: &Network) -> Lent {
+    Lent::of(Some(network), &mut Random::new(11))
+}
+
+fn clause_of(lent: &Lent) -> u32 {
+    raw::unsound_clause(&lent.state, &lent.memory)
+}
+
+/// Every call but Fresh, each with arguments that are in range, and a Step of every port.
+fn calls() -> Vec<Call> {
+    let (slot, link, channel_end) = (1, 4, 20);
+    let one = LinkEnd { slot: 0, link };
+    let other = LinkEnd { slot, link };
+    let settings = [
+        Setting::Number { value: 1 },
+        Setting::Width { value: 1 },
+        Setting::Direction { bit: 3, value: 1 },
+        Setting::LinkDirection { link, value: 1 },
+        Setting::Network { link, value: 1 },
+        Setting::Enable { link, value: 1 },
+        Setting::Hello { link },
+    ];
+    let destinations = [
+        Destination::Channel {
+            number: 0,
+            channel: 1,
+        },
+        Destination::Control { number: 0 },
+    ];
+    let mut calls = vec![Call::Wire { one, other }];
+    calls.extend(settings.map(|setting| Call::Set { slot, setting }));
+    calls.extend(destinations.map(|destination| Call::Aim {
+        slot,
+        channel_end,
+        destination,
+        network: 0,
+    }));
+    for kind in [Kind::Data, Kind::Control] {
+        calls.push(Call::Output {
+            slot,
+            channel_end,
+            kind,
+            value: END,
+        });
+        calls.push(Call::Input {
+            slot,
+            channel_end,
+            kind,
+        });
+    }
+    calls.extend((0..13).map(|port| Call::Step { slot, port }));
+    calls
+}
+
+/// Makes a call on both sides, on a copy.
+fn answer(network: &Network, lent: &Lent, call: &Call, about: &str) -> Answer {
+    let (mut network, mut lent) = (Some(network.clone()), lent.clone());
+    let answer = compare(model::apply, &mut network, &mut lent, call);
+    answer.unwrap_or_else(|difference| panic!("{about}: {difference}"))
+}
+
+#[test]
+fn each_state_fails_its_sentence_alone_and_every_call_is_refused() {
+    for (number, clause, pairs) in SENTENCES {
+        for Pair { about, fails, .. } in pairs {
+            let network = with(*fails);
+            let lent = words(&network);
+            assert_eq!(clause_of(&lent), number, "{about}");
+            assert_eq!(sound::failing(&network), [clause], "{about}");
+            for call in calls() {
+                let found = answer(&network, &lent, &call, about);
+                assert_eq!(found, Answer::No(No::Unsound), "{about}: {call}");
+            }
+        }
+    }
+}
+
+#[test]
+fn each_twin_is_sound_and_no_call_is_refused_as_unsound() {
+    for (_, _, pairs) in SENTENCES {
+        for Pair { about, passes, .. } in pairs {
+            let network = with(*passes);
+            let lent = words(&network);
+            assert_eq!(clause_of(&lent), 0, "{about}");
+            assert_eq!(sound::failing(&network), [], "{about}");
+            for call in calls() {
+                let found = answer(&network, &lent, &call, about);
+                assert_ne!(found, Answer::No(No::Unsound), "{about}: {call}");
+            }
+        }
+    }
+}
+
+/// Where the words of slot 1 say who sends by a port: the last circuit of the port's record.
+fn sender_of(port: usize) -> usize {
+    NODE_WORDS + FIRST_PORT + PORT * port + PORT - 2
+}
+
+/// The words of a channel-end that is open by port 9, with another sender named there.
+fn with_sender(change: Change, kind: u32, end: u32) -> Lent {
+    let mut lent = words(&with(change));
+    let at = sender_of(9);
+    (lent.state[at], lent.state[at + 1]) = (kind, end);
+    lent
+}
+
+/// What a port says of its sender is a word that the model has not: it searches.
+#[test]
+fn ports_and_the_channel_ends_that_send_by_them() {
+    let open: Change = |node| open_by(node, 4, 9);
+    let held: Change = |node| node.ports[9].tokens = [one_byte_header()].into();
+    assert_eq!(clause_of(&with_sender(open, 2, 4)), 0);
+    assert_eq!(clause_of(&with_sender(held, 0, 0)), 0);
+    for lent in [
+        with_sender(open, 0, 0),
+        with_sender(open, 2, 5),
+        with_sender(held, 2, 4),
+    ] {
+        assert_eq!(clause_of(&lent), 11);
+        for call in calls() {
+            let mut after = lent.clone();
+            let found = make(&mut after, &call);
+            assert_eq!(found, Answer::No(No::Unsound), "{call}");
+            assert_eq!(hold_unchanged(found, &lent, &after), Ok(()), "{call}");
+        }
+    }
+}
