@@ -103,7 +103,8 @@ impl AddAssign for Reached {
     }
 }
 
-/// A line a call: every answer of the table with its count, those at zero too.
+/// A line a call: every answer of the table with its count, those at zero too, and a line for each
+/// that the table has not.
 impl fmt::Display for Reached {
     fn fmt(&self, f: &mut fmt::Formatter<'_>) -> fmt::Result {
         for (call, answers) in CASES {
@@ -112,6 +113,9 @@ impl fmt::Display for Reached {
                 .map(|answer| format!("{answer} {}", self.times(call, answer)));
             let counted: Vec<String> = counted.collect();
             writeln!(f, "{call}: {}", counted.join(", "))?;
+        }
+        for (call, answer) in self.unforeseen() {
+            writeln!(f, "not in the table, {call}: {answer}")?;
         }
         Ok(())
     }

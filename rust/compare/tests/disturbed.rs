@@ -7,9 +7,10 @@ use compare::layout::{FIRST_PORT, NODE_TOKENS, NODE_WORDS, PORT};
 use model::answers::Cause;
 use model::network::{Aim, Claim, Hop, LinkEnd, Network, Node, Sending};
 use model::random::Random;
-use model::set::Setting;
+use model::sizes::PORTS;
 use model::sound::{self, Clause};
-use model::tokens::{Destination, Kind, Token, END, PAUSE, READC, SINK, SSCTRL};
+use model::tokens::{Destination, Token, END, PAUSE, READC, SINK, SSCTRL};
+use model::words::parse_call;
 use model::{Answer, Call, No};
 
 /// Changes slot 1 of a fresh network of two nodes.
@@ -212,9 +213,79 @@ const OPEN: &[Pair] = &[
         |node| { open_by(node, 4, 9); open_by(node, 5, 10) }),
 ];
 
+/// Links A and D joined and enabled, A greeted or not, with some credit.
+fn joined(node: &mut Node, greeted: bool, credit: usize) {
+    for (link, far) in [(0, 3), (3, 0)] {
+        node.links[link].far = Some(LinkEnd { slot: 1, link: far });
+        node.links[link].enabled = true;
+    }
+    node.links[0].greeted = greeted;
+    node.links[0].credit = credit;
+}
+
+fn held_at_the_far_end(node: &mut Node, credit: usize) {
+    joined(node, true, credit);
+    node.ports[3].tokens = [one_byte_header()].into();
+}
+
+/// A control unit that serves port 0 and has heard one token.
+fn heard(node: &mut Node, token: Token) {
+    served(node, 0);
+    node.control_unit.heard = vec![token];
+}
+
+fn held(node: &mut Node, token: Token) {
+    node.channel_ends[31].tokens = [token].into();
+}
+
 /// The other clauses, one state each.
 #[rustfmt::skip]
 const COUNTS: &[Pair] = &[pair("width two; one", |node| node.width = 2, |node| node.width = 1)];
+
+#[rustfmt::skip]
+const CREDIT: &[Pair] = &[
+    pair("on an ungreeted link; on a greeted one", |node| joined(node, false, 8), |node| joined(node, true, 8)),
+];
+
+#[rustfmt::skip]
+const GREETED: &[Pair] = &[
+    pair("the far end disabled; enabled",
+        |node| { joined(node, true, 0); node.links[3].enabled = false },
+        |node| joined(node, true, 0)),
+    pair("no cable; one",
+        |node| (node.links[0].enabled, node.links[0].greeted) = (true, true),
+        |node| joined(node, true, 0)),
+];
+
+#[rustfmt::skip]
+const ROOM: &[Pair] = &[
+    pair("credit 64 and one token held at the far end; credit 63",
+        |node| held_at_the_far_end(node, 64),
+        |node| held_at_the_far_end(node, 63)),
+];
+
+#[rustfmt::skip]
+const CABLES: &[Pair] = &[
+    pair("known at one end; at both",
+        |node| { joined(node, false, 0); node.links[3].far = None },
+        |node| joined(node, false, 0)),
+];
+
+#[rustfmt::skip]
+const LEGAL_OUTSIDE_PORTS: &[Pair] = &[
+    pair("PAUSE in a channel-end; END",
+        |node| held(node, Token::control(PAUSE)),
+        |node| held(node, Token::control(END))),
+    pair("END kept by a control unit; READC",
+        |node| heard(node, Token::control(END)),
+        |node| heard(node, Token::control(READC))),
+];
+
+#[rustfmt::skip]
+const HEADER_OUTSIDE_PORTS: &[Pair] = &[
+    pair("a header in a channel-end; data", |node| held(node, one_byte_header()), |node| held(node, data())),
+    pair("a header kept by a control unit; data", |node| heard(node, of_three(7)), |node| heard(node, data())),
+];
 
 #[rustfmt::skip]
 const CLAIMS: &[Pair] = &[
@@ -235,14 +306,20 @@ const REPLY_PORT: &[Pair] = &[
 ];
 
 /// What the library numbers and the model names, with the states of it.
-const SENTENCES: [(u32, Clause, &[Pair]); 11] = [
+const SENTENCES: [(u32, Clause, &[Pair]); 17] = [
     (2, Clause::Counts, COUNTS),
+    (3, Clause::CreditGreeted, CREDIT),
+    (4, Clause::GreetedWired, GREETED),
+    (5, Clause::CreditAndHeld, ROOM),
+    (6, Clause::Cables, CABLES),
     (7, Clause::LegalTokens, LEGAL_TOKENS),
     (7, Clause::LegalHeaders, LEGAL_HEADERS),
     (7, Clause::StartsWithHeader, STARTS),
     (7, Clause::HeaderAfterEnd, FOLLOWS),
     (7, Clause::ShortHeader, SHORT),
     (7, Clause::HeaderElsewhere, ELSEWHERE),
+    (8, Clause::LegalTokens, LEGAL_OUTSIDE_PORTS),
+    (8, Clause::HeaderElsewhere, HEADER_OUTSIDE_PORTS),
     (9, Clause::OutputNamesBack, OUTPUTS),
     (10, Clause::Claims, CLAIMS),
     (11, Clause::OpenChannelEnds, OPEN),
@@ -263,50 +340,30 @@ fn clause_of(lent: &Lent) -> u32 {
     raw::unsound_clause(&lent.state, &lent.memory)
 }
 
-/// Every call but Fresh, each with arguments that are in range, and a Step of every port.
+/// Every call but Fresh and Step, each with arguments that are in range and lie apart from what was
+/// changed.
+const CALLS: [&str; 14] = [
+    "wire 0 4 1 4",
+    "set 1 number 0 1",
+    "set 1 width 0 1",
+    "set 1 direction 3 1",
+    "set 1 linkdirection 4 1",
+    "set 1 network 4 1",
+    "set 1 enable 4 1",
+    "set 1 hello 4 0",
+    "aim 1 20 channel 0 1 0",
+    "aim 1 20 control 0 0 0",
+    "output 1 20 data 1",
+    "output 1 20 control 1",
+    "input 1 20 data",
+    "input 1 20 control",
+];
+
+/// These, and a Step of every port.
 fn calls() -> Vec<Call> {
-    let (slot, link, channel_end) = (1, 4, 20);
-    let one = LinkEnd { slot: 0, link };
-    let other = LinkEnd { slot, link };
-    let settings = [
-        Setting::Number { value: 1 },
-        Setting::Width { value: 1 },
-        Setting::Direction { bit: 3, value: 1 },
-        Setting::LinkDirection { link, value: 1 },
-        Setting::Network { link, value: 1 },
-        Setting::Enable { link, value: 1 },
-        Setting::Hello { link },
-    ];
-    let destinations = [
-        Destination::Channel {
-            number: 0,
-            channel: 1,
-        },
-        Destination::Control { number: 0 },
-    ];
-    let mut calls = vec![Call::Wire { one, other }];
-    calls.extend(settings.map(|setting| Call::Set { slot, setting }));
-    calls.extend(destinations.map(|destination| Call::Aim {
-        slot,
-        channel_end,
-        destination,
-        network: 0,
-    }));
-    for kind in [Kind::Data, Kind::Control] {
-        calls.push(Call::Output {
-            slot,
-            channel_end,
-            kind,
-            value: END,
-        });
-        calls.push(Call::Input {
-            slot,
-            channel_end,
-            kind,
-        });
-    }
-    calls.extend((0..13).map(|port| Call::Step { slot, port }));
-    calls
+    let lines = CALLS.into_iter().map(|line| parse_call(line).expect(line));
+    let steps = (0..PORTS).map(|port| Call::Step { slot: 1, port });
+    lines.chain(steps).collect()
 }
 
 /// Makes a call on both sides, on a copy.
@@ -344,6 +401,22 @@ fn each_twin_is_sound_and_no_call_is_refused_as_unsound() {
                 let found = answer(&network, &lent, &call, about);
                 assert_ne!(found, Answer::No(No::Unsound), "{about}: {call}");
             }
+        }
+    }
+}
+
+/// Clause 1, "memory of the wrong length": one word more or less.
+#[test]
+fn a_memory_of_another_length() {
+    for words_of_memory in [2 * NODE_TOKENS - 1, 2 * NODE_TOKENS + 1] {
+        let mut network = with(|_| ());
+        let mut lent = words(&network);
+        network.memory_words = words_of_memory;
+        lent.memory.resize(words_of_memory, 0);
+        assert_eq!(clause_of(&lent), 1);
+        for call in calls() {
+            let found = answer(&network, &lent, &call, "another length");
+            assert_eq!(found, Answer::No(No::Unsound), "{call}");
         }
     }
 }
