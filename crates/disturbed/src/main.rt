@@ -1,33 +1,25 @@
 // For each clause of the Sound list a state that fails exactly that clause, and its twin, which is
-// sound; for clauses 7, 9 and 11 one for each sentence. Each state is a fresh network of two nodes with
-// a few records changed. The same states are given to every call in rust/compare/tests/disturbed.rs.
-mod contents;
-mod opens;
-mod outputs;
-mod say;
-mod write;
+// sound; clause 7 is disturbed_ports, 9 and 11 are disturbed_pairs, a state for each sentence. The same
+// states are given to every call in rust/compare/tests/disturbed.rs.
 
-use crate::contents::contents;
-use crate::opens::opens;
-use crate::outputs::outputs;
-use crate::say::report;
-use crate::write::TOKENS;
-use crate::write::WORDS;
-use crate::write::fresh;
-use crate::write::set_claim;
-use crate::write::set_credit;
-use crate::write::set_heard;
-use crate::write::set_held;
-use crate::write::set_hop;
-use crate::write::set_sending;
-use crate::write::set_serves;
-use crate::write::set_tile_user;
-use crate::write::set_width;
-use crate::write::set_wired;
-use crate::write::set_word;
 use names::size::REPLY_PORT;
 use names::size::UNIT_BUFFER;
 use ports::Counters;
+use states::say::report;
+use states::write::TOKENS;
+use states::write::WORDS;
+use states::write::fresh;
+use states::write::set_claim;
+use states::write::set_credit;
+use states::write::set_heard;
+use states::write::set_held;
+use states::write::set_hop;
+use states::write::set_sending;
+use states::write::set_serves;
+use states::write::set_tile_user;
+use states::write::set_width;
+use states::write::set_wired;
+use states::write::set_word;
 
 fn lengths() {
     let mut st = [0u32; WORDS];
@@ -222,11 +214,8 @@ fn main() {
     lengths();
     counts();
     links();
-    contents();
     held();
     heard();
-    outputs();
     claims();
-    opens();
     replies();
 }

@@ -1,12 +1,12 @@
 // Clause 11, "each .. open channel-end names one circuit that exists", of slot 1. One that sends straight to a channel that
 // is not there fails clause 10 too, and so has no state here.
-use crate::say::report;
-use crate::write::TOKENS;
-use crate::write::WORDS;
-use crate::write::fresh;
-use crate::write::set_sender;
-use crate::write::set_sending;
-use crate::write::set_word;
+use states::say::report;
+use states::write::TOKENS;
+use states::write::WORDS;
+use states::write::fresh;
+use states::write::set_sender;
+use states::write::set_sending;
+use states::write::set_word;
 
 // Channel-end 4 is open by a port, which holds a header and names it.
 fn open_by(st: &mut [u32], mem: &mut [u16], p: u32) {

@@ -1,4 +1,4 @@
--- `disturbed::say::say_failing` ends: each clause that it comes to is past the one before. Assumes nothing.
+-- `states::say::say_failing` ends: each clause that it comes to is past the one before. Assumes nothing.
 use Prim.Native.Nat.{ℕ, _-_, _<_}
 use mathlib.Core.Bool.{false}
 use mathlib.Core.Logic.{_⊎_, ⊎-elim}
@@ -10,8 +10,8 @@ use borrow.Author.Tests.{ne-eqb, not-true}
 use Rattle.laws.specs.Pick.{pick}
 use Rattle.cells.specs.World.{world}
 use Rattle.sound.proofs.Sounds.{next-past}
-use Rattle.disturbed.proofs.say.say_failing.Statement.{statement}
-use Rattle.disturbed.proofs.say.say_failing.Tie as tie
+use Rattle.states.proofs.say.say_failing.Statement.{statement}
+use Rattle.states.proofs.say.say_failing.Tie as tie
 
 -- how many numbers there are past a clause; none is sought past 0
 abbrev left : ℕ → ℕ

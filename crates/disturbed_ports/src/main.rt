@@ -1,14 +1,15 @@
-// Clause 7, sentence by sentence, in port 12 of slot 1 or, with a circuit, in its port 0.
-use crate::say::report;
-use crate::write::TOKENS;
-use crate::write::WORDS;
-use crate::write::fresh;
-use crate::write::set_hop;
-use crate::write::set_serves;
-use crate::write::set_tile_user;
-use crate::write::set_user;
-use crate::write::set_words;
+// For each sentence of clause 7 of the Sound list, what a port holds, a state that fails it alone and its twin, which is sound: in port 12
+// of slot 1 or, with a circuit, in its port 0. The same states are given to every call in rust/compare/tests/disturbed.rs.
 use names::size::REPLY_PORT;
+use states::say::report;
+use states::write::TOKENS;
+use states::write::WORDS;
+use states::write::fresh;
+use states::write::set_hop;
+use states::write::set_serves;
+use states::write::set_tile_user;
+use states::write::set_user;
+use states::write::set_words;
 
 // A one-byte header, and the bytes of a three-byte header.
 const ONE: u16 = 0x0227;
@@ -154,7 +155,7 @@ fn behind_the_front() {
     report(b"7 front: a header on its way outward", &st, &mem);
 }
 
-pub fn contents() {
+fn main() {
     tokens();
     channels();
     widths();
