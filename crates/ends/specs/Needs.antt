@@ -11,8 +11,15 @@ use Rattle.cells.specs.declared.end.Aim.{Aim}
 use Rattle.acts.specs.Needs.{Room, Given}
 use Rattle.sound.specs.Sound.{sound}
 use Rattle.ends.specs.Plan.{targetOf}
+use Rattle.ends.specs.declared.aim.Goal.{Goal}
+use Rattle.ends.specs.declared.aim.Goal.the-variants as Goals
 use Rattle.ends.specs.declared.plan.Plan.{Plan}
 use Rattle.ends.specs.declared.plan.Plan.the-variants.{Narrow, Full, Opens, Behind, Straight}
+
+-- a goal whose number has been tested: 16 bits
+abbrev pub GoalFits : Goal → Type 0
+GoalFits (Goals.Channel m c) = m < numbers
+GoalFits (Goals.Unit m) = m < numbers
 
 -- a number of 16 bits and a channel of 8
 abbrev pub AimFits : Aim → Type 0

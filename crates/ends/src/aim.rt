@@ -3,6 +3,7 @@ use crate::end_at;
 use answers::Answer;
 use cells::end;
 use cells::end::Aim;
+use names::NodeNumber;
 use names::Slot;
 use names::is_number;
 use names::no::NO_SUCH;
@@ -14,6 +15,8 @@ ghost use mathlib.Core.Path.{_≡_};
 ghost use Rattle.answers.specs.Rows.{refusal};
 ghost use Rattle.answers.specs.Out.{out};
 ghost use Rattle.cells.specs.View.{view};
+ghost use Rattle.ends.specs.Needs.{GoalFits};
+ghost use Rattle.ends.specs.declared.aim.Goal.the-variants.{Channel, Unit};
 ghost use Rattle.ends.specs.Aim.{goalRanged, aimedAt, aimRows, aim};
 
 // A destination as it is asked for: a channel of a number, or a number's control unit. Values out of
@@ -51,23 +54,37 @@ fn aim_no(st: &[u32], slot: Slot, c: usize, g: Goal, network: u32) -> u8
     0
 }
 
+// The two destinations, as a record has them.
+fn to_channel(number: NodeNumber, channel: u32, network: u32) -> Aim
+    ensures { λ r. ⌜ r ≡ aimedAt (Channel (number .0) channel) network ⌝ }
+{
+    Aim {
+        kind: 1,
+        number: number.0 as u32,
+        channel,
+        network,
+    }
+}
+
+fn to_unit(number: NodeNumber, network: u32) -> Aim
+    ensures { λ r. ⌜ r ≡ aimedAt (Unit (number .0)) network ⌝ }
+{
+    Aim {
+        kind: 2,
+        number: number.0 as u32,
+        channel: 0,
+        network,
+    }
+}
+
 // A destination and network as a channel-end has them.
 fn aimed_at(g: Goal, network: u32) -> Aim
+    requires { ⌜ GoalFits g ⌝ }
     ensures { λ r. ⌜ r ≡ aimedAt g network ⌝ }
 {
     match g {
-        Goal::Channel(m, c) => Aim {
-            kind: 1,
-            number: m,
-            channel: c,
-            network,
-        },
-        Goal::Unit(m) => Aim {
-            kind: 2,
-            number: m,
-            channel: 0,
-            network,
-        },
+        Goal::Channel(m, c) => to_channel(NodeNumber(m as u16), c, network),
+        Goal::Unit(m) => to_unit(NodeNumber(m as u16), network),
     }
 }
 

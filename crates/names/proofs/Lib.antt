@@ -1,2 +1,3 @@
 -- Laws of the names.
 pub mod Bytes
+pub mod Ranges

@@ -6,32 +6,33 @@ use mathlib.Core.Bool.{true}
 use borrow.Author.Tests.{ltb-true, eq-eqb, not-false}
 use Rattle.laws.proofs.All.{also, as-is, below}
 use Rattle.names.specs.Size.{links}
+use Rattle.names.proofs.Ranges.{number-fits}
 use Rattle.names.specs.No.{passes}
 use Rattle.answers.specs.Rows.{refusal}
 use Rattle.answers.specs.Out.{Out, out}
 use Rattle.answers.specs.declared.Answer.the-variants.{No, Done}
 use Rattle.answers.proofs.Refusals.{passed, refuses, goes-on}
 use Rattle.cells.specs.View.{Net}
-use Rattle.settings.specs.Set.{setRows, linkThere, setAnswer, setMade, setCall}
-use Rattle.settings.specs.Needs.{LinkThere}
+use Rattle.settings.specs.Set.{setRows, linkThere, inRange, setAnswer, setMade, setCall}
+use Rattle.settings.specs.Needs.{Settable}
 use Rattle.settings.specs.Wire.{wireRows, wired, wire}
 use Rattle.settings.specs.declared.Setting.{Setting}
 use Rattle.settings.specs.declared.Setting.the-variants.{Number, Width, Direction, LinkDirection, Network, Enable, Hello}
 
-link-there : (x : Setting) → linkThere x ≡ true → LinkThere x
-link-there (Number v) e = tt
-link-there (Width v) e = tt
-link-there (Direction b v) e = tt
-link-there (LinkDirection l v) e = ltb-true l links e
-link-there (Network l v) e = ltb-true l links e
-link-there (Enable l v) e = ltb-true l links e
-link-there (Hello l) e = ltb-true l links e
+settable : (x : Setting) → linkThere x ≡ true → inRange x ≡ true → Settable x
+settable (Number v) e r = number-fits v r
+settable (Width v) e r = tt
+settable (Direction b v) e r = tt
+settable (LinkDirection l v) e r = ltb-true l links e
+settable (Network l v) e r = ltb-true l links e
+settable (Enable l v) e r = ltb-true l links e
+settable (Hello l) e r = ltb-true l links e
 
-pub set-there : (s : Net) (n : ℕ) (x : Setting) → refusal (setRows s n x) ≡ passes → (n < s .nodes) × LinkThere x
+pub set-there : (s : Net) (n : ℕ) (x : Setting) → refusal (setRows s n x) ≡ passes → (n < s .nodes) × Settable x
 set-there s n x e =
-    let h = passed (setRows s n x) .sure (eq-eqb (refusal (setRows s n x)) passes e) .0 in
-    let z = also (below n (s .nodes)) (as-is (linkThere x)) .sure (not-false _ h) in
-    (z .0, link-there x (z .1))
+    let h = passed (setRows s n x) .sure (eq-eqb (refusal (setRows s n x)) passes e) in
+    let z = also (below n (s .nodes)) (as-is (linkThere x)) .sure (not-false _ (h .0)) in
+    (z .0, settable x (z .1) (not-false _ (h .1 .0)))
 
 -- both link ends are there
 pub record Ends (s : Net) (n l m k : ℕ) : Type 0 where

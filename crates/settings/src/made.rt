@@ -5,6 +5,7 @@ use cells::link;
 use cells::node;
 use grants::disable;
 use grants::hello;
+use names::NodeNumber;
 use names::Slot;
 ghost use mathlib.Core.Path.{_≡_};
 ghost use Prim.Native.Nat.{_<_};
@@ -14,14 +15,14 @@ ghost use Rattle.grants.specs.Needs.{Cabled};
 ghost use Rattle.cells.specs.View.{view};
 ghost use Rattle.settings.specs.declared.Setting.the-variants.{Number, Width, Direction, LinkDirection, Network, Enable};
 ghost use Rattle.settings.specs.Set.{setAnswer, setMade};
-ghost use Rattle.settings.specs.Needs.{AllCabled, LinkThere};
+ghost use Rattle.settings.specs.Needs.{AllCabled, Settable};
 
-fn set_number(st: &mut [u32], slot: Slot, v: u32)
+fn set_number(st: &mut [u32], slot: Slot, number: NodeNumber)
     requires { ⌜ slot .0 < view (now st) .nodes ⌝ }
-    ensures { λ r. ⌜ view (now (st .exit)) ≡ setMade (view (now (st .entry))) (slot .0) (Number v) ⌝ }
+    ensures { λ r. ⌜ view (now (st .exit)) ≡ setMade (view (now (st .entry))) (slot .0) (Number (number .0)) ⌝ }
 {
     let mut k = node::at(st, slot);
-    k.number = v;
+    k.number = number.0 as u32;
     node::put(st, slot, k);
 }
 
@@ -81,12 +82,12 @@ fn set_enable(st: &mut [u32], slot: Slot, l: usize, v: u32)
 
 // The Set itself, for a node and a link that are there.
 pub fn make(st: &mut [u32], slot: Slot, x: Setting) -> Answer
-    requires { ⌜ (slot .0 < view (now st) .nodes) × LinkThere x × AllCabled (view (now st)) ⌝ }
+    requires { ⌜ (slot .0 < view (now st) .nodes) × Settable x × AllCabled (view (now st)) ⌝ }
     ensures { λ r. ⌜ out r (view (now (st .exit)))
         ≡ out (setAnswer (view (now (st .entry))) (slot .0) x) (setMade (view (now (st .entry))) (slot .0) x) ⌝ }
 {
     match x {
-        Setting::Number(v) => set_number(st, slot, v),
+        Setting::Number(v) => set_number(st, slot, NodeNumber(v as u16)),
         Setting::Width(v) => set_width(st, slot, v),
         Setting::Direction(b, v) => set_direction(st, slot, b, v),
         Setting::LinkDirection(l, v) => set_link_direction(st, slot, l, v),

@@ -6,7 +6,7 @@ use Rattle.answers.specs.declared.Answer.the-variants.{Done}
 use Rattle.answers.proofs.Refusals.{refuses, goes-on}
 use Rattle.cells.specs.View.{view}
 use Rattle.ends.specs.Aim.{aimRows, aimMade, aim}
-use Rattle.ends.proofs.There.{aim-there}
+use Rattle.ends.proofs.There.{aim-there, aim-fits}
 use Rattle.ends.proofs.aim.aim.Statement.{statement}
 use Rattle.ends.proofs.aim.aim.Tie as tie
 
@@ -15,6 +15,12 @@ unfolding aim
 returns c =
     let a = c .before .before .before .before .args in
     refuses (aimRows (view (a .st .now)) (a .slot .0) (a .c) (a .g) (a .network)) _ _ _ (c .before .aim-no .ensures) (c .if1 .taken)
+
+aimed-at-requires : tie.Need-aimed-at-requires
+aimed-at-requires c κs =
+    let tested = c .before in
+    let a = tested .before .before .before .before .args in
+    aim-fits (view (a .st .now)) (a .slot .0) (a .c) (a .g) (a .network) (sym (tested .before .aim-no .ensures) ∙ tested .if1 .left)
 
 put-aim-requires : tie.Need-put-aim-requires
 put-aim-requires c κs =
@@ -40,7 +46,7 @@ aim-spec =
     (λ c κs. search needs)
     (λ c. search needs)
     returns
-    (λ c κs. search needs)
+    aimed-at-requires
     put-aim-requires
     (λ c. search needs)
     returns-2)

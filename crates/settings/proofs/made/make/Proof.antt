@@ -1,7 +1,12 @@
 -- `settings::made::make` meets its contract. Assumes nothing.
+use native.Mathlib.Omega.{arith}
 use borrow.Author.Needs.{needs}
 use Rattle.settings.proofs.made.make.Statement.{statement}
 use Rattle.settings.proofs.made.make.Tie as tie
+
+-- a number has sixteen bits
+cast-t18 : tie.Need-cast-t18
+cast-t18 c = let small = rw (c .before .before .x .given .1) at (c .before .before .before .before .before .pre .1) in omega (arith, small)
 
 set-link-direction-requires : tie.Need-set-link-direction-requires
 set-link-direction-requires c κs = (c .before .before .before .before .before .pre .0, rw (c .before .before .x4 .given .1) at (c .before .before .before .before .before .pre .1))
@@ -41,6 +46,7 @@ make-spec =
     tie.close
     (tie.spec
     (λ c. search needs)
+    cast-t18
     (λ c κs. search needs)
     (λ c. search needs)
     (λ c κs. search needs)
