@@ -51,3 +51,8 @@ pub use Rattle.bench.proofs.Lasts.{always-sound, never-unsound, since-f
 pub use Rattle.bench.proofs.Stays.{circuit-lasts}
 -- what holds of every link of every state: room, silence while disabled, nobody's while disabled, disabling once more
 pub use Rattle.bench.proofs.Lasts.{always-room, always-silent, always-unused, always-disabled}
+-- THE LOOKS: what may be read of a state, each a contract of its own for any words (`at` of each kind of record in `cells`, `looks`, `sound`)
+-- a node, link, port, tile link, channel-end and control unit by slot and place; how many nodes there are
+pub use Rattle.cells.specs.View.{Net, view, wholeLink, wholePort, wholeEnd, wholeUnit}
+-- a direction entry, the i-th token of a port and of a channel-end
+pub use Rattle.looks.specs.Looks.{direction, portToken, endToken}
