@@ -1,6 +1,6 @@
 -- "If an answer is an enum, a definition gives this paper's number and values for each of its cases." (document 01, "Where each form
 -- belongs")
-use Prim.Native.Nat.{ℕ}
+use Prim.Native.Nat.{ℕ, _+_, _*_}
 use Rattle.names.specs.No.{passes}
 use Rattle.circuits.specs.declared.Cause.{Cause}
 use Rattle.circuits.specs.declared.Cause.the-variants.{Split, NoRoute}
@@ -64,3 +64,11 @@ answerValue (Refused c) = causeOf c
 answerValue (Dropped c) = causeOf c
 answerValue Malformed = 0
 answerValue Unheard = 0
+
+-- outside, an enum is one number of 64 bits: which case it is in the upper half, the number that the case bears in the lower
+abbrev pub packed : ℕ → ℕ → ℕ
+packed case value = case * 4294967296 + value
+
+-- what a call answers: its case, and the number that the case bears
+abbrev pub answerNumber : Answer → ℕ
+answerNumber a = packed (caseOf a) (answerValue a)

@@ -1,8 +1,8 @@
-// What a call answers. One type serves all calls: a list of calls has then a list of answers, and the
-// host's crossing has one translation.
+// What a call answers. One type serves all calls: a list of calls has then a list of answers, and there is
+// one number for an answer wherever words are lent for it.
 use circuits::Cause;
 ghost use mathlib.Core.Path.{_≡_};
-ghost use Rattle.answers.specs.Answer.{numberOf, caseOf, causeOf, answerValue};
+ghost use Rattle.answers.specs.Answer.{numberOf, caseOf, causeOf, answerValue, packed, answerNumber};
 
 pub enum Answer {
     // refused, by the paper's number: nothing is changed
@@ -108,4 +108,18 @@ pub fn value_of(a: Answer) -> u32
         Answer::Malformed => 0,
         Answer::Unheard => 0,
     }
+}
+
+// A case and the number that it bears, as one.
+pub fn packed(case: u32, value: u32) -> u64
+    ensures { λ r. ⌜ r ≡ packed case value ⌝ }
+{
+    case as u64 * 0x1_0000_0000 + value as u64
+}
+
+// The whole answer as one number.
+pub fn answer_number(a: Answer) -> u64
+    ensures { λ r. ⌜ r ≡ answerNumber a ⌝ }
+{
+    packed(case_of(a), value_of(a))
 }

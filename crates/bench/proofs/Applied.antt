@@ -19,7 +19,7 @@ use Rattle.switch.specs.Step.{stepPerformed}
 use Rattle.plans.specs.declared.Plan.{Plan}
 use Rattle.plans.specs.declared.Plan.the-variants.{Idle, Wait, OpenOut, OpenChannel, OpenUnit, Refuse, MoveOut, Hand, Hear, Drop}
 use Rattle.switch.proofs.Stepped.{heard-answers}
-use Rattle.bench.specs.Calls.{Call, Fresh, Wire, Set, Aim, Output, Input, Step, rows, made, apply}
+use Rattle.bench.specs.Calls.{Call, Fresh, Wire, Set, Aim, Output, Input, Step, Steps, rows, made, apply}
 
 -- "show that two results meeting it are equal": answer, every word of the state, every word of token memory
 pub one-result : (w : World) (c : Call) (r q : Answer) (st zt mem nem : List ℕ)
@@ -61,6 +61,7 @@ passing w (Aim a c g v) = refl
 passing w (Output a c x) = refl
 passing w (Input a c k) = refl
 passing w (Step a p) = no-refusal w (a .0) p (stepPlan w (a .0) p)
+passing w (Steps n xs) = refl
 
 -- no call has two rows of one number
 once : (w : World) (c : Call) → distinct (rows w c) ≡ true
@@ -71,6 +72,7 @@ once w (Aim a c g v) = refl
 once w (Output a c x) = refl
 once w (Input a c k) = refl
 once w (Step a p) = refl
+once w (Steps n xs) = refl
 
 -- "The lowest number wins": the rows of a call stand in the order of their numbers; Fresh looks at the count before the lengths
 abbrev pub InOrder : World → Call → Type 0
@@ -81,6 +83,7 @@ InOrder w (Aim a c g v) = rising 0 (rows w (Aim a c g v)) ≡ true
 InOrder w (Output a c x) = rising 0 (rows w (Output a c x)) ≡ true
 InOrder w (Input a c k) = rising 0 (rows w (Input a c k)) ≡ true
 InOrder w (Step a p) = rising 0 (rows w (Step a p)) ≡ true
+InOrder w (Steps n xs) = rising 0 (rows w (Steps n xs)) ≡ true
 
 pub in-order : (w : World) (c : Call) → InOrder w c
 in-order w (Fresh n) = refl
@@ -90,6 +93,7 @@ in-order w (Aim a c g v) = refl
 in-order w (Output a c x) = refl
 in-order w (Input a c k) = refl
 in-order w (Step a p) = refl
+in-order w (Steps n xs) = refl
 
 module _ (w : World) (c : Call) where
   pub numbered : numberOf (apply w c .answer) ≡ refusal (rows w c)

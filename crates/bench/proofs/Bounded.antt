@@ -39,7 +39,7 @@ use Rattle.plans.specs.declared.Plan.the-variants as Plans
 use Rattle.plans.proofs.Routes.{Routed, opens, waits, discards, routed}
 use Rattle.switch.specs.Step.{stepPerformed}
 use Rattle.switch.proofs.Stepped.{heard-answers}
-use Rattle.bench.specs.Calls.{Call, Fresh, Wire, Set, Aim, Output, Input, Step, rows, made, apply}
+use Rattle.bench.specs.Calls.{Call, Fresh, Wire, Set, Aim, Output, Input, Step, Steps, rows, made, apply}
 
 abbrev pub Bounded : Answer → Type 0
 Bounded (No n) = (1 ≤ n) × (n ≤ 12)
@@ -163,6 +163,7 @@ made-bounded w (Aim a c g v) = tt
 made-bounded w (Output a c x) = tt
 made-bounded w (Input a c k) = omega arith
 made-bounded w (Step a p) = performed w (a .0) p (stepPlan w (a .0) p) (planned w (a .0) p)
+made-bounded w (Steps n xs) = tt
 
 -- every answer of every call, whatever the arguments and the memories
 pub bounded : (w : World) (c : Call) → Bounded (apply w c .answer)

@@ -21,7 +21,7 @@ use Rattle.ends.specs.Input.{inputRows}
 use Rattle.switch.specs.Step.{stepRows}
 use Rattle.kept.specs.Kept.{Kept}
 use Rattle.kept.proofs.Parts.{kept-sound}
-use Rattle.bench.specs.Calls.{Call, Fresh, Wire, Set, Aim, Output, Input, Step, made, apply}
+use Rattle.bench.specs.Calls.{Call, Fresh, Wire, Set, Aim, Output, Input, Step, Steps, rows, made, apply}
 use Rattle.bench.specs.Runs.{run}
 use Rattle.bench.proofs.Lasts.{call-keeps, fresh-keeps}
 
@@ -34,6 +34,7 @@ others w (Aim a c g v) = aimRows (w .net) (a .0) c g v
 others w (Output a c x) = outputRows (w .net) (a .0) c x
 others w (Input a c k) = inputRows (w .net) (a .0) c k
 others w (Step a p) = stepRows (w .net) (a .0) p
+others w (Steps n xs) = rows w (Steps n xs)
 
 abbrev pub applied : World → Call → Out World
 applied w c = attempt (others w c) w (made w c)
@@ -47,6 +48,7 @@ sound-row w k (Aim a c g v) = rw (kept-sound w k .0)
 sound-row w k (Output a c x) = rw (kept-sound w k .0)
 sound-row w k (Input a c x) = rw (kept-sound w k .0)
 sound-row w k (Step a p) = rw (kept-sound w k .0)
+sound-row w k (Steps n xs) = refl
 
 -- the answers of a run, without that row
 abbrev pub answersOf : World → List Call → List Answer

@@ -28,10 +28,11 @@ use Rattle.kept.proofs.Sets.{attempted}
 use Rattle.kept.proofs.Boards.{wire-boards, set-boards, aim-boards, input-boards, output-boards, step-boards}
 use Rattle.kept.proofs.Calls.{keep-fresh, keep-wire, keep-set-made, keep-aimed, keep-output, keep-inputted, keep-stepped}
 use Rattle.kept.proofs.Follows.{room-left, not-greeted, no-credit, unused, disable-twice}
-use Rattle.bench.specs.Calls.{Call, Fresh, Wire, Set, Aim, Output, Input, Step, rows, made, apply}
+use Rattle.bench.specs.Calls.{Call, Fresh, Wire, Set, Aim, Output, Input, Step, Steps, rows, made, apply}
 use Rattle.bench.specs.Runs.{run}
 use Rattle.bench.specs.Lasts.{OtherBoards, NeverUnsound, Throughout}
 use Rattle.bench.proofs.Applied.{exactly, accepted}
+use Rattle.bench.proofs.Stepped.{step-made, stepped-keeps}
 use Rattle.bench.proofs.Started.{started}
 
 -- ONE CALL, with any arguments: as many boards as before, since a Fresh of another number is refused
@@ -43,6 +44,9 @@ made-boards w (Aim a c g v) p = aim-boards (w .net) (a .0) c g v
 made-boards w (Output a c x) p = output-boards w (a .0) c x
 made-boards w (Input a c x) p = input-boards (w .net) (a .0) c
 made-boards w (Step a p) q = step-boards w (a .0) p
+made-boards w (Steps n xs) q =
+    stepped-keeps (λ z. z .net .nodes ≡ w .net .nodes)
+    (λ z x e. step-made (λ y. y .net .nodes ≡ w .net .nodes) z x e (λ p. step-boards z (x .slot) (x .port) ∙ e)) xs w refl
 
 pub call-boards : (w : World) (c : Call) → apply w c .next .net .nodes ≡ w .net .nodes
 unfolding apply
@@ -58,6 +62,7 @@ module _ (w : World) (k : Kept w) where
   made-kept (Output a c x) p = keep-output w k (a .0) c x (p .1)
   made-kept (Input a c x) p = keep-inputted w k (a .0) c x (p .1)
   made-kept (Step a p) q = keep-stepped w k (a .0) p (q .1)
+  made-kept (Steps n xs) q = stepped-keeps Kept (λ z x h. step-made Kept z x h (λ p. keep-stepped z h (x .slot) (x .port) (p .1))) xs w k
 
   pub call-keeps : (c : Call) → Kept (apply w c .next)
   unfolding apply
@@ -82,6 +87,7 @@ module _ (w : World) (k : Kept w) where
       given (Output a c x) h = sure h
       given (Input a c x) h = sure h
       given (Step a p) h = sure h
+      given (Steps n xs) h = absurd (h .1)
 
 -- EVERY RUN
 pub run-keeps : (cs : List Call) (w : World) → Kept w → Kept (run w cs .last)

@@ -6,11 +6,13 @@ pub mod Numbers
 pub mod Cabled
 pub mod Started
 pub mod Waits
+pub mod Stepped
 pub mod Untouched
 pub mod Frees
 pub mod Stays
 pub mod Written
 pub mod Lasts
+pub mod Lists
 pub mod Computed
 pub mod Example
 pub mod Runs

@@ -6,6 +6,7 @@ use mathlib.Core.Path.{_≡_, refl, sym, ap, _∙_}
 use mathlib.Core.Bool.{Bool, true, false, not, _&&_, _||_, and-true}
 use mathlib.Core.List.{List, [], _∷_}
 use lib.Dec.{eqb, ltb}
+use lib.ListN.{length}
 use borrow.Author.Tests.{not-false}
 use Rattle.laws.specs.Pick.{pick}
 use Rattle.laws.specs.All.{Means}
@@ -35,7 +36,8 @@ use Rattle.ends.proofs.Refusals.{narrow-plan, full-plan}
 use Rattle.ends.specs.declared.Token.{Token}
 use Rattle.ends.specs.declared.Wanted.{Wanted}
 use Rattle.ends.specs.declared.aim.Goal.{Goal}
-use Rattle.bench.specs.Calls.{Call, Fresh, Wire, Set, Aim, Output, Input, Step, rows, apply}
+use Rattle.bench.specs.declared.StepRecord.{StepRecord}
+use Rattle.bench.specs.Calls.{Call, Fresh, Wire, Set, Aim, Output, Input, Step, Steps, rows, apply}
 use Rattle.bench.proofs.Applied.{exactly}
 
 -- no row of a call before that of number k refuses
@@ -183,3 +185,7 @@ module _ (w : World) where
 
     pub step-no-such : Refused w (Step a p) Names.NoSuch (not (portAt (w .net) (a .0) p) ≡ true)
     step-no-such = refused w (Step a p) Names.NoSuch
+
+  -- "first, a results buffer of another length than the list is NoSuch" (document 02, Ask 1): no row of a list stands before it
+  pub steps-no-such : (n : ℕ) (xs : List StepRecord) → Refused w (Steps n xs) Names.NoSuch (not (eqb n (length xs)) ≡ true)
+  steps-no-such n xs = refused w (Steps n xs) Names.NoSuch

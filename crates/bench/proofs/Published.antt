@@ -9,6 +9,9 @@ pub use Rattle.cells.specs.Fresh.{freshWorld}
 -- calls with their arguments; when each is refused, what it makes, and both together; a list of calls, each on what the one before left
 pub use Rattle.bench.specs.Calls.{Call, rows, made, apply}
 pub use Rattle.bench.specs.Runs.{Ran, run}
+-- a list of steps: each record's Step, what is left and the results; a run as its single calls
+pub use Rattle.bench.specs.Calls.{stepBy, stepped, results}
+pub use Rattle.bench.specs.Runs.{stepOf, stepsOf, singly, flat}
 -- what comes of a call; the paper's numbers for no and values
 pub use Rattle.answers.specs.Out.{Out, out}
 pub use Rattle.answers.specs.Answer.{numberOf}
@@ -40,10 +43,15 @@ pub use Rattle.bench.proofs.Numbers.{NoEarlier, Refused, fresh-no-such,
 pub use Rattle.bench.proofs.Numbers.{set-unsound, set-no-such, set-value, set-busy, aim-unsound, aim-no-such, aim-value, aim-open}
 pub use Rattle.bench.proofs.Numbers.{output-unsound, output-no-such, output-unaimed, output-hardware, output-privileged}
 pub use Rattle.bench.proofs.Numbers.{output-narrow, output-full, input-unsound, input-no-such, input-empty, input-trap}
-pub use Rattle.bench.proofs.Numbers.{step-unsound, step-no-such}
+pub use Rattle.bench.proofs.Numbers.{step-unsound, step-no-such, steps-no-such}
 -- a write by switch message is the same Sets made by call, or nothing; the Step that ends the message is those Sets and the reply
 pub use Rattle.bench.proofs.Written.{none-refused, writes-as-sets, call-writes, call-refuses}
+-- a list of steps is the same Steps made one by one, on any memory; the length of its results is looked at first; Unsound is each record's own
+pub use Rattle.bench.proofs.Lists.{by-call, left-by-steps, results-by-steps, list-done, length-first}
+pub use Rattle.bench.proofs.Lists.{unsound-results, unsound-left, results-sure}
 -- OVER EVERY RUN
+-- a run with lists in it leaves what its single calls leave
+pub use Rattle.bench.proofs.Lists.{flat-left}
 -- what is kept is kept; no call changes how many boards there are; from Fresh on no call is Unsound but a Fresh of another number
 pub use Rattle.bench.specs.Lasts.{OtherBoards, NeverUnsound, Throughout}
 pub use Rattle.bench.proofs.Lasts.{call-keeps, run-keeps, fresh-keeps, call-boards, run-boards, boards}

@@ -48,10 +48,11 @@ use Rattle.plans.specs.declared.Plan.{Plan}
 use Rattle.plans.specs.declared.Plan.the-variants.{Idle, Wait, OpenOut, OpenChannel, OpenUnit, Refuse, MoveOut, Hand, Hear, Drop}
 use Rattle.moves.specs.Moves.{took, opensChannel, opensUnit, closesOut, closesUnit}
 use Rattle.switch.specs.Step.{stepPerformed}
-use Rattle.bench.specs.Calls.{Call, Fresh, Wire, Set, Aim, Output, Input, Step, rows, made, apply}
+use Rattle.bench.specs.Calls.{Call, Fresh, Wire, Set, Aim, Output, Input, Step, Steps, rows, made, apply}
 use Rattle.bench.specs.Runs.{run}
 use Rattle.bench.specs.Stays.{EndsCircuit}
 use Rattle.bench.proofs.Applied.{numbered, accepted, refused-changes-nothing}
+use Rattle.bench.proofs.Stepped.{step-made, stepped-keeps}
 use Rattle.bench.proofs.Untouched.{Untouched, put-leaves, all-leave, took-leaves, strip-leaves, cross-leaves, end-leaves}
 
 -- where channel-ends send is no part of what ports hold or of credits, and no Set changes it
@@ -249,6 +250,11 @@ module _ (w : World) (n e : ℕ) (going : isOpen (w .net) n e ≡ true) where
   done-stays (Input a c k) none ok = as-made (Input a c k) ok refl
   done-stays (Step a p) none ok =
       as-made (Step a p) ok (ap (λ (f : ℕ → ℕ → Circuit). f n e) (step-sendings w (a .0) p (stepPlan w (a .0) p)))
+  done-stays (Steps m xs) none ok =
+      let its = w .net .ends .sendings n e in
+      as-made (Steps m xs) ok (stepped-keeps (λ z. z .net .ends .sendings n e ≡ its)
+      (λ z x q. step-made (λ y. y .net .ends .sendings n e ≡ its) z x q
+      (λ p. ap (λ (f : ℕ → ℕ → Circuit). f n e) (step-sendings z (x .slot) (x .port) (stepPlan z (x .slot) (x .port))) ∙ q)) xs w refl)
   done-stays (Output a c x) none ok =
       place (a .0) c n e
       (λ d q. by-test (closes (wordOf x))

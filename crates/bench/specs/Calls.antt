@@ -2,11 +2,14 @@
 -- the bench is one equation with `apply`, for all arguments and any two memories lent.
 use Prim.Native.Nat.{ℕ}
 use mathlib.Core.Bool.{not}
-use mathlib.Core.List.{List, _∷_}
-use Rattle.names.specs.No.{Unsound}
+use mathlib.Core.List.{List, [], _∷_}
+use lib.Dec.{eqb}
+use lib.ListN.{length}
+use Rattle.names.specs.No.{Unsound, NoSuch}
 use Rattle.names.specs.declared.Slot.{Slot}
 use Rattle.answers.specs.Rows.{Row, refusedIf}
 use Rattle.answers.specs.Out.{Out, out, attempt}
+use Rattle.answers.specs.declared.Answer.{Answer}
 use Rattle.answers.specs.declared.Answer.the-variants.{Done}
 use Rattle.answers.specs.declared.Answer.the-variants as Answers
 use Rattle.cells.specs.World.{World}
@@ -24,6 +27,7 @@ use Rattle.ends.specs.declared.Wanted.{Wanted}
 use Rattle.ends.specs.declared.aim.Goal.{Goal}
 use Rattle.switch.specs.Step.{stepRows, stepMade}
 use Rattle.sound.specs.Sound.{sound}
+use Rattle.bench.specs.declared.StepRecord.{StepRecord}
 
 -- the calls, with arguments of any size
 pub data Call : Type 0 where
@@ -38,12 +42,29 @@ pub data Call : Type 0 where
   Input : Slot → ℕ → Wanted → Call
   -- slot and port
   Step : Slot → ℕ → Call
+  -- how many results there is room for, and the list's records
+  Steps : ℕ → List StepRecord → Call
 
 -- "1 Unsound: memory of the wrong length, or (not Fresh) state that fails the list"
 abbrev pub unsound : World → Row
 unsound w = refusedIf (not (sound w)) Unsound
 
--- when a call is refused, in the order of "Numbers for no" (Fresh has its own)
+-- A LIST OF STEPS (document 02, Ask 1). One record's Step, with its own refusals: "Unsound is each record's own"
+abbrev pub stepBy : World → StepRecord → Out World
+stepBy w x = attempt (unsound w ∷ stepRows (w .net) (x .slot) (x .port)) w (stepMade w (x .slot) (x .port))
+
+-- "does them in order ..; a refused record stops nothing. The list may be empty."
+abbrev pub stepped : World → List StepRecord → World
+stepped w [] = w
+stepped w (x ∷ xs) = stepped (stepBy w x .next) xs
+
+-- ".. and writes one result per record": what the single Step answers
+abbrev pub results : World → List StepRecord → List Answer
+results w [] = []
+results w (x ∷ xs) = stepBy w x .answer ∷ results (stepBy w x .next) xs
+
+-- when a call is refused, in the order of "Numbers for no" (Fresh has its own). A list, for its results' length alone: "first, a results
+-- buffer of another length than the list is NoSuch, and nothing is done"
 abbrev pub rows : World → Call → List Row
 rows w (Fresh n) = freshRows w n
 rows w (Wire a l b k) = unsound w ∷ wireRows (w .net) (a .0) l (b .0) k
@@ -52,6 +73,7 @@ rows w (Aim a c g v) = unsound w ∷ aimRows (w .net) (a .0) c g v
 rows w (Output a c x) = unsound w ∷ outputRows (w .net) (a .0) c x
 rows w (Input a c k) = unsound w ∷ inputRows (w .net) (a .0) c k
 rows w (Step a p) = unsound w ∷ stepRows (w .net) (a .0) p
+rows w (Steps n xs) = refusedIf (not (eqb n (length xs))) NoSuch ∷ []
 
 -- what a call makes that is not refused
 abbrev pub made : World → Call → Out World
@@ -62,6 +84,7 @@ made w (Aim a c g v) = out Done (withNet w (aimMade (w .net) (a .0) c g v))
 made w (Output a c x) = out Done (outputMade w (a .0) c x)
 made w (Input a c k) = out (Answers.Token (inputValue (w .net) (a .0) c)) (withNet w (inputMade (w .net) (a .0) c))
 made w (Step a p) = stepMade w (a .0) p
+made w (Steps n xs) = out Done (stepped w xs)
 
 -- "A refused call returns its number and leaves the state as it was"
 unfoldable pub apply : World → Call → Out World

@@ -14,6 +14,14 @@ ghost use Rattle.answers.specs.Out.{out};
 ghost use Rattle.cells.specs.World.{world};
 ghost use Rattle.bench.specs.Calls.{apply, Fresh, Wire, Set, Aim, Output, Input, Step};
 
+// A record of a list of steps, as a host lends it: the list's own call is crate host's, and what it means
+// is `Steps` in specs/Calls.antt.
+#[repr(C)]
+pub struct StepRecord {
+    pub slot: usize,
+    pub port: usize,
+}
+
 // A network of so many nodes, whatever the memories held.
 pub fn fresh(st: &mut [u32], mem: &mut [u16], nodes: usize) -> Answer
     ensures { λ r. ⌜ out r (world (now (st .exit)) (now (mem .exit))) ≡ apply (world (now (st .entry)) (now (mem .entry))) (Fresh nodes) ⌝ }

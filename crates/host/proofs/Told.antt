@@ -9,7 +9,7 @@ use Rattle.laws.specs.Pick.{pick}
 use Rattle.names.specs.No.{passes}
 use Rattle.circuits.specs.declared.Cause.{Cause}
 use Rattle.circuits.specs.declared.Cause.the-variants.{Split, NoRoute}
-use Rattle.answers.specs.Answer.{numberOf, caseOf, answerValue}
+use Rattle.answers.specs.Answer.{numberOf, caseOf, answerValue, answerNumber}
 use Rattle.answers.specs.declared.Answer.{Answer}
 use Rattle.answers.specs.declared.Answer.the-variants.{No, Done, Granted, Token, Idle, Waiting, Moved, OpenedLink, OpenedChannel}
 use Rattle.answers.specs.declared.Answer.the-variants.{OpenedUnit, Refused, Dropped, Malformed, Unheard}
@@ -18,7 +18,7 @@ use Rattle.cells.proofs.Whole.{whole-state}
 use Rattle.bench.specs.Calls.{Call, apply}
 use Rattle.bench.proofs.Applied.{refused-changes-nothing}
 use Rattle.bench.proofs.Bounded.{Bounded, bounded, small-value}
-use Rattle.host.specs.Crossed.{Crossing, crossing, crossed, answerNumber}
+use Rattle.host.specs.Crossed.{Crossing, crossing, crossed}
 
 -- the answer of a case and the number that it bears
 abbrev causeAt : ℕ → Cause

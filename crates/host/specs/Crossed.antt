@@ -1,5 +1,5 @@
 -- What stands for an enum, and for a record, on the other side.
-use Prim.Native.Nat.{ℕ, _+_, _*_}
+use Prim.Native.Nat.{ℕ}
 use mathlib.Core.Bool.{Bool, true, false}
 use mathlib.Core.List.{List}
 use lib.Dec.{eqb}
@@ -7,19 +7,10 @@ use lib.ListN.{length}
 use Rattle.laws.specs.Pick.{pick}
 use Rattle.names.specs.declared.Slot.{Slot}
 use Rattle.answers.specs.Out.{Out}
-use Rattle.answers.specs.declared.Answer.{Answer}
-use Rattle.answers.specs.Answer.{caseOf, answerValue}
+use Rattle.answers.specs.Answer.{packed, answerNumber}
 use Rattle.cells.specs.World.{World}
 use Rattle.looks.specs.declared.Seen.{Seen}
 use Rattle.looks.specs.declared.Seen.the-variants.{Token, Nothing}
-
--- an enum is one number of 64 bits: which case it is in the upper half, the number that the case carries in the lower
-abbrev pub packed : ℕ → ℕ → ℕ
-packed case value = case * 4294967296 + value
-
--- what a call answers: its case, and the number that the case bears
-abbrev pub answerNumber : Answer → ℕ
-answerNumber a = packed (caseOf a) (answerValue a)
 
 -- a slot is a plain number on the other side
 abbrev pub slot : ℕ → Slot

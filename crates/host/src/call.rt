@@ -1,5 +1,5 @@
 // The calls. Each answers one number, and leaves both memories as the call of crate bench does.
-use crate::number::answer_number;
+use answers::answer_number;
 use bench::aim;
 use bench::fresh;
 use bench::input;

@@ -42,7 +42,7 @@ use Rattle.ends.specs.Plan.{targetOf}
 use Rattle.ends.specs.Output.{wordOf, isNarrowPlan, isFullPlan}
 use Rattle.ends.specs.declared.plan.Plan as Sents
 use Rattle.switch.specs.Step.{stepPerformed}
-use Rattle.bench.specs.Calls.{Call, Fresh, Wire, Set, Aim, Output, Input, Step, rows, made, apply}
+use Rattle.bench.specs.Calls.{Call, Fresh, Wire, Set, Aim, Output, Input, Step, Steps, rows, made, apply}
 use Rattle.bench.specs.Writes.{hopClosed}
 use Rattle.kept.specs.Kept.{Kept}
 use Rattle.kept.proofs.Found.{Ours, Going, Found, idle, waits, splits, unrouted, routes, landsChannel, landsUnit, step-found}
@@ -60,7 +60,7 @@ use Rattle.streams.proofs.Machine.{line-tokens, no-cells}
 use Rattle.streams.proofs.Fronts.{reads}
 use Rattle.streams.proofs.Sends.{putEach}
 use Rattle.streams.proofs.Noted.{AimsNoted}
-use Rattle.streams.proofs.Calls.{replyEvents, obeyEvents, stepEvents, outputEvents, done, isFresh, madeEvents, eventsOf, not-fresh}
+use Rattle.streams.proofs.Calls.{replyEvents, obeyEvents, stepEvents, outputEvents, done, isList, noEvent, madeEvents, eventsOf, is-event}
 
 -- tokens put one by one
 puts-noted : (ts : List ℕ) (e d : ℕ) (g : Ghost) → booksOf (notes (putEach e d ts) g) ≡ putAll e d ts (booksOf g)
@@ -171,7 +171,7 @@ module _ (w : World) (k : Kept w) (n p : ℕ) (g : Ghost) (iv : Inv isLink (movi
 
 -- EVERY CALL; a channel-end that is aimed is aimed where the notes say
 module _ (w : World) (k : Kept w) (g : Ghost) (iv : Inv isLink (moving w) g) (o : Notes) (aims : AimsNoted w o) where
-  made-agrees : (c : Call) → Passes (rows w c) → isFresh c ≡ false
+  made-agrees : (c : Call) → Passes (rows w c) → noEvent c ≡ false
       → write o w c (made w c .answer) (booksOf g) ≡ booksOf (notes (madeEvents w c) g)
   unfolding note
   made-agrees (Fresh n) p e = clash e
@@ -187,6 +187,7 @@ module _ (w : World) (k : Kept w) (g : Ghost) (iv : Inv isLink (moving w) g) (o 
   made-agrees (Step a p) q e =
       let there = step-there w (a .0) p (q .1) in
       step-agrees w k (a .0) p g iv (step-found w k (a .0) p (there .0) (there .1))
+  made-agrees (Steps n xs) p e = clash e
 
   refused-agrees : (c : Call) (r : ℕ) → write o w c (Answers.No r) (booksOf g) ≡ booksOf g
   refused-agrees (Fresh n) r = refl
@@ -196,10 +197,12 @@ module _ (w : World) (k : Kept w) (g : Ghost) (iv : Inv isLink (moving w) g) (o 
   refused-agrees (Output a c x) r = refl
   refused-agrees (Input a c x) r = refl
   refused-agrees (Step a p) r = refl
+  refused-agrees (Steps n xs) r = refl
 
-  pub call-agrees : (c : Call) → anew w c ≡ false → write o w c (apply w c .answer) (booksOf g) ≡ booksOf (notes (eventsOf w c) g)
+  pub call-agrees : (c : Call) → isList c ≡ false → anew w c ≡ false
+      → write o w c (apply w c .answer) (booksOf g) ≡ booksOf (notes (eventsOf w c) g)
   unfolding apply
-  call-agrees c e =
+  call-agrees c l e =
       by-test (done w c)
-      (λ t. rw t (made-agrees c (passed (rows w c) .sure t) (not-fresh w c t e)))
+      (λ t. rw t (made-agrees c (passed (rows w c) .sure t) (is-event w c l t e)))
       (λ t. rw t (refused-agrees c (refusal (rows w c))))

@@ -2,7 +2,7 @@
 use Prim.{tt}
 use Prim.Native.Nat.{ℕ, _/_, _%_, _<_}
 use mathlib.Core.Path.{_≡_, refl, sym, ap, _∙_, fun-ext}
-use mathlib.Core.Bool.{Bool, true, false, _&&_}
+use mathlib.Core.Bool.{Bool, true, false, _&&_, _||_}
 use mathlib.Core.Logic.{⊎-elim}
 use mathlib.Core.List.{List, [], _∷_, _++_}
 use native.Mathlib.Omega.{arith}
@@ -56,7 +56,7 @@ use Rattle.ends.specs.Output.{wordOf, outputPerformed}
 use Rattle.ends.specs.declared.plan.Plan as SentPlans
 use Rattle.ends.specs.declared.plan.Plan.the-variants as Sent
 use Rattle.switch.specs.Step.{stepPerformed}
-use Rattle.bench.specs.Calls.{Call, Fresh, Wire, Set, Aim, Output, Input, Step, rows, made, apply}
+use Rattle.bench.specs.Calls.{Call, Fresh, Wire, Set, Aim, Output, Input, Step, Steps, rows, made, apply}
 use Rattle.bench.specs.Writes.{hopClosed}
 use Rattle.kept.specs.Kept.{Kept}
 use Rattle.kept.proofs.Opens.{Headed}
@@ -275,6 +275,22 @@ isFresh (Aim a c g v) = false
 isFresh (Output a c x) = false
 isFresh (Input a c x) = false
 isFresh (Step a p) = false
+isFresh (Steps n xs) = false
+
+-- a list of steps, which is its Steps and no event of its own
+abbrev pub isList : Call → Bool
+isList (Fresh n) = false
+isList (Wire a l b j) = false
+isList (Set a x) = false
+isList (Aim a c g v) = false
+isList (Output a c x) = false
+isList (Input a c x) = false
+isList (Step a p) = false
+isList (Steps n xs) = true
+
+-- what is no event: a Fresh opens new books
+abbrev pub noEvent : Call → Bool
+noEvent c = isFresh c || isList c
 
 abbrev pub madeEvents : World → Call → List Event
 madeEvents w (Fresh n) = []
@@ -286,9 +302,10 @@ madeEvents w (Output a c x) =
     outputEvents w (a .0) c g (wordOf x) (outputPlan (w .net) (a .0) c g (wordOf x))
 madeEvents w (Input a c x) = []
 madeEvents w (Step a p) = stepEvents w (a .0) p (stepPlan w (a .0) p)
+madeEvents w (Steps n xs) = []
 
 module _ (w : World) (k : Kept w) where
-  made-leads : (c : Call) → Passes (rows w c) → isFresh c ≡ false → Leads isLink (madeEvents w c) (moving w) (moving (made w c .next))
+  made-leads : (c : Call) → Passes (rows w c) → noEvent c ≡ false → Leads isLink (madeEvents w c) (moving w) (moving (made w c .next))
   made-leads (Fresh n) p e = clash e
   made-leads (Wire a l b j) p e =
       let (x, y, off) = wire-ends w (a .0) l (b .0) j (p .1) in
@@ -302,6 +319,7 @@ module _ (w : World) (k : Kept w) where
   made-leads (Step a p) q e =
       let there = step-there w (a .0) p (q .1) in
       step-leads w k (a .0) p (step-found w k (a .0) p (there .0) (there .1))
+  made-leads (Steps n xs) p e = clash e
 
 -- EVERY CALL
 abbrev pub eventsOf : World → Call → List Event
@@ -317,13 +335,14 @@ anew-done w (Aim a c g v) = refl
 anew-done w (Output a c x) = refl
 anew-done w (Input a c x) = refl
 anew-done w (Step a p) = refl
+anew-done w (Steps n xs) = refl
 
-pub not-fresh : (w : World) (c : Call) → done w c ≡ true → anew w c ≡ false → isFresh c ≡ false
-not-fresh w c t e = go (isFresh c) (sym (anew-done w c) ∙ e)
+pub is-event : (w : World) (c : Call) → isList c ≡ false → done w c ≡ true → anew w c ≡ false → noEvent c ≡ false
+is-event w c l t e = go (isFresh c) (sym (anew-done w c) ∙ e)
   where
-    go : (b : Bool) → (b && done w c) ≡ false → b ≡ false
+    go : (b : Bool) → (b && done w c) ≡ false → (b || isList c) ≡ false
     go true f = clash (sym t ∙ f)
-    go false f = refl
+    go false f = l
 
 -- what a call leaves that opens new books
 pub anew-case : (P : World → Type 0) → ((n : ℕ) → P (freshWorld n)) → (w : World) (c : Call) → anew w c ≡ true → P (apply w c .next)
@@ -338,12 +357,14 @@ anew-case P h w c e = go c (sym (anew-done w c) ∙ e)
     go (Output a c x) f = clash (sym f)
     go (Input a c x) f = clash (sym f)
     go (Step a p) f = clash (sym f)
+    go (Steps n xs) f = clash (sym f)
 
-pub call-leads : (w : World) → Kept w → (c : Call) → anew w c ≡ false → Leads isLink (eventsOf w c) (moving w) (moving (apply w c .next))
+pub call-leads : (w : World) → Kept w → (c : Call) → isList c ≡ false → anew w c ≡ false
+    → Leads isLink (eventsOf w c) (moving w) (moving (apply w c .next))
 unfolding apply
-call-leads w k c e =
+call-leads w k c l e =
     by-test (done w c)
-    (λ t. rw t (made-leads w k c (passed (rows w c) .sure t) (not-fresh w c t e)))
+    (λ t. rw t (made-leads w k c (passed (rows w c) .sure t) (is-event w c l t e)))
     (λ t. rw t (leads-none (moving w)))
 
 either : {A : Type 0} (b : Bool) (x : A) → pick b x x ≡ x

@@ -43,7 +43,7 @@ use Rattle.ends.specs.Output.{wordOf, outputPerformed}
 use Rattle.ends.specs.declared.plan.Plan as Sents
 use Rattle.ends.specs.declared.plan.Plan.the-variants as Sent
 use Rattle.switch.specs.Step.{hears, stepPerformed}
-use Rattle.bench.specs.Calls.{Call, Fresh, Wire, Set, Aim, Output, Input, Step, rows, made}
+use Rattle.bench.specs.Calls.{Call, Fresh, Wire, Set, Aim, Output, Input, Step, Steps, rows, made}
 use Rattle.bench.specs.Writes.{hopClosed}
 use Rattle.kept.specs.Kept.{Kept}
 use Rattle.kept.proofs.Found.{Going, Found, idle, waits, splits, unrouted, routes, step-found}
@@ -64,7 +64,7 @@ use Rattle.streams.proofs.Acts.{first-seen}
 use Rattle.streams.proofs.Indoors.{Indoors, indoors-all, indoors-then, indoors-pushed, indoors-pushedAll}
 use Rattle.streams.proofs.Indoors.{indoors-took, indoors-stripped, indoors-crosses, indoors-claimed, indoors-opens}
 use Rattle.streams.proofs.Indoors.{indoors-closesChannel, indoors-closesOut, indoors-dropped, indoors-obeyed, heardIn, heard-more}
-use Rattle.streams.proofs.Calls.{straightEvents, stepEvents, outputEvents, isFresh, madeEvents, obeyEvents}
+use Rattle.streams.proofs.Calls.{straightEvents, stepEvents, outputEvents, noEvent, madeEvents, obeyEvents}
 use Rattle.streams.proofs.Filling.{Fills, obey-fills, fills-elsewhere}
 
 -- what the control unit of node n has heard, by the proof's books
@@ -389,7 +389,7 @@ module _ (w : World) (k : Kept w) (g : Ghost) (iv : Inv isLink (moving w) g) whe
     output-off p (Sent.Straight d) = straight-off p d (peerOf (w .net .ends .sendings n c))
 
   -- EVERY CALL that is not refused
-  pub made-heard : (c : Call) → Passes (rows w c) → isFresh c ≡ false → Listening (made w c .next) (madeEvents w c)
+  pub made-heard : (c : Call) → Passes (rows w c) → noEvent c ≡ false → Listening (made w c .next) (madeEvents w c)
   made-heard (Fresh n) p e = clash e
   made-heard (Wire a l b j) p e = all-stay _ _ refl (λ m q hq f. (tt, tt))
   made-heard (Set a x) p e = all-stay _ [] (setting-leaves (w .net) (a .0) x .units) (λ m q hq f. tt)
@@ -402,3 +402,4 @@ module _ (w : World) (k : Kept w) (g : Ghost) (iv : Inv isLink (moving w) g) whe
   made-heard (Step a p) q e =
       let there = step-there w (a .0) p (q .1) in
       step-heard (a .0) p (step-found w k (a .0) p (there .0) (there .1))
+  made-heard (Steps n xs) p e = clash e

@@ -17,7 +17,8 @@ use Rattle.answers.specs.declared.Answer.{Answer}
 use Rattle.answers.specs.declared.Answer.the-variants.{No, Idle}
 use Rattle.cells.specs.World.{World}
 use Rattle.cells.specs.Fresh.{freshWorld}
-use Rattle.bench.specs.Calls.{Call, Fresh, Wire, Set, Aim, Output, Input, Step, apply}
+use Rattle.bench.specs.Calls.{Call, Fresh, Wire, Set, Aim, Output, Input, Step, Steps, apply}
+use Rattle.bench.specs.Runs.{flat}
 use Rattle.bench.proofs.Lasts.{call-keeps, fresh-keeps}
 use Rattle.kept.specs.Kept.{Kept}
 use Rattle.streams.specs.Model.{isLink, Books, Notes}
@@ -29,6 +30,7 @@ use Rattle.streams.proofs.Machine.{Machine}
 use Rattle.streams.proofs.Splits.{Reading}
 use Rattle.streams.proofs.Seen.{Observer, demand-3}
 use Rattle.streams.proofs.Calls.{eventsOf, leads-none, call-leads, fresh-view, fresh-seen}
+use Rattle.streams.proofs.Singly.{Lone, lones, flat-lone, seen-lone}
 use Rattle.streams.proofs.Ties.{Tied, tied-fresh, tied-anew, tied-call}
 use Rattle.streams.proofs.Agree.{call-agrees}
 use Rattle.streams.proofs.Misreads.{call-splits}
@@ -47,7 +49,8 @@ module _ (makes : Call → Bool) (say : Answer) where
   -- what an observer has written down of it
   abbrev pub seenOf : ℕ → List Call → Seen
   seenOf n cs =
-      seen (λ (w : World) (c : Call). lame w c .next) anews (λ w c. lame w c .answer) write jot reads portIn (freshWorld n) unseen cs
+      seen (λ (w : World) (c : Call). lame w c .next) anews (λ w c. lame w c .answer) write jot reads portIn (freshWorld n) unseen
+      (flat cs)
 
   module _ (n : ℕ) (some : 1 ≤ n) (few : n ≤ nodes) (unwritten : (o : Notes) (w : World) (c : Call) (k : Books) → makes c ≡ false
       → write o w c say k ≡ k) (unnoted : (c : Call) (o : Notes) → makes c ≡ false → jot c say o ≡ o)
@@ -56,15 +59,17 @@ module _ (makes : Call → Bool) (say : Answer) where
       machine =
           record {
             State = World;
-            Call = Call;
-            apply = λ w c. lame w c .next;
-            events = λ w c. pick (makes c) (eventsOf w c) [];
+            Call = Lone;
+            apply = λ w c. lame w (c .call) .next;
+            events = λ w c. pick (makes (c .call)) (eventsOf w (c .call)) [];
             view = moving;
             Sane = Kept;
-            anew = anews;
-            anew-view = λ w c k. by-test (makes c) (λ m. rw m (λ e. fresh-seen w c e)) (λ m. rw m (λ e. clash (sym e)));
-            law = λ w c k. by-test (makes c) (λ m. rw m (λ e. call-leads w k c e)) (λ m. rw m (λ e. leads-none (moving w)));
-            stays-sane = λ w c k. by-test (makes c) (λ m. rw m (call-keeps w k c)) (λ m. rw m k);
+            anew = λ w c. anews w (c .call);
+            anew-view = λ w c k. by-test (makes (c .call)) (λ m. rw m (λ e. fresh-seen w (c .call) e)) (λ m. rw m (λ e. clash (sym e)));
+            law = λ w c k. by-test (makes (c .call))
+                (λ m. rw m (λ e. call-leads w k (c .call) (c .lone) e))
+                (λ m. rw m (λ e. leads-none (moving w)));
+            stays-sane = λ w c k. by-test (makes (c .call)) (λ m. rw m (call-keeps w k (c .call))) (λ m. rw m k);
             fresh = freshWorld n;
             fresh-sane = fresh-keeps n some few;
             fresh-view = fresh-view n;
@@ -74,30 +79,32 @@ module _ (makes : Call → Bool) (say : Answer) where
       observer =
           record {
             Answer = Answer;
-            answer = λ w c. lame w c .answer;
-            write = write;
-            jot = jot;
+            answer = λ w c. lame w (c .call) .answer;
+            write = λ o w c. write o w (c .call);
+            jot = λ c. jot (c .call);
             Tied = Tied;
             tied-fresh = tied-fresh n;
-            tied-anew = λ w c. by-test (makes c) (λ m. rw m (λ e. tied-anew w c e)) (λ m. rw m (λ e. clash (sym e)));
-            tied-call = λ w g c o k t. by-test (makes c)
-                (λ m. rw m (λ e. tied-call w (k .sane) g (k .inv) o t c e))
-                (λ m. rw (m, unnoted c o m) (λ e. t));
-            agrees = λ w g c o k t. by-test (makes c)
-                (λ m. rw m (λ e. call-agrees w (k .sane) g (k .inv) o (t .aims) c e))
-                (λ m. rw m (λ e. unwritten o w c _ m));
+            tied-anew = λ w c. by-test (makes (c .call)) (λ m. rw m (λ e. tied-anew w (c .call) e)) (λ m. rw m (λ e. clash (sym e)));
+            tied-call = λ w g c o k t. by-test (makes (c .call))
+                (λ m. rw m (λ e. tied-call w (k .sane) g (k .inv) o t (c .call) (c .lone) e))
+                (λ m. rw (m, unnoted (c .call) o m) (λ e. t));
+            agrees = λ w g c o k t. by-test (makes (c .call))
+                (λ m. rw m (λ e. call-agrees w (k .sane) g (k .inv) o (t .aims) (c .call) (c .lone) e))
+                (λ m. rw m (λ e. unwritten o w (c .call) _ m));
           }
 
       abbrev reading : Reading isLink machine
       reading =
           record {
-            misreads = reads;
-            portIn = portIn;
-            answers = λ w c k e. by-test (makes c) (λ m. rw m (call-splits w k c)) (λ m. rw m tt);
+            misreads = λ w c. reads w (c .call);
+            portIn = λ c. portIn (c .call);
+            answers = λ w c k e. by-test (makes (c .call)) (λ m. rw m (call-splits w k (c .call))) (λ m. rw m tt);
           }
 
       pub let-by : (cs : List Call) → Demand3 (seenOf n cs .books) (seenOf n cs .misread)
-      let-by cs = demand-3 isLink machine observer reading cs
+      let-by cs =
+          rw (sym (flat-lone cs), seen-lone (λ w c. lame w c .next) anews (λ w c. lame w c .answer) write jot reads portIn (lones cs)
+          (freshWorld n) unseen) (demand-3 isLink machine observer reading (lones cs))
 
 -- ONE THAT REFUSES ALL
 abbrev none : Call → Bool
@@ -115,6 +122,7 @@ module _ (n : ℕ) (some : 1 ≤ n) (few : n ≤ nodes) where
       unwritten o w (Output a c x) k e = refl
       unwritten o w (Input a c x) k e = refl
       unwritten o w (Step a p) k e = refl
+      unwritten o w (Steps m xs) k e = refl
 
       unnoted : (c : Call) (o : Notes) → none c ≡ false → jot c (No (number Unsound)) o ≡ o
       unnoted (Fresh m) o e = refl
@@ -124,6 +132,7 @@ module _ (n : ℕ) (some : 1 ≤ n) (few : n ≤ nodes) where
       unnoted (Output a c x) o e = refl
       unnoted (Input a c x) o e = refl
       unnoted (Step a p) o e = refl
+      unnoted (Steps m xs) o e = refl
 
 -- ONE THAT SAYS IDLE TO EVERY STEP
 abbrev noStep : Call → Bool
@@ -134,6 +143,7 @@ noStep (Aim a c g v) = true
 noStep (Output a c x) = true
 noStep (Input a c x) = true
 noStep (Step a p) = false
+noStep (Steps m xs) = false
 
 module _ (n : ℕ) (some : 1 ≤ n) (few : n ≤ nodes) where
   pub idles-always : (cs : List Call) → Demand3 (seenOf noStep Idle n cs .books) (seenOf noStep Idle n cs .misread)
@@ -147,6 +157,7 @@ module _ (n : ℕ) (some : 1 ≤ n) (few : n ≤ nodes) where
       unwritten o w (Output a c x) k e = clash e
       unwritten o w (Input a c x) k e = clash e
       unwritten o w (Step a p) k e = refl
+      unwritten o w (Steps m xs) k e = refl
 
       unnoted : (c : Call) (o : Notes) → noStep c ≡ false → jot c Idle o ≡ o
       unnoted (Fresh m) o e = clash e
@@ -156,3 +167,4 @@ module _ (n : ℕ) (some : 1 ≤ n) (few : n ≤ nodes) where
       unnoted (Output a c x) o e = clash e
       unnoted (Input a c x) o e = clash e
       unnoted (Step a p) o e = refl
+      unnoted (Steps m xs) o e = refl

@@ -22,6 +22,7 @@ pub mod Lands
 pub mod Sends
 pub mod Outputs
 pub mod Calls
+pub mod Singly
 pub mod Filling
 pub mod Noted
 pub mod Hearing

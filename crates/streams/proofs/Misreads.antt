@@ -31,7 +31,7 @@ use Rattle.ends.specs.Output.{wordOf}
 use Rattle.ends.specs.declared.plan.Plan as Sents
 use Rattle.ends.specs.declared.plan.Plan.the-variants as Sent
 use Rattle.switch.specs.Step.{portAt}
-use Rattle.bench.specs.Calls.{Call, Fresh, Wire, Set, Aim, Output, Input, Step, rows}
+use Rattle.bench.specs.Calls.{Call, Fresh, Wire, Set, Aim, Output, Input, Step, Steps, rows}
 use Rattle.bench.specs.Writes.{hopClosed}
 use Rattle.kept.specs.Kept.{Kept}
 use Rattle.kept.proofs.Parts.{kept-sound}
@@ -132,6 +132,7 @@ module _ (w : World) (k : Kept w) where
   made-splits (Step a p) q =
       let there = step-there w (a .0) p (q .1) in
       split-found w (a .0) p (there .0) (there .1) (step-found w k (a .0) p (there .0) (there .1))
+  made-splits (Steps n xs) p = tt
 
   -- a Step that is refused reads nothing
   refused-splits : (c : Call) → done w c ≡ false → SplitBy (misreads w c) (portIn c) []
@@ -145,6 +146,7 @@ module _ (w : World) (k : Kept w) where
       by-test (portAt (w .net) (a .0) p)
       (λ t. clash (rw (kept-sound w k .0, t) at e))
       (λ t. rw t tt)
+  refused-splits (Steps n xs) e = tt
 
   pub call-splits : (c : Call) → SplitBy (misreads w c) (portIn c) (eventsOf w c)
   call-splits c =

@@ -49,7 +49,7 @@ use Rattle.ends.specs.declared.aim.Goal.{Goal}
 use Rattle.ends.specs.declared.aim.Goal.the-variants as Goals
 use Rattle.ends.specs.declared.plan.Plan as Sents
 use Rattle.switch.specs.Step.{stepPerformed}
-use Rattle.bench.specs.Calls.{Call, Fresh, Wire, Set, Aim, Output, Input, Step, rows, made}
+use Rattle.bench.specs.Calls.{Call, Fresh, Wire, Set, Aim, Output, Input, Step, Steps, rows, made}
 use Rattle.bench.specs.Writes.{hopClosed}
 use Rattle.kept.specs.Kept.{Kept}
 use Rattle.kept.proofs.Found.{Found, idle, waits, splits, unrouted, routes, landsChannel, landsUnit, step-found}
@@ -68,7 +68,7 @@ use Rattle.streams.proofs.Indoors.{indoors-took, indoors-stripped, indo
 use Rattle.streams.proofs.Indoors.{indoors-closesChannel, indoors-closesOut, indoors-dropped, indoors-obeyed}
 use Rattle.streams.proofs.Indoors.{heldIn, long-took, held-took}
 use Rattle.streams.proofs.Indoors.{handed-held, handed-long, door-off}
-use Rattle.streams.proofs.Calls.{obeyEvents, stepEvents, outputEvents, isFresh, madeEvents}
+use Rattle.streams.proofs.Calls.{obeyEvents, stepEvents, outputEvents, noEvent, madeEvents}
 use Rattle.streams.proofs.Filling.{Fills, obey-fills, fills-unmarked, fills-hands, fills-puts}
 
 -- what a channel-end that is aimed is aimed at, by the notes
@@ -391,7 +391,7 @@ module _ (w : World) (k : Kept w) (n c : ℕ) (y : Wanted) (o : Notes) (hn : n <
 
 -- EVERY CALL that is not refused
 module _ (w : World) (k : Kept w) (o : Notes) where
-  pub made-told : (c : Call) → Passes (rows w c) → isFresh c ≡ false
+  pub made-told : (c : Call) → Passes (rows w c) → noEvent c ≡ false
       → Told w (made w c .next) (madeEvents w c) o (jot c (made w c .answer) o)
   made-told (Fresh n) p e = clash e
   made-told (Wire a l b j) p e =
@@ -413,3 +413,4 @@ module _ (w : World) (k : Kept w) (o : Notes) where
   made-told (Step a p) q e =
       let there = step-there w (a .0) p (q .1) in
       step-told w (a .0) p o (step-found w k (a .0) p (there .0) (there .1))
+  made-told (Steps n xs) p e = clash e

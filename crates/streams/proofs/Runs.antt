@@ -15,6 +15,7 @@ use Rattle.cells.specs.Fresh.{freshWorld}
 use Rattle.kept.specs.Kept.{Kept}
 use Rattle.kept.proofs.Computes.{computes}
 use Rattle.bench.specs.Calls.{Call, apply}
+use Rattle.bench.specs.Runs.{flat}
 use Rattle.bench.proofs.Lasts.{call-keeps}
 use Rattle.bench.proofs.Computed.{applied, sound-row, Script, calls, fresh-kept}
 use Rattle.bench.proofs.Runs.{update, halfway, narrowed}
@@ -66,10 +67,10 @@ abbrev Shows : Script → {A : Type 0} → (Seen → A) → A → Type 0
 Shows s f a = f (observed 2 (calls s)) ≡ a
 
 abbrev shown : (s : Script) {A : Type 0} (f : Seen → A) {a : A}
-    → f (watched applied (freshWorld 2) unseen (calls s)) ≡ a
+    → f (watched applied (freshWorld 2) unseen (flat (calls s))) ≡ a
     → Shows s f a
 shown s f computed =
-    ap f (watched-so (calls s) (freshWorld 2) unseen (fresh-kept 2 refl refl)) ∙ computed
+    ap f (watched-so (flat (calls s)) (freshWorld 2) unseen (fresh-kept 2 refl refl)) ∙ computed
 
 -- openings: at three-byte width, at one-byte width, within a node
 abbrev three : ℕ → Target → Info

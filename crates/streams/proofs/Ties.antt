@@ -14,7 +14,7 @@ use Rattle.answers.specs.declared.Answer.the-variants as Answers
 use Rattle.answers.proofs.Refusals.{passed}
 use Rattle.cells.specs.World.{World}
 use Rattle.cells.specs.Fresh.{freshWorld}
-use Rattle.bench.specs.Calls.{Call, Fresh, Wire, Set, Aim, Output, Input, Step, rows, made, apply}
+use Rattle.bench.specs.Calls.{Call, Fresh, Wire, Set, Aim, Output, Input, Step, Steps, rows, made, apply}
 use Rattle.bench.proofs.Lasts.{call-boards}
 use Rattle.kept.specs.Kept.{Kept}
 use Rattle.streams.specs.Model.{portNo, doorNo, isLink, Cell, Notes, noNotes}
@@ -28,7 +28,7 @@ use Rattle.streams.proofs.Machine.{line-tokens, no-cells}
 use Rattle.streams.proofs.Sendings.{putsAt, SendingIn, MarkedIn, keep-sendings, sent-steps, start-sending}
 use Rattle.streams.proofs.Handings.{handsAt, log-steps}
 use Rattle.streams.proofs.View.{view-queue}
-use Rattle.streams.proofs.Calls.{done, isFresh, madeEvents, eventsOf, not-fresh, anew-case, call-leads}
+use Rattle.streams.proofs.Calls.{done, isList, noEvent, madeEvents, eventsOf, is-event, anew-case, call-leads}
 use Rattle.streams.proofs.Noted.{AimsNoted, Long, made-told}
 use Rattle.streams.proofs.Hearing.{HeardAt, Wide, made-heard, hears-so}
 
@@ -72,8 +72,9 @@ module _ (w : World) (k : Kept w) (g : Ghost) (iv : Inv isLink (moving w) g) (o 
   refused-jots (Output a c x) r = refl
   refused-jots (Input a c x) r = refl
   refused-jots (Step a p) r = refl
+  refused-jots (Steps n xs) r = refl
 
-  made-ties : (c : Call) → done w c ≡ true → isFresh c ≡ false → OkAll isLink (madeEvents w c) (moving w)
+  made-ties : (c : Call) → done w c ≡ true → noEvent c ≡ false → OkAll isLink (madeEvents w c) (moving w)
       → made w c .next .net .nodes ≡ w .net .nodes
       → Tied (made w c .next) (notes (madeEvents w c) g) (jot c (made w c .answer) o)
   made-ties c d f ok boards =
@@ -97,13 +98,14 @@ module _ (w : World) (k : Kept w) (g : Ghost) (iv : Inv isLink (moving w) g) (o 
         heard = λ n hn. h .heard (t .wide) ok (t .heard) n (rw boards at hn);
       }
 
-  pub tied-call : (c : Call) → anew w c ≡ false → Tied (apply w c .next) (notes (eventsOf w c) g) (jot c (apply w c .answer) o)
+  pub tied-call : (c : Call) → isList c ≡ false → anew w c ≡ false
+      → Tied (apply w c .next) (notes (eventsOf w c) g) (jot c (apply w c .answer) o)
   unfolding apply
-  tied-call c e =
+  tied-call c l e =
       let boards = call-boards w c in
-      let ok = call-leads w k c e .ok in
+      let ok = call-leads w k c l e .ok in
       by-test (done w c)
-      (λ d. rw d (made-ties c d (not-fresh w c d e) (rw d at ok) (rw d at boards)))
+      (λ d. rw d (made-ties c d (is-event w c l d e) (rw d at ok) (rw d at boards)))
       (λ d. rw (d, refused-jots c (refusal (rows w c))) t)
 
 -- WHAT IS PROMISED

@@ -1,6 +1,7 @@
 -- THE OBSERVER: what a person beside the bench writes down of each call, who sees the state before it, the call and its answer, and has his
 -- own notes: no plan, no event, nothing that a header says. Document 01 is all that he knows: an Output that is done opens a circuit where
--- the channel-end had none, within the node or through the lowest free port; a Step that answers Moved takes the port's first word.
+-- the channel-end had none, within the node or through the lowest free port; a Step that answers Moved takes the port's first word. A list of
+-- steps he sees as its Steps, each with the state before it and its result (Statement.antt): of `Steps` itself nothing is written here.
 use Prim.Native.Nat.{ℕ, suc}
 use mathlib.Core.Bool.{Bool, true, false, not, _&&_}
 use mathlib.Core.List.{List, [], _∷_, _++_}
@@ -45,7 +46,7 @@ use Rattle.ends.specs.declared.Wanted.the-variants as Wants
 use Rattle.ends.specs.declared.aim.Goal.{Goal}
 use Rattle.ends.specs.declared.aim.Goal.the-variants as Goals
 use Rattle.switch.specs.Step.{portAt}
-use Rattle.bench.specs.Calls.{Call, Fresh, Wire, Set, Aim, Output, Input, Step, apply}
+use Rattle.bench.specs.Calls.{Call, Fresh, Wire, Set, Aim, Output, Input, Step, Steps, apply}
 use Rattle.bench.specs.Writes.{hopClosed}
 use Rattle.streams.specs.Model.{keeps, Place, ToChannel, ToUnit, encode, portNo, doorNo, unitDoor, nodeOfPort, nodeOfDoor, endAt}
 use Rattle.streams.specs.Model.{Lost, Landed, Here, Books, Notes, alter, hd, pop, push, pushAll, cellsOf, marks}
@@ -290,6 +291,7 @@ write o w (Output a c t) x k =
     whenDone x (writeOutput w (a .0) c (o .aimed (doorNo (a .0) c)) (wordOf t) (peerOf (w .net .ends .sendings (a .0) c)) k) k
 write o w (Input a c y) x k = k
 write o w (Step a p) x k = writeStep w (a .0) p x k
+write o w (Steps n xs) x k = k
 
 -- THE NOTES AFTER A CALL: of the call and its answer alone
 abbrev pub given : Goal → Target
@@ -334,6 +336,7 @@ jot (Aim a c g v) x k = whenDone x (jotAimed (doorNo (a .0) c) (given g) k) k
 jot (Output a c t) x k = whenDone x (jotPut (doorNo (a .0) c) (wordOf t) k) k
 jot (Input a c y) x k = jotInput (doorNo (a .0) c) y x k
 jot (Step a p) x k = k
+jot (Steps n xs) x k = k
 
 -- NEW BOOKS: after a Fresh that is done; one that is refused changes none
 abbrev pub renews : Call → Answer → Bool
@@ -344,6 +347,7 @@ renews (Aim a c g v) x = false
 renews (Output a c t) x = false
 renews (Input a c y) x = false
 renews (Step a p) x = false
+renews (Steps n xs) x = false
 
 abbrev pub anew : World → Call → Bool
 anew w c = renews c (apply w c .answer)
@@ -372,6 +376,7 @@ misreads w (Aim a c g v) = false
 misreads w (Output a c x) = false
 misreads w (Input a c x) = false
 misreads w (Step a p) = misread w (a .0) p
+misreads w (Steps n xs) = false
 
 -- the port that a Step is of
 abbrev pub portIn : Call → ℕ
@@ -382,3 +387,4 @@ portIn (Aim a c g v) = 0
 portIn (Output a c x) = 0
 portIn (Input a c x) = 0
 portIn (Step a p) = portNo (a .0) p
+portIn (Steps n xs) = 0

@@ -1,0 +1,3 @@
+-- Laws of a list of steps.
+pub mod Sures
+pub mod Fold

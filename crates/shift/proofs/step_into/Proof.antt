@@ -1,0 +1,40 @@
+-- `shift::step_into` meets its contract. Assumes nothing.
+use borrow.Author.Needs.{needs}
+use Rattle.cells.specs.World.{world}
+use Rattle.shift.proofs.Sures.{known-from, kept-on, stored}
+use Rattle.shift.proofs.step_into.Statement.{statement}
+use Rattle.shift.proofs.step_into.Tie as tie
+
+step-requires : tie.Need-step-requires
+step-requires c κs =
+    let asked = c .before .before in
+    let start = asked .before .before .before .before .before .before in
+    let a = start .args in
+    known-from (a .sure) (world (a .st .now) (a .mem .now)) _ (asked .known .ensures) (start .pre .1)
+
+returns : tie.Need-returns
+returns c =
+    let made = c .before .before .before .before .before in
+    let asked = made .before .before .before in
+    let start = asked .before .before .before .before .before .before in
+    let a = start .args in
+    let w = world (a .st .now) (a .mem .now) in
+    let sure = known-from (a .sure) w (asked .known .result) (asked .known .ensures) (start .pre .1) in
+    (
+      kept-on (asked .known .result) w _ _ _ (made .step .ensures) sure,
+      stored w (a .results .now) (a .i) (a .slot) (a .port) _ _ _ (made .step .ensures) (c .answer-number .ensures),
+    )
+
+pub step-into-spec : {M : Type 1} → statement M
+step-into-spec =
+    tie.close
+    (tie.spec
+    (λ c κs. search needs)
+    step-requires
+    (λ c κs. search needs)
+    (λ c. search needs)
+    (λ c. search needs)
+    (λ c. search needs)
+    (λ c. search needs)
+    (λ c. search needs)
+    returns)
