@@ -2,3 +2,5 @@
 pub mod Shows
 pub mod Crosses
 pub mod Told
+pub mod Param
+pub mod Frame

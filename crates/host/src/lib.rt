@@ -2,6 +2,7 @@
 // nothing else. None has a `requires`, so a caller owes nothing but slices that are what they say. Across
 // C a slice is two words, pointer then length, and an enum is one number (specs/Crossed.antt).
 pub mod call;
+pub mod list;
 pub mod number;
 pub mod record;
 pub mod single;

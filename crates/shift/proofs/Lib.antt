@@ -1,3 +1,4 @@
 -- Laws of a list of steps.
 pub mod Sures
 pub mod Fold
+pub mod Untight
