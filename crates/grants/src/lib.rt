@@ -40,7 +40,8 @@ fn grant_to(st: &[u32], k: Cable, f: Flow) -> u32
     0
 }
 
-// A grant is considered on a link, and given: the answer is the grant.
+// A grant is considered on a link, and given: the answer is the grant. Mostly there is none, and then no
+// word is written.
 pub fn consider(st: &mut [u32], slot: Slot, l: usize) -> u32
     requires { ⌜ (slot .0 < view (now st) .nodes) × (l < links) ⌝ }
     ensures { λ r. ⌜ (r ≡ granted (view (now (st .entry))) (slot .0) l)
@@ -49,6 +50,9 @@ pub fn consider(st: &mut [u32], slot: Slot, l: usize) -> u32
     let k = link::at(st, slot, l);
     let mut f = k.flow;
     let g = grant_to(st, k.cable, f);
+    if g == 0 {
+        return 0;
+    }
     f.credit = f.credit + g;
     link::put_flow(st, slot, l, f);
     g
