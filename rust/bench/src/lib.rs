@@ -5,6 +5,8 @@
 //! `crates/host`; this crate adds names, enums and ownership, and no rule of the bench. Its parts:
 //!
 //! * [`Bench`]: a network that owns its two memories, with a method for each call;
+//! * [`StepRecord`]: one of a list of Steps that are made at once, and [`StepResult`], what it
+//!   answered;
 //! * [`Looks`]: the state of a network, read through the proved looks alone, with its
 //!   [digest](Looks::digest);
 //! * [`raw`]: each proved function over the caller's own slices, of any length and contents;
@@ -13,6 +15,7 @@
 mod answer;
 mod clause;
 mod digest;
+mod list;
 mod looks;
 mod network;
 mod proved;
@@ -24,6 +27,7 @@ mod token;
 
 pub use answer::{Answer, Opening, Stepped};
 pub use clause::Clause;
+pub use list::{StepRecord, StepResult};
 pub use looks::Looks;
 pub use network::{Bench, LinkEnd, Setting};
 pub use records::{

@@ -1,6 +1,7 @@
 //! A network that owns its two memories.
 
 use crate::answer::{Answer, Stepped};
+use crate::list::{StepRecord, StepResult};
 use crate::looks::Looks;
 use crate::raw;
 use crate::records::Destination;
@@ -305,6 +306,62 @@ impl Bench {
             Answer::Step(stepped) => Ok(stepped),
             other => unreachable!("Step answers what came of it, not {other:?}"),
         }
+    }
+
+    /// A list of Steps at once, in order, each made on what the one before has left: the same as
+    /// [`step`](Bench::step) for one record after the other, with the same answers, and much faster.
+    /// A Step that is refused stops nothing.
+    ///
+    /// ```
+    /// use bench::{Bench, Destination, Kind, Opening, Refusal, Setting, StepRecord, Stepped};
+    ///
+    /// let mut bench = Bench::fresh(1).unwrap();
+    /// bench.set(0, Setting::Number(5)).unwrap();
+    /// bench.aim(0, 2, Destination::Channel { number: 9, channel: 7 }, 0).unwrap();
+    /// bench.output(0, 2, Kind::Data, 1).unwrap();
+    /// bench.set(0, Setting::Number(9)).unwrap();
+    /// let list = [8, 13, 8, 8].map(|port| StepRecord { slot: 0, port });
+    /// let answers = bench.steps(&list);
+    /// assert_eq!(answers[0], Ok(Stepped::Opened(Opening::Channel)));
+    /// assert_eq!(answers[1], Err(Refusal::NoSuch));
+    /// assert_eq!(answers[2..], [Ok(Stepped::Moved), Ok(Stepped::Idle)]);
+    /// assert_eq!(bench.input(0, 7, Kind::Data), Ok(1));
+    /// assert!(bench.steps(&[]).is_empty());
+    /// ```
+    pub fn steps(&mut self, list: &[StepRecord]) -> Vec<Result<Stepped, Refusal>> {
+        let mut results = vec![StepResult::default(); list.len()];
+        let made = self.steps_into(list, &mut results);
+        made.expect("a list is refused only where the results are more or fewer");
+        let answers = results.into_iter().map(StepResult::answer);
+        answers
+            .map(|answer| answer.expect("each record has its result"))
+            .collect()
+    }
+
+    /// The same into a buffer of the caller's, one result for each record: nothing is allocated.
+    /// Where the buffer is longer or shorter than the list this is NoSuch; then no Step is made, and
+    /// the results stay as they were.
+    ///
+    /// ```
+    /// use bench::{Bench, Refusal, StepRecord, StepResult, Stepped};
+    ///
+    /// let mut bench = Bench::fresh(2).unwrap();
+    /// let list = [StepRecord { slot: 1, port: 12 }, StepRecord { slot: 2, port: 0 }];
+    /// let mut results = [StepResult::default(); 3];
+    /// assert_eq!(bench.steps_into(&list, &mut results), Err(Refusal::NoSuch));
+    /// assert_eq!(results, [StepResult::default(); 3]);
+    /// assert_eq!(bench.steps_into(&list, &mut results[..2]), Ok(()));
+    /// assert_eq!(results[0].answer(), Some(Ok(Stepped::Idle)));
+    /// assert_eq!(results[1].answer(), Some(Err(Refusal::NoSuch)));
+    /// assert_eq!(results[2].answer(), None);
+    /// ```
+    pub fn steps_into(
+        &mut self,
+        list: &[StepRecord],
+        results: &mut [StepResult],
+    ) -> Result<(), Refusal> {
+        let (state, memory) = (&mut self.state, &mut self.memory);
+        done(raw::steps(state, memory, list, raw::numbers(results)))
     }
 
     /// The state, to be looked at.

@@ -26,6 +26,7 @@
 //! ```
 
 use crate::answer::{parts, Answer};
+use crate::list::{StepRecord, StepResult};
 use crate::proved;
 
 // SAFETY, of every call below: the slices are borrowed while the call lasts, each goes over with
@@ -310,6 +311,80 @@ pub fn step(state: &mut [u32], memory: &mut [u16], slot: usize, port: usize) -> 
             port,
         )
     })
+}
+
+/// Steps: those of a list, in order, each made on what the one before has left. What each answers
+/// is written as its number, which [`Answer::from_crossed`] reads, into the result of the same
+/// place; a Step that is refused stops nothing. The call itself is done, on any memories: where they
+/// are unsound, each Step says so for itself.
+///
+/// It is NoSuch where there are more or fewer results than records. Then nothing is done, and no
+/// result is written.
+///
+/// ```
+/// use bench::{raw, Answer, Refusal, StepRecord, Stepped};
+///
+/// let (mut state, mut memory) = (vec![0; raw::state_words()], vec![0; raw::memory_words()]);
+/// raw::fresh(&mut state, &mut memory, 1);
+/// let list = [StepRecord { slot: 7, port: 0 }, StepRecord { slot: 0, port: 8 }];
+/// let mut results = [0; 2];
+/// assert_eq!(raw::steps(&mut state, &mut memory, &list, &mut results), Answer::Done);
+/// let answers = results.map(Answer::from_crossed);
+/// assert_eq!(answers[0], Some(Answer::No(Refusal::NoSuch)));
+/// assert_eq!(answers[1], Some(Answer::Step(Stepped::Idle)));
+///
+/// let mut short = [9];
+/// let answer = raw::steps(&mut state, &mut memory, &list, &mut short);
+/// assert_eq!((answer, short), (Answer::No(Refusal::NoSuch), [9]));
+/// ```
+pub fn steps(
+    state: &mut [u32],
+    memory: &mut [u16],
+    list: &[StepRecord],
+    results: &mut [u64],
+) -> Answer {
+    // STAND-IN: until `crates/host` exports `tarvelgyo_steps`, the same by single Steps. Then this
+    // block goes, and what is commented out behind it is the call.
+    {
+        if list.len() != results.len() {
+            return Answer::No(crate::refusal::Refusal::NoSuch);
+        }
+        for (record, result) in list.iter().zip(results) {
+            // SAFETY: as said above.
+            *result = unsafe {
+                proved::tarvelgyo_step(
+                    state.as_mut_ptr(),
+                    state.len(),
+                    memory.as_mut_ptr(),
+                    memory.len(),
+                    record.slot,
+                    record.port,
+                )
+            };
+        }
+        Answer::Done
+    }
+    // // SAFETY: as said above. A record is two words in the order that the library knows.
+    // answered(unsafe {
+    //     proved::tarvelgyo_steps(
+    //         state.as_mut_ptr(),
+    //         state.len(),
+    //         memory.as_mut_ptr(),
+    //         memory.len(),
+    //         list.as_ptr(),
+    //         list.len(),
+    //         results.as_mut_ptr(),
+    //         results.len(),
+    //     )
+    // })
+}
+
+/// The numbers that a buffer of results is.
+pub(crate) fn numbers(results: &mut [StepResult]) -> &mut [u64] {
+    let (first, many) = (results.as_mut_ptr().cast(), results.len());
+    // SAFETY: a StepResult is a u64 and nothing else (`repr(transparent)`), every u64 is one, and
+    // the slice is borrowed for as long as the numbers are.
+    unsafe { std::slice::from_raw_parts_mut(first, many) }
 }
 
 /// Input: the next token, as data.

@@ -9,6 +9,9 @@ use std::path::{Path, PathBuf};
 /// Each function with the types that it crosses with, its result last.
 type Functions = BTreeMap<String, Vec<String>>;
 
+/// Each record that crosses as it lies in memory, with the name and type of its fields in order.
+type Records = BTreeMap<String, Vec<(String, String)>>;
+
 fn here(name: &str) -> PathBuf {
     Path::new(env!("CARGO_MANIFEST_DIR")).join(name)
 }
@@ -73,6 +76,31 @@ fn crossing(kind: &str) -> Vec<String> {
     vec![kind.to_owned()]
 }
 
+/// The records that have C's layout. Where they are derived from stands between, or nothing.
+fn records(text: &str) -> Records {
+    let heads = behind(text, "#[repr(C)]").map(|rest| rest.split_once("pub struct "));
+    let bodies = heads.map(|head| head.expect("a record").1.split_once('{'));
+    bodies
+        .map(|body| {
+            let (name, rest) = body.expect("its fields");
+            let (fields, _) = rest.split_once('}').expect("their end");
+            (name.trim().to_owned(), fields_of(fields))
+        })
+        .collect()
+}
+
+/// `pub NAME: TYPE, ..`.
+fn fields_of(text: &str) -> Vec<(String, String)> {
+    let fields = text.split(',').filter(|field| !field.trim().is_empty());
+    let named = fields.map(|field| field.split_once(':').expect("a type"));
+    named
+        .map(|(name, kind)| {
+            let name = name.trim().strip_prefix("pub ").expect("a public field");
+            (name.trim().to_owned(), kind.trim().to_owned())
+        })
+        .collect()
+}
+
 fn exported(text: &str) -> Functions {
     functions(text, "#[no_mangle] pub extern \"C\" fn ", "ensures")
 }
@@ -94,14 +122,61 @@ fn what_is_declared_is_what_is_exported() {
     assert_eq!(declared(&declarations), found);
 }
 
+/// The pointers that slices cross as. A record behind one has the same fields on both sides
+/// (`the_records_that_cross_are_the_same`).
+#[rustfmt::skip]
+const POINTERS: [&str; 6] = [
+    "*mut u32", "*const u32", "*mut u16", "*const u16", "*mut u64", "*const StepRecord",
+];
+
 /// A type that crosses both ways under one name and width, and no other.
 #[test]
 fn the_types_are_those_that_cross_as_they_are() {
     let all = exported(&host());
     for kind in all.values().flatten() {
         let known = ["u8", "u32", "u64", "usize", "bool"].contains(&kind.as_str());
-        let pointer = ["*mut u32", "*const u32", "*mut u16", "*const u16"];
-        assert!(known || pointer.contains(&kind.as_str()), "{kind}");
+        assert!(known || POINTERS.contains(&kind.as_str()), "{kind}");
+    }
+}
+
+/// What a list looks like in `crates/host`.
+const EXPORTED_LIST: &str =
+    "#[repr(C)] pub struct StepRecord { pub slot: usize, pub port: usize } \
+    #[no_mangle] pub extern \"C\" fn tarvelgyo_steps( st: &mut [u32], mem: &mut [u16], \
+    list: &[StepRecord], results: &mut [u64], ) -> u64 ensures { true } { 0 }";
+
+/// And here.
+const DECLARED_LIST: &str = "pub fn tarvelgyo_steps( state: *mut u32, words: usize, \
+    memory: *mut u16, tokens: usize, list: *const StepRecord, records: usize, results: *mut u64, \
+    room: usize, ) -> u64;";
+
+#[test]
+fn a_list_of_records_crosses_as_pointer_and_length() {
+    let found = exported(EXPORTED_LIST);
+    assert_eq!(declared(DECLARED_LIST), found);
+    let types = &found["tarvelgyo_steps"];
+    assert_eq!(types[4..6], ["*const StepRecord", "usize"]);
+    for (from, to) in [("&[StepRecord]", "&mut [StepRecord]"), ("[u64]", "[u32]")] {
+        let changed = exported(&EXPORTED_LIST.replace(from, to));
+        assert_ne!(changed, found, "{from}");
+    }
+}
+
+/// A record's fields have the same names and types, in the same order, on both sides.
+#[test]
+fn the_records_that_cross_are_the_same() {
+    let ours = records(&read(&here("src/list.rs")));
+    assert_eq!(ours.len(), 1);
+    // STAND-IN: until `crates/host` has the record. Then this line goes, and the next one holds.
+    assert_eq!(records(EXPORTED_LIST), ours);
+    // assert_eq!(records(&host()), ours);
+    let other_order = "{ pub port: usize, pub slot: usize }";
+    for (from, to) in [
+        ("{ pub slot: usize, pub port: usize }", other_order),
+        ("port: usize", "port: u32"),
+        ("#[repr(C)]", ""),
+    ] {
+        assert_ne!(records(&EXPORTED_LIST.replace(from, to)), ours, "{from}");
     }
 }
 
