@@ -106,7 +106,7 @@ fn damaged(random: &mut Random, line: &str) -> String {
 /// What the library's side reads a line as, written again; none where it is no call.
 fn read_by_library(line: &str) -> Option<String> {
     let lines = script::parse(line).ok()?;
-    let written = lines.iter().map(|line| match line.stated {
+    let written = lines.iter().map(|line| match &line.stated {
         Some(stated) => format!("{} -> {stated}", line.call),
         None => line.call.to_string(),
     });

@@ -13,7 +13,7 @@ pub enum Opening {
 }
 
 /// Every answer that the format has words for.
-#[derive(Clone, Copy, Debug, PartialEq, Eq)]
+#[derive(Clone, Debug, PartialEq, Eq)]
 pub enum Answer {
     No(Refusal),
     Done,
@@ -27,6 +27,19 @@ pub enum Answer {
     Dropped(Cause),
     Malformed,
     Unheard,
+    /// Of a list: what each of its Steps answered, in order.
+    Results(Vec<Answer>),
+}
+
+impl Answer {
+    /// Whether the memory was found unsound: of a list, by any of its Steps.
+    pub fn is_unsound(&self) -> bool {
+        match self {
+            Answer::No(refusal) => *refusal == Refusal::Unsound,
+            Answer::Results(answers) => answers.iter().any(Answer::is_unsound),
+            _ => false,
+        }
+    }
 }
 
 impl From<bench::Answer> for Answer {
@@ -67,6 +80,16 @@ fn cause_word(cause: Cause) -> &'static str {
     }
 }
 
+/// `results ANSWER; ANSWER; ..`.
+fn write_results(f: &mut fmt::Formatter<'_>, answers: &[Answer]) -> fmt::Result {
+    f.write_str("results")?;
+    for (place, answer) in answers.iter().enumerate() {
+        let before = if place == 0 { " " } else { "; " };
+        write!(f, "{before}{answer}")?;
+    }
+    Ok(())
+}
+
 impl fmt::Display for Answer {
     fn fmt(&self, f: &mut fmt::Formatter<'_>) -> fmt::Result {
         match *self {
@@ -84,6 +107,7 @@ impl fmt::Display for Answer {
             Answer::Dropped(cause) => write!(f, "dropped {}", cause_word(cause)),
             Answer::Malformed => f.write_str("malformed"),
             Answer::Unheard => f.write_str("unheard"),
+            Answer::Results(ref answers) => write_results(f, answers),
         }
     }
 }

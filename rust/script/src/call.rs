@@ -2,10 +2,10 @@
 
 use std::fmt;
 
-use bench::{Destination, Kind, LinkEnd, Setting};
+use bench::{Destination, Kind, LinkEnd, Setting, StepRecord};
 
 /// A call with its arguments, which may be out of range: that is what refusals are for.
-#[derive(Clone, Copy, Debug, PartialEq, Eq)]
+#[derive(Clone, Debug, PartialEq, Eq)]
 pub enum Call {
     Fresh {
         nodes: usize,
@@ -45,10 +45,15 @@ pub enum Call {
         slot: usize,
         port: usize,
     },
+    /// A list of Steps, with room for so many results.
+    Steps {
+        results: usize,
+        list: Vec<StepRecord>,
+    },
 }
 
 /// The calls as a line has them, by their first word.
-pub const FORMS: [(&str, &str); 7] = [
+pub const FORMS: [(&str, &str); 8] = [
     ("fresh", "fresh NODES MEMORY_WORDS"),
     ("wire", "wire SLOT LINK SLOT LINK"),
     ("set", "set SLOT SETTING INDEX VALUE"),
@@ -59,6 +64,7 @@ pub const FORMS: [(&str, &str); 7] = [
     ("output", "output SLOT CHANNELEND data VALUE, or output SLOT CHANNELEND control VALUE"),
     ("input", "input SLOT CHANNELEND data, or input SLOT CHANNELEND control"),
     ("step", "step SLOT PORT"),
+    ("steps", "steps RESULTS SLOT PORT SLOT PORT .."),
 ];
 
 /// The word for a kind of token.
@@ -88,6 +94,15 @@ fn write_destination(f: &mut fmt::Formatter<'_>, destination: Destination) -> fm
         Destination::Channel { number, channel } => write!(f, "channel {number} {channel}"),
         Destination::Control { number } => write!(f, "control {number} 0"),
     }
+}
+
+/// `RESULTS SLOT PORT SLOT PORT ..`.
+fn write_list(f: &mut fmt::Formatter<'_>, results: usize, list: &[StepRecord]) -> fmt::Result {
+    write!(f, "{results}")?;
+    for StepRecord { slot, port } in list {
+        write!(f, " {slot} {port}")?;
+    }
+    Ok(())
 }
 
 impl fmt::Display for Call {
@@ -128,6 +143,10 @@ impl fmt::Display for Call {
                 kind,
             } => write!(f, "input {slot} {channel_end} {}", kind_word(kind)),
             Call::Step { slot, port } => write!(f, "step {slot} {port}"),
+            Call::Steps { results, ref list } => {
+                f.write_str("steps ")?;
+                write_list(f, results, list)
+            }
         }
     }
 }

@@ -3,13 +3,13 @@
 use std::fmt;
 
 use bench::sizes::MOST_NODES;
-use bench::{raw, Bench, Clause, Destination, Kind, Looks, Refusal, Setting};
+use bench::{raw, Bench, Clause, Destination, Kind, Looks, Setting, StepRecord};
 
 use crate::answer::Answer;
 use crate::call::Call;
 
 /// What came of a call: its answer, and the digest of the state behind it.
-#[derive(Clone, Copy, Debug, PartialEq, Eq)]
+#[derive(Clone, Debug, PartialEq, Eq)]
 pub struct Outcome {
     pub answer: Answer,
     pub digest: u64,
@@ -22,13 +22,13 @@ impl fmt::Display for Outcome {
 }
 
 /// A call that was made, written as `CALL -> ANSWER # DIGEST`.
-#[derive(Clone, Copy, Debug, PartialEq, Eq)]
+#[derive(Clone, Debug, PartialEq, Eq)]
 pub struct Made {
     /// The line of the script that has the call.
     pub line: usize,
     pub call: Call,
     pub found: Outcome,
-    /// Where the answer is Unsound: the clause that the memory fails first.
+    /// Where the answer is Unsound, or one of a list is: the clause that the memory fails first.
     pub failing: Option<Clause>,
 }
 
@@ -79,8 +79,7 @@ impl Host {
 
     /// Makes a call.
     pub fn make(&mut self, line: usize, call: Call) -> Made {
-        let (answer, failing) = self.answer(call);
-        let answer = Answer::from(answer);
+        let (answer, failing) = self.answer(&call);
         let digest = self.digest();
         let found = Outcome { answer, digest };
         Made {
@@ -92,47 +91,49 @@ impl Host {
     }
 
     /// What the proved library answers, and the clause that fails where it says Unsound.
-    fn answer(&mut self, call: Call) -> (bench::Answer, Option<Clause>) {
+    fn answer(&mut self, call: &Call) -> (Answer, Option<Clause>) {
         let lent = &mut self.lent;
         let (state, memory) = (&mut lent.state, &mut lent.memory);
-        let answer = match call {
+        let answer = match *call {
             Call::Fresh {
                 nodes,
                 memory_words,
             } => return self.fresh(nodes, memory_words),
             Call::Wire { one, other } => {
-                raw::wire(state, memory, one.slot, one.link, other.slot, other.link)
+                raw::wire(state, memory, one.slot, one.link, other.slot, other.link).into()
             }
-            Call::Set { slot, setting } => set(state, memory, slot, setting),
-            Call::Hello { slot, link } => raw::hello(state, memory, slot, link),
+            Call::Set { slot, setting } => set(state, memory, slot, setting).into(),
+            Call::Hello { slot, link } => raw::hello(state, memory, slot, link).into(),
             Call::Aim {
                 slot,
                 channel_end,
                 destination,
                 network,
-            } => aim(lent, slot, channel_end, destination, network),
+            } => aim(lent, slot, channel_end, destination, network).into(),
             Call::Output {
                 slot,
                 channel_end,
                 kind,
                 value,
-            } => output(lent, slot, channel_end, kind, value),
+            } => output(lent, slot, channel_end, kind, value).into(),
             Call::Input {
                 slot,
                 channel_end,
                 kind,
-            } => input(lent, slot, channel_end, kind),
-            Call::Step { slot, port } => raw::step(state, memory, slot, port),
+            } => input(lent, slot, channel_end, kind).into(),
+            Call::Step { slot, port } => raw::step(state, memory, slot, port).into(),
+            Call::Steps { results, ref list } => steps(lent, results, list),
         };
-        (answer, failing_clause(answer, lent))
+        let failing = failing_clause(&answer, lent);
+        (answer, failing)
     }
 
     /// Fresh on two memories of its own: "a later Fresh that succeeds replaces the network".
-    fn fresh(&mut self, nodes: usize, memory_words: usize) -> (bench::Answer, Option<Clause>) {
+    fn fresh(&mut self, nodes: usize, memory_words: usize) -> (Answer, Option<Clause>) {
         let mut lent = lent_for(nodes, memory_words);
-        let answer = raw::fresh(&mut lent.state, &mut lent.memory, nodes);
-        let failing = failing_clause(answer, &lent);
-        if answer == bench::Answer::Done {
+        let answer = raw::fresh(&mut lent.state, &mut lent.memory, nodes).into();
+        let failing = failing_clause(&answer, &lent);
+        if answer == Answer::Done {
             self.lent = lent;
         }
         (answer, failing)
@@ -150,11 +151,27 @@ fn lent_for(nodes: usize, memory_words: usize) -> Lent {
 }
 
 /// What is wrong with a memory that was refused as Unsound.
-fn failing_clause(answer: bench::Answer, lent: &Lent) -> Option<Clause> {
-    match answer {
-        bench::Answer::No(Refusal::Unsound) => lent.looks().failing_clause(),
-        _ => None,
+fn failing_clause(answer: &Answer, lent: &Lent) -> Option<Clause> {
+    match answer.is_unsound() {
+        true => lent.looks().failing_clause(),
+        false => None,
     }
+}
+
+/// A list of Steps. Any other length of the results than the list's is as wrong as one more: no more
+/// are lent than can matter.
+fn steps(lent: &mut Lent, results: usize, list: &[StepRecord]) -> Answer {
+    let mut results = vec![0; results.min(list.len() + 1)];
+    match raw::steps(&mut lent.state, &mut lent.memory, list, &mut results) {
+        bench::Answer::Done => Answer::Results(results.into_iter().map(result).collect()),
+        refused => refused.into(),
+    }
+}
+
+/// What a result says: every number that the proved functions give stands for an answer.
+fn result(number: u64) -> Answer {
+    let answer = bench::Answer::from_crossed(number);
+    answer.expect("a result is an answer").into()
 }
 
 fn aim(

@@ -25,6 +25,7 @@ mod names;
 mod parse;
 mod play;
 pub mod question;
+mod rounds;
 pub mod route;
 pub mod show;
 mod waits;

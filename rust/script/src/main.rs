@@ -42,6 +42,10 @@ const SETTINGS: &str = "
 SETTING INDEX VALUE is number 0 VALUE, width 0 VALUE, direction BIT VALUE, linkdirection LINK VALUE,
 network LINK VALUE, enable LINK VALUE or hello LINK 0.
 
+steps makes a list of Steps at once, as if they were made one by one. RESULTS is how many results
+there is room for. The answer is no 2 where that is not how many Steps there are; else it is results
+and what each Step answered, parted by ;.
+
 Exit status: 0 all calls made, and all that is stated agrees; 1 a line differs; 2 a line that is no
 call, or a file that cannot be read.
 ";

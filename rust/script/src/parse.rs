@@ -1,6 +1,6 @@
 //! Reading lines, calls and answers.
 
-use bench::{Cause, Destination, Kind, LinkEnd, Refusal, Setting};
+use bench::{Cause, Destination, Kind, LinkEnd, Refusal, Setting, StepRecord};
 
 use crate::answer::{Answer, Opening};
 use crate::call::{Call, FORMS};
@@ -8,7 +8,7 @@ use crate::host::Outcome;
 use crate::words::{expected, Expected, Words};
 
 /// A line that has a call, with what it states of it.
-#[derive(Clone, Copy, Debug, PartialEq, Eq)]
+#[derive(Clone, Debug, PartialEq, Eq)]
 pub struct Line {
     /// Counted from 1, through all lines of the script.
     pub number: usize,
@@ -42,7 +42,7 @@ fn read_line(number: usize, line: &str) -> Result<Line, Expected> {
 /// Reads a call; a complaint about it ends with how the call is written.
 fn read_call(text: &str) -> Result<Call, Expected> {
     let mut words = Words::of(text);
-    let names = "fresh, wire, set, aim, output, input or step";
+    let names = "fresh, wire, set, aim, output, input, step or steps";
     let name = words.word(names)?;
     let Some((_, form)) = FORMS.iter().find(|(known, _)| *known == name) else {
         return Err(expected(names, Some(name)));
@@ -70,10 +70,11 @@ fn call_named(name: &str, words: &mut Words) -> Result<Call, Expected> {
             channel_end: channel_end(words)?,
             kind: kind(words)?,
         }),
-        _ => Ok(Call::Step {
-            slot: slot(words)?,
-            port: words.number("a port")?,
-        }),
+        "steps" => steps(words),
+        _ => {
+            let StepRecord { slot, port } = record(words)?;
+            Ok(Call::Step { slot, port })
+        }
     }
 }
 
@@ -180,14 +181,30 @@ fn output(words: &mut Words) -> Result<Call, Expected> {
     })
 }
 
+/// `SLOT PORT`, of one Step.
+fn record(words: &mut Words) -> Result<StepRecord, Expected> {
+    Ok(StepRecord {
+        slot: slot(words)?,
+        port: words.number("a port")?,
+    })
+}
+
+/// `RESULTS SLOT PORT SLOT PORT ..`, "any number of records, also none".
+fn steps(words: &mut Words) -> Result<Call, Expected> {
+    let results = words.number("a number of results")?;
+    let mut list = Vec::new();
+    while words.has_more() {
+        list.push(record(words)?);
+    }
+    Ok(Call::Steps { results, list })
+}
+
 /// `ANSWER # DIGEST`, "the digest is 16 hexadecimal digits".
 fn read_outcome(text: &str) -> Result<Outcome, Expected> {
     let Some((answer, digest)) = text.split_once('#') else {
         return Err(expected("ANSWER # DIGEST behind ->", Some(text.trim())));
     };
-    let mut words = Words::of(answer);
-    let answer = read_answer(&mut words)?;
-    words.end()?;
+    let answer = read_answer(answer)?;
     let digest = digest.trim();
     let is_whole = digest.len() == 16 && digest.bytes().all(|digit| digit.is_ascii_hexdigit());
     match u64::from_str_radix(digest, 16) {
@@ -196,7 +213,28 @@ fn read_outcome(text: &str) -> Result<Outcome, Expected> {
     }
 }
 
-fn read_answer(words: &mut Words) -> Result<Answer, Expected> {
+/// The answer of one call: `results ANSWER; ANSWER; ..` of a list, also of one with no Steps.
+fn read_answer(text: &str) -> Result<Answer, Expected> {
+    let mut words = text.trim().splitn(2, char::is_whitespace);
+    match (words.next(), words.next()) {
+        (Some("results"), None) => Ok(Answer::Results(Vec::new())),
+        (Some("results"), Some(answers)) => {
+            let answers = answers.split(';').map(read_single);
+            Ok(Answer::Results(answers.collect::<Result<_, _>>()?))
+        }
+        _ => read_single(text),
+    }
+}
+
+/// What one Step answers, or any other call but a list.
+fn read_single(text: &str) -> Result<Answer, Expected> {
+    let mut words = Words::of(text);
+    let answer = single(&mut words)?;
+    words.end()?;
+    Ok(answer)
+}
+
+fn single(words: &mut Words) -> Result<Answer, Expected> {
     let name = words.word("an answer")?;
     Ok(match name {
         "no" => Answer::No(words.number_for("a refusal 1..12", Refusal::from_number)?),

@@ -70,8 +70,8 @@ pub fn check(text: &str, mut tell: impl FnMut(&Made) -> io::Result<()>) -> Resul
     for line in lines(text)? {
         let made = host.make(line.number, line.call);
         tell(&made).map_err(Fault::Untold)?;
-        compare(line, &made)?;
         compared += usize::from(line.stated.is_some());
+        compare(line.stated, made)?;
     }
     Ok(compared)
 }
@@ -80,11 +80,12 @@ fn lines(text: &str) -> Result<Vec<Line>, Fault> {
     parse(text).map_err(|(line, expected)| Fault::BadLine { line, expected })
 }
 
-fn compare(line: Line, made: &Made) -> Result<(), Fault> {
-    match line.stated {
+/// Holds what was found to what a line states, if it states anything.
+fn compare(stated: Option<Outcome>, made: Made) -> Result<(), Fault> {
+    match stated {
         Some(stated) if stated != made.found => Err(Fault::Differs {
-            line: line.number,
-            call: line.call,
+            line: made.line,
+            call: made.call,
             stated,
             found: made.found,
         }),

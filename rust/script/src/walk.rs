@@ -3,16 +3,18 @@
 //! Every fact comes from real calls: Aim, Output and then Steps of all ports, by slot and port, in
 //! rounds. What is followed is the place of the END's first header token, so that other streams in
 //! the same buffers are not mistaken for it.
+//!
+//! The Steps are made in lists, each of which ends with that of the port where the END is. So the
+//! network is looked at before and behind every Step that can move it, and a round is one call.
 
-use bench::sizes::{CHANNEL_ENDS, PORTS, TILE_PORTS};
+use bench::sizes::{CHANNEL_ENDS, TILE_PORTS};
 use bench::{Bench, Cause, Hop, Kind, Looks, Opening, Refusal, Stepped, Token, Width};
 
 use crate::names::END;
 use crate::question::Question;
+use crate::rounds::{changes, Listed, Rounds};
+pub use crate::rounds::{Place, MOST_STEPS};
 use crate::waits::{wait, Wait};
-
-/// How many Steps are made before the answer is Steps.
-pub const MOST_STEPS: usize = 65_536;
 
 /// What became of an END.
 #[derive(Clone, Debug)]
@@ -30,13 +32,6 @@ pub struct Walk {
 pub struct Switch {
     pub place: Place,
     pub hop: Hop,
-}
-
-/// A port of a board.
-#[derive(Clone, Copy, Debug, PartialEq, Eq)]
-pub struct Place {
-    pub slot: usize,
-    pub port: usize,
 }
 
 /// How a walk ends.
@@ -114,71 +109,50 @@ fn straight(question: Question) -> Ending {
 
 fn follow(bench: Bench, slot: usize, port: usize) -> (Vec<Switch>, Ending) {
     let mut chase = Chase {
-        bench,
         front: Place { slot, port },
         ahead: 0,
         switches: Vec::new(),
-        steps: 0,
-        changes: 0,
+        rounds: Rounds::of(bench),
     };
-    let end = chase.rounds();
+    let end = chase.end();
     (chase.switches, end)
 }
 
 /// An END that is being followed.
 struct Chase {
-    bench: Bench,
     /// Where its first token is, the header's while there is one.
     front: Place,
     /// How many tokens stand before that in the same port.
     ahead: usize,
     switches: Vec<Switch>,
-    steps: usize,
-    /// How many Steps have changed something.
-    changes: usize,
+    rounds: Rounds,
 }
 
 impl Chase {
-    fn rounds(&mut self) -> Ending {
+    /// Follows it to its end.
+    fn end(&mut self) -> Ending {
         loop {
-            let before = self.changes;
-            if let Some(end) = self.round() {
+            let oldest = self.oldest();
+            let end = match self.rounds.up_to(self.front) {
+                Listed::Made(stepped) if changes(stepped) => self.advance(stepped, oldest),
+                Listed::Made(_) => None,
+                Listed::AtRest => Some(self.waiting()),
+                Listed::Out => Some(Ending::Steps),
+            };
+            if let Some(end) = end {
                 return end;
             }
-            if self.changes == before {
-                return self.waiting();
-            }
         }
     }
 
-    /// One Step of every port.
-    fn round(&mut self) -> Option<Ending> {
-        let slots = 0..self.bench.looks().nodes();
-        let mut places = slots.flat_map(|slot| (0..PORTS).map(move |port| Place { slot, port }));
-        places.find_map(|place| match self.steps {
-            MOST_STEPS => Some(Ending::Steps),
-            _ => self.step(place),
-        })
-    }
-
-    /// A Step of a port that holds nothing is Idle: it is counted, and need not be made.
-    fn step(&mut self, place: Place) -> Option<Ending> {
-        self.steps += 1;
-        let Place { slot, port } = place;
-        let oldest = self.bench.looks().port_tokens(slot, port).next()?;
-        let stepped = self.bench.step(slot, port);
-        // Proved: `never-unsound` in bench/proofs/Lasts.antt; the port is there, so nothing else refuses.
-        let stepped = stepped.expect("no Step is refused on a network that calls have made");
-        let changed = !matches!(stepped, Stepped::Idle | Stepped::Waiting);
-        self.changes += usize::from(changed);
-        match place == self.front && changed {
-            true => self.advance(stepped, oldest),
-            false => None,
-        }
+    /// The oldest token of the port where the END is: only a Step of that port takes it.
+    fn oldest(&self) -> Option<u32> {
+        let Place { slot, port } = self.front;
+        self.rounds.bench().looks().port_tokens(slot, port).next()
     }
 
     /// The port where the END is has made a Step that changed something.
-    fn advance(&mut self, stepped: Stepped, oldest: u32) -> Option<Ending> {
+    fn advance(&mut self, stepped: Stepped, oldest: Option<u32>) -> Option<Ending> {
         if self.ahead > 0 {
             self.ahead -= left(stepped, oldest);
             return None;
@@ -195,7 +169,7 @@ impl Chase {
 
     fn hop(&self) -> Option<Hop> {
         let Place { slot, port } = self.front;
-        self.bench.looks().port(slot, port).hop()
+        self.rounds.bench().looks().port(slot, port).hop()
     }
 
     fn opened(&mut self) -> Option<Ending> {
@@ -207,7 +181,7 @@ impl Chase {
     /// A token of the END's own circuit has left: over a cable its header's first, else the END.
     fn moved(&mut self) -> Option<Ending> {
         let slot = self.front.slot;
-        let looks = self.bench.looks();
+        let looks = self.rounds.bench().looks();
         match self.switches.last()?.hop {
             Hop::Link(link) => {
                 let (far, port) = looks.link(slot, link as usize).far()?;
@@ -231,13 +205,13 @@ impl Chase {
         Ending::Waiting {
             place: self.front,
             ahead: self.ahead,
-            on: wait(&self.bench, self.front.slot, self.front.port),
+            on: wait(self.rounds.bench(), self.front.slot, self.front.port),
         }
     }
 }
 
 /// How many tokens left a port with a Step that changed something.
-fn left(stepped: Stepped, oldest: u32) -> usize {
+fn left(stepped: Stepped, oldest: Option<u32>) -> usize {
     match stepped {
         Stepped::Opened(Opening::Channel | Opening::Control) => header_tokens(oldest),
         Stepped::Opened(Opening::Link(_)) | Stepped::Refused(_) => 0,
@@ -246,8 +220,11 @@ fn left(stepped: Stepped, oldest: u32) -> usize {
 }
 
 /// How many tokens the header has that begins with this one.
-fn header_tokens(oldest: u32) -> usize {
-    match Token::from_word(oldest).and_then(|token| token.header) {
+fn header_tokens(oldest: Option<u32>) -> usize {
+    match oldest
+        .and_then(Token::from_word)
+        .and_then(|token| token.header)
+    {
         Some(Width::Three) => 3,
         _ => 1,
     }

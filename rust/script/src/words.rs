@@ -66,6 +66,11 @@ impl<'a> Words<'a> {
         self.number_for(&format!("0 as {place}"), nought)
     }
 
+    /// Whether another word follows.
+    pub fn has_more(&self) -> bool {
+        self.0.clone().next().is_some()
+    }
+
     /// That there are no more words.
     pub fn end(&mut self) -> Result<(), Expected> {
         match self.0.next() {

@@ -10,13 +10,13 @@ use std::io::Write;
 use std::path::{Path, PathBuf};
 use std::process::Command;
 
-use bench::{Destination, Kind, Looks, Setting};
+use bench::{Destination, Kind, Looks, Setting, StepRecord};
 use common::scripts_in;
 use script::{Answer, Call, Host};
 
-/// The five numbers of a call, and the function that it is.
-fn form(call: Call) -> (&'static str, Vec<usize>) {
-    match call {
+/// The five numbers of a call, or those of a list, and the function that it is.
+fn form(call: &Call) -> (&'static str, Vec<usize>) {
+    match *call {
         Call::Fresh {
             nodes,
             memory_words,
@@ -48,6 +48,7 @@ fn form(call: Call) -> (&'static str, Vec<usize>) {
             (name, vec![slot, channel_end])
         }
         Call::Step { slot, port } => ("step", vec![slot, port]),
+        Call::Steps { results, ref list } => list_form(results, list),
     }
 }
 
@@ -86,10 +87,19 @@ fn aim_form(
     }
 }
 
+/// How many results, how many records, and each of them. One result too many is as wrong as more.
+fn list_form(results: usize, list: &[StepRecord]) -> (&'static str, Vec<usize>) {
+    let mut numbers = vec![results.min(list.len() + 1), list.len()];
+    numbers.extend(list.iter().flat_map(|record| [record.slot, record.port]));
+    ("steps", numbers)
+}
+
 /// A call as a line of the C program's.
-fn line(call: Call) -> String {
+fn line(call: &Call) -> String {
     let (name, mut numbers) = form(call);
-    numbers.resize(5, 0);
+    if name != "steps" {
+        numbers.resize(5, 0);
+    }
     let numbers: Vec<String> = numbers.iter().map(usize::to_string).collect();
     format!("{name} {}\n", numbers.join(" "))
 }
@@ -174,26 +184,44 @@ impl Written<'_> {
     }
 
     /// A call's answer and the network behind it, as a script has them.
-    fn outcome(&mut self) -> String {
-        let answer = bench::Answer::from_crossed(self.number()).expect("an answer");
-        let (words, tokens) = (self.number(), self.number());
+    fn outcome(&mut self, call: &Call) -> String {
+        let answer = answer(self.number());
+        let [words, tokens, room] = [(); 3].map(|()| self.number());
         let state: Vec<u32> = (0..words)
             .map(|_| u32::from_le_bytes(self.take()))
             .collect();
         let memory: Vec<u16> = (0..tokens)
             .map(|_| u16::from_le_bytes(self.take()))
             .collect();
+        let results: Vec<u64> = (0..room).map(|_| self.number()).collect();
+        let answer = match (call, answer) {
+            (Call::Steps { .. }, Answer::Done) => {
+                Answer::Results(results.into_iter().map(crate::answer).collect())
+            }
+            (_, refused) => {
+                assert!(results.iter().all(|result| *result == UNWRITTEN), "{call}");
+                refused
+            }
+        };
         let looks = Looks::over(&state, &memory);
         let digest = if words == 0 { 0 } else { looks.digest() };
-        format!("{} # {digest:016x}", Answer::from(answer))
+        format!("{answer} # {digest:016x}")
     }
+}
+
+/// What the C program has in results before a list is made.
+const UNWRITTEN: u64 = 0xDEAD;
+
+fn answer(number: u64) -> Answer {
+    let answer = bench::Answer::from_crossed(number);
+    answer.expect("an answer").into()
 }
 
 /// Makes a script's calls on both, and answers how many there were.
 fn same(command: &mut Command, script: &Path, room: &Path) -> usize {
     let text = fs::read_to_string(script).expect("a script");
     let lines = script::parse(&text).expect("calls");
-    let calls: String = lines.iter().map(|each| line(each.call)).collect();
+    let calls: String = lines.iter().map(|each| line(&each.call)).collect();
     let (asked, said) = (room.join("asked"), room.join("said"));
     fs::write(&asked, calls).expect("a file");
     command.stdin(File::open(asked).expect("a file"));
@@ -202,9 +230,9 @@ fn same(command: &mut Command, script: &Path, room: &Path) -> usize {
     let said = fs::read(said).expect("what it wrote");
     let (mut written, mut host) = (Written(&said), Host::default());
     for each in &lines {
-        let made = host.make(each.number, each.call);
+        let made = host.make(each.number, each.call.clone());
         assert_eq!(
-            written.outcome(),
+            written.outcome(&each.call),
             made.found.to_string(),
             "{script:?}: {made}"
         );

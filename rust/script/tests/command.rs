@@ -56,7 +56,7 @@ fn the_scripts_beside_it_have_every_answer() {
 
 /// The numbers for no that document 01 has for each call.
 #[rustfmt::skip]
-const REFUSALS: [(&str, &[u32]); 13] = [
+const REFUSALS: [(&str, &[u32]); 14] = [
     ("fresh", &[1, 2]),
     ("wire", &[1, 2, 3, 4]),
     ("set number", &[1, 2, 3]),
@@ -70,6 +70,8 @@ const REFUSALS: [(&str, &[u32]); 13] = [
     ("output", &[1, 2, 5, 7, 8, 9, 10]),
     ("input", &[1, 2, 11, 12]),
     ("step", &[1, 2]),
+    // Unsound is each record's own.
+    ("steps", &[2]),
 ];
 
 /// A stated refusal: which call, a Set by its setting, and the number.
@@ -154,11 +156,15 @@ fn a_bad_line_is_named() {
         ),
         (
             "jump 1",
-            "expected fresh, wire, set, aim, output, input or step, found jump",
+            "expected fresh, wire, set, aim, output, input, step or steps, found jump",
         ),
         (
             "wire 0 0 1",
             "expected a link, found nothing (wire SLOT LINK SLOT LINK)",
+        ),
+        (
+            "steps 2 0 8 1",
+            "expected a port, found nothing (steps RESULTS SLOT PORT SLOT PORT ..)",
         ),
         (
             "input 0 0 text",
@@ -214,6 +220,44 @@ fn an_unsound_memory_is_explained() {
     assert_eq!(text(&output.stderr), expected);
 }
 
+/// A list says it for each of its Steps, and is explained as one line; with no Steps, or results of
+/// another length, nothing is said.
+#[test]
+fn an_unsound_memory_is_explained_for_a_list() {
+    let path = file(
+        "unsound-list.txt",
+        "steps 0\nsteps 1 0 8 0 8\nsteps 2 0 8 0 8\n",
+    );
+    let output = bench(&["run", &path]);
+    assert!(output.status.success());
+    let expected = "steps 0 -> results # 0000000000000000\n\
+                    steps 1 0 8 0 8 -> no 2 # 0000000000000000\n\
+                    steps 2 0 8 0 8 -> results no 1; no 1 # 0000000000000000\n";
+    assert_eq!(text(&output.stdout), expected);
+    let clause = "unsound memory, clause 1: both memories have the lengths of 1 to 16 nodes";
+    assert_eq!(text(&output.stderr), format!("{path}: line 3: {clause}\n"));
+}
+
+/// A stated result that differs, or one too few, is a line that differs.
+#[test]
+fn a_list_that_differs_is_named() {
+    let line = "steps 2 0 8 0 13";
+    let path = file("list.txt", &format!("fresh 1 832\n{line}\n"));
+    let printed = text(&bench(&["run", &path]).stdout);
+    assert!(printed.contains(&format!("{line} -> results idle; no 2 # ")));
+    let path = file("list-states.txt", &printed);
+    assert_eq!(bench(&["check", &path]).status.code(), Some(0));
+    for other in ["idle; no 1", "no 2; idle", "idle", "idle; no 2; idle"] {
+        let stated = printed.replace("idle; no 2", other);
+        let path = file("list-differs.txt", &stated);
+        let output = bench(&["check", &path]);
+        assert_eq!(output.status.code(), Some(1), "{other}");
+        let complaint = text(&output.stderr);
+        let gives = format!("{path}: line 2: {line} gives results idle; no 2 # ");
+        assert!(complaint.starts_with(&gives), "{complaint}");
+    }
+}
+
 #[test]
 fn other_words() {
     for words in [&[][..], &["dance"], &["run"], &["run", "a", "b"]] {
@@ -227,4 +271,5 @@ fn other_words() {
     let help = bench(&["--help"]);
     assert!(help.status.success());
     assert!(text(&help.stdout).contains("  wire SLOT LINK SLOT LINK\n"));
+    assert!(text(&help.stdout).contains("  steps RESULTS SLOT PORT SLOT PORT ..\n"));
 }

@@ -1,10 +1,11 @@
 //! Scripts as text: what is read is written the same, and a line that is no call is not read.
 
-use bench::{Destination, Kind, LinkEnd, Refusal, Setting};
+use bench::{Destination, Kind, LinkEnd, Refusal, Setting, StepRecord};
 use script::{parse, Answer, Call, Line, Outcome};
 
 #[track_caller]
 fn reads(text: &str, call: Call) {
+    assert_eq!(call.to_string(), text);
     let stated = None;
     let line = Line {
         number: 1,
@@ -12,7 +13,6 @@ fn reads(text: &str, call: Call) {
         stated,
     };
     assert_eq!(parse(text), Ok(vec![line]));
-    assert_eq!(call.to_string(), text);
 }
 
 #[test]
@@ -47,6 +47,25 @@ fn fresh_wire_and_step_in_words() {
     };
     reads("wire 0 1 2 3", wire);
     reads("step 3 12", Call::Step { slot: 3, port: 12 });
+}
+
+#[test]
+fn lists_of_steps_in_words() {
+    let steps = |results, places: &[(usize, usize)]| {
+        let records = places.iter();
+        let list = records.map(|&(slot, port)| StepRecord { slot, port });
+        let list = list.collect();
+        Call::Steps { results, list }
+    };
+    reads("steps 0", steps(0, &[]));
+    reads("steps 3", steps(3, &[]));
+    reads("steps 1 3 12", steps(1, &[(3, 12)]));
+    reads("steps 0 0 8 16 13", steps(0, &[(0, 8), (16, 13)]));
+    let most = usize::MAX;
+    reads(
+        &format!("steps {most} {most} {most}"),
+        steps(most, &[(most, most)]),
+    );
 }
 
 #[test]
@@ -107,11 +126,14 @@ fn every_answer_in_words() {
         "dropped noroute",
         "malformed",
         "unheard",
+        "results",
+        "results idle",
+        "results moved; no 4; opened link 3",
     ];
     for answer in answers {
         let line = format!("step 0 0 -> {answer} # 00000000000000ff");
         let lines = parse(&line).expect(&line);
-        let stated = lines[0].stated.expect("an outcome");
+        let stated = lines[0].stated.as_ref().expect("an outcome");
         assert_eq!(format!("{} -> {stated}", lines[0].call), line);
     }
 }
@@ -126,7 +148,11 @@ fn lines_that_differ_in_spaces_and_digits_alone() {
         answer,
         digest: 255,
     });
-    assert_eq!(plain.map(|lines| lines[0].stated), Ok(stated));
+    assert_eq!(plain.map(|lines| lines[0].stated.clone()), Ok(stated));
+    let plain = parse("steps 2 0 8 1 0 -> results moved; no 2 # 00000000000000ff");
+    let other = parse("steps\t0x2  0 8 1 0->results  moved ;no 0x2# 00000000000000ff");
+    assert!(plain.is_ok());
+    assert_eq!(plain, other);
 }
 
 #[test]
@@ -139,9 +165,9 @@ fn lines_are_counted_through() {
 
 /// Lines that are no call, and what was expected.
 #[rustfmt::skip]
-const BAD_LINES: [(&str, &str); 30] = [
-    ("jump 0 0", "expected fresh, wire, set, aim, output, input or step, found jump"),
-    ("-> done # 0000000000000000", "expected fresh, wire, set, aim, output, input or step, found nothing"),
+const BAD_LINES: [(&str, &str); 42] = [
+    ("jump 0 0", "expected fresh, wire, set, aim, output, input, step or steps, found jump"),
+    ("-> done # 0000000000000000", "expected fresh, wire, set, aim, output, input, step or steps, found nothing"),
     ("step 0", "expected a port, found nothing (step SLOT PORT)"),
     ("step 0 0 0", "expected no more words, found 0 (step SLOT PORT)"),
     ("step 0 x", "expected a port, found x (step SLOT PORT)"),
@@ -170,6 +196,18 @@ const BAD_LINES: [(&str, &str); 30] = [
     ("step 0 0 -> no 13 # 0000000000000000", "expected a refusal 1..12, found 13"),
     ("step 0 0 -> granted 4 # 0000000000000000", "expected a grant of 0, 8, 16 or 64, found 4"),
     ("step 0 0 -> opened link 8 # 0000000000000000", "expected a link 0..7, found 8"),
+    ("steps", "expected a number of results, found nothing (steps RESULTS SLOT PORT SLOT PORT ..)"),
+    ("steps -1 0 8", "expected a number of results, found -1 (steps RESULTS SLOT PORT SLOT PORT ..)"),
+    ("steps 1 0", "expected a port, found nothing (steps RESULTS SLOT PORT SLOT PORT ..)"),
+    ("steps 2 0 8 1", "expected a port, found nothing (steps RESULTS SLOT PORT SLOT PORT ..)"),
+    ("steps 1 0 x", "expected a port, found x (steps RESULTS SLOT PORT SLOT PORT ..)"),
+    ("steps 1 0; 8", "expected a slot, found 0; (steps RESULTS SLOT PORT SLOT PORT ..)"),
+    ("steps 1 0 8 -> results moved; # 0000000000000000", "expected an answer, found nothing"),
+    ("steps 1 0 8 -> results ; moved # 0000000000000000", "expected an answer, found nothing"),
+    ("steps 1 0 8 -> results moved moved # 0000000000000000", "expected no more words, found moved"),
+    ("steps 1 0 8 -> results results # 0000000000000000", "expected an answer, found results"),
+    ("steps 1 0 8 -> results; moved # 0000000000000000", "expected an answer, found results;"),
+    ("steps 1 0 8 -> moved; moved # 0000000000000000", "expected an answer, found moved;"),
 ];
 
 #[test]

@@ -1,10 +1,16 @@
 // Makes calls of the proved library as a C program does, linked with the archive that `rt staticlib` wrote for x86-64. Reads a call a
-// line, the name of its function and five numbers; writes its answer and then both memories, each with its length in front.
+// line, the name of its function and five numbers, or, of a list of Steps, how many results there are, how many records, and the slot and
+// port of each; writes its answer and then both memories and the results, each with its length in front.
 
 typedef unsigned char u8;
 typedef unsigned short u16;
 typedef unsigned int u32;
 typedef unsigned long u64;
+
+// One Step of a list.
+struct record {
+    u64 slot, port;
+};
 
 u64 tarvelgyo_fresh(u32 *, u64, u16 *, u64, u64 nodes);
 u64 tarvelgyo_wire(u32 *, u64, const u16 *, u64, u64 slot, u64 link, u64 far_slot, u64 far_link);
@@ -22,6 +28,8 @@ u64 tarvelgyo_output_control(u32 *, u64, u16 *, u64, u64 slot, u64 end, u8 value
 u64 tarvelgyo_input_data(u32 *, u64, const u16 *, u64, u64 slot, u64 end);
 u64 tarvelgyo_input_control(u32 *, u64, const u16 *, u64, u64 slot, u64 end);
 u64 tarvelgyo_step(u32 *, u64, u16 *, u64, u64 slot, u64 port);
+// STAND-IN: when the archive has it.
+// u64 tarvelgyo_steps(u32 *, u64, u16 *, u64, const struct record *list, u64 records, u64 *results, u64 room);
 u64 tarvelgyo_state_words(void);
 
 // Of the C library; the toolchain has no headers.
@@ -36,23 +44,52 @@ static u32 *state;
 static u16 *memory;
 static u64 words, tokens;
 
+// The results of the last call, none but of a list, and what they hold before it.
+static u64 *results;
+static u64 room;
+static const u64 unwritten = 0xDEAD;
+
 // A Fresh is made on memories of its own, which take the place of the old ones where it is done.
-static u64 fresh(u64 nodes, u64 room) {
+static u64 fresh(u64 nodes, u64 lent) {
     u64 size = (nodes < 16 ? nodes : 16) * tarvelgyo_state_words();
     u32 *new_state = calloc(size + 1, sizeof(u32));
-    u16 *new_memory = calloc(room + 1, sizeof(u16));
-    u64 answer = tarvelgyo_fresh(new_state, size, new_memory, room, nodes);
+    u16 *new_memory = calloc(lent + 1, sizeof(u16));
+    u64 answer = tarvelgyo_fresh(new_state, size, new_memory, lent, nodes);
     if (answer >> 32 == 1) {
         state = new_state, memory = new_memory;
-        words = size, tokens = room;
+        words = size, tokens = lent;
     }
     return answer;
+}
+
+static u64 number(void) {
+    u64 read;
+    if (scanf("%lu", &read) != 1) abort();
+    return read;
+}
+
+// A list of Steps, with records and results in memory of its own.
+static u64 steps(void) {
+    room = number();
+    u64 many = number();
+    struct record *list = calloc(many + 1, sizeof(struct record));
+    for (u64 i = 0; i < many; i++) list[i].slot = number(), list[i].port = number();
+    results = calloc(room + 1, sizeof(u64));
+    for (u64 i = 0; i < room; i++) results[i] = unwritten;
+    // STAND-IN: until the archive has tarvelgyo_steps, the same by single Steps. Then these three lines go, and the next one holds.
+    if (room != many) return 2;
+    for (u64 i = 0; i < many; i++) results[i] = tarvelgyo_step(state, words, memory, tokens, list[i].slot, list[i].port);
+    return 1UL << 32;
+    // return tarvelgyo_steps(state, words, memory, tokens, list, many, results, room);
 }
 
 #define CALL(name, ...) \
     if (!strcmp(called, #name)) return tarvelgyo_##name(state, words, memory, tokens, __VA_ARGS__)
 
-static u64 answer(const char *called, u64 a, u64 b, u64 c, u64 d, u64 e) {
+static u64 answer(const char *called) {
+    room = 0;
+    if (!strcmp(called, "steps")) return steps();
+    u64 a = number(), b = number(), c = number(), d = number(), e = number();
     if (!strcmp(called, "fresh")) return fresh(a, b);
     CALL(wire, a, b, c, d);
     CALL(set_number, a, b);
@@ -79,12 +116,13 @@ static void put(const void *from, u64 size, u64 many) {
 
 int main(void) {
     char called[32];
-    u64 a, b, c, d, e;
-    while (scanf("%31s %lu %lu %lu %lu %lu", called, &a, &b, &c, &d, &e) == 6) {
-        u64 head[3] = {answer(called, a, b, c, d, e), words, tokens};
-        put(head, sizeof(u64), 3);
+    while (scanf("%31s", called) == 1) {
+        u64 answered = answer(called);
+        u64 head[4] = {answered, words, tokens, room};
+        put(head, sizeof(u64), 4);
         put(state, sizeof(u32), words);
         put(memory, sizeof(u16), tokens);
+        put(results, sizeof(u64), room);
     }
     return 0;
 }
