@@ -1,12 +1,13 @@
 //! What the measures begin from.
 
+use bench::{raw, StepRecord, Stepped};
 use compare::calls::{self, Lent};
 use compare::reading;
 use model::network::{memory_words, LinkEnd};
 use model::random::Random;
 use model::set::Setting;
 use model::sizes::{LINKS, REPLY_PORT, TILE_PORTS};
-use model::tokens::{header, Destination, Kind, Token, ACK, END, NACK, THREE_BYTES};
+use model::tokens::{header, Destination, Kind, Token, ACK, END, NACK, SINK, THREE_BYTES};
 use model::{Answer, Call, Network};
 
 /// Links A..D are in circuits that channel-ends have open.
@@ -56,7 +57,59 @@ pub fn half_full(boards: usize) -> State {
     for slot in 0..boards {
         open_circuits(&mut lent, slot);
     }
-    of_lent(with_replies(lent), boards)
+    of_lent(with_replies(lent, 1), boards)
+}
+
+/// Every port of every board holds 32 tokens, and no list of Steps comes to an end of its work.
+///
+/// The links are as in [`half_full`], and all boards have number 0. In each of ports 0..7 there are
+/// four messages for a number that no board has: they go round over the cables for ever, those in one
+/// port over one link. Of the ports 8..11 the first two have a message for the sink of their own
+/// board, the others one for channel 7, where the replies in port 12 are for too.
+pub fn going_round(boards: usize) -> State {
+    let mut lent = Lent::default();
+    make(&mut lent, fresh(boards));
+    for slot in 0..boards {
+        connect(&mut lent, slot, boards);
+    }
+    for slot in 0..boards {
+        enable(&mut lent, slot);
+    }
+    for slot in 0..boards {
+        greet(&mut lent, slot);
+    }
+    for slot in 0..boards {
+        send_round(&mut lent, slot);
+        send_home(&mut lent, slot);
+    }
+    of_lent(with_replies(lent, 0), boards)
+}
+
+/// Four messages of 8 tokens over each link.
+fn send_round(lent: &mut Lent, slot: usize) {
+    for link in 0..LINKS {
+        for _ in 0..4 {
+            message(lent, slot, 0, (1 << link, 7), 4);
+            step(lent, slot, TILE_PORTS.start, 1 + 3 + 4 + 1);
+        }
+    }
+}
+
+/// A message of 32 tokens in each of ports 8..11, sent while the board has another number, so that it
+/// goes by a port, and for the number that the board has then.
+fn send_home(lent: &mut Lent, slot: usize) {
+    set(lent, slot, Setting::Number { value: 1 << 8 });
+    for (end, channel) in [SINK, SINK, 7, 7].into_iter().enumerate() {
+        message(lent, slot, end, (0, channel), 28);
+    }
+    set(lent, slot, Setting::Number { value: 0 });
+}
+
+/// A channel-end sends so many data tokens and END to a number and channel.
+fn message(lent: &mut Lent, slot: usize, channel_end: usize, to: (u32, usize), data: usize) {
+    aim(lent, slot, channel_end, to.0, to.1);
+    output(lent, slot, channel_end, data);
+    end(lent, slot, channel_end);
 }
 
 fn of_lent(lent: Lent, boards: usize) -> State {
@@ -129,9 +182,7 @@ fn send_streams(lent: &mut Lent, slot: usize) {
         let more = if link == 5 { 3 } else { 0 };
         for stream in 0..4 - usize::from(open) {
             let data = if stream == 0 { 4 + more } else { 4 };
-            aim(lent, slot, 0, 1 << link, 7);
-            output(lent, slot, 0, data);
-            end(lent, slot, 0);
+            message(lent, slot, 0, (1 << link, 7), data);
             step(lent, slot, TILE_PORTS.start, 1 + 3 + data + 1);
         }
     }
@@ -204,31 +255,36 @@ fn end(lent: &mut Lent, slot: usize, channel_end: usize) {
     );
 }
 
+/// So many Steps of a port, each of which changes something.
 fn step(lent: &mut Lent, slot: usize, port: usize, times: usize) {
-    for _ in 0..times {
-        make(lent, Call::Step { slot, port });
+    let list = vec![StepRecord { slot, port }; times];
+    let mut results = vec![0; times];
+    let answer = raw::steps(&mut lent.state, &mut lent.memory, &list, &mut results);
+    assert_eq!(answer, bench::Answer::Done);
+    for answer in results.into_iter().map(bench::Answer::from_crossed) {
+        let changed = matches!(answer, Some(bench::Answer::Step(stepped))
+            if !matches!(stepped, Stepped::Idle | Stepped::Waiting));
+        assert!(changed, "slot {slot}, port {port}: {answer:?}");
     }
 }
 
-/// Three replies to reads and one to a message that was not obeyed, in each port 12. The rings begin
-/// anywhere, as they do after a while.
-fn with_replies(lent: Lent) -> Lent {
+/// Three replies to reads and one to a message that was not obeyed, in each port 12, to channel 7 of a
+/// number. The rings begin anywhere, as they do after a while.
+fn with_replies(lent: Lent, number: u32) -> Lent {
     let mut network = read(&lent);
     for node in &mut network.nodes {
         let port = &mut node.ports[REPLY_PORT];
         for _ in 0..3 {
-            port.tokens.extend(reply(ACK, 4));
+            port.tokens.extend(reply(number, ACK, 4));
         }
-        port.tokens.extend(reply(NACK, 0));
+        port.tokens.extend(reply(number, NACK, 0));
     }
     Lent::of(Some(&network), &mut Random::new(1))
 }
 
-fn reply(first: u8, data: usize) -> Vec<Token> {
-    let to = Destination::Channel {
-        number: 1,
-        channel: 7,
-    };
+fn reply(number: u32, first: u8, data: usize) -> Vec<Token> {
+    let channel = 7;
+    let to = Destination::Channel { number, channel };
     let mut tokens = header(to, THREE_BYTES).unwrap_or_default();
     tokens.push(Token::control(first));
     tokens.resize(tokens.len() + data, Token::data(0xA5));

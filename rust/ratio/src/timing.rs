@@ -33,19 +33,39 @@ pub fn time(measure: &Measure, rounds: usize) -> Times {
         "{}: the sides answer {answers:?}",
         measure.name
     );
-    let mut spent: [Vec<f64>; 3] = Default::default();
-    for _ in 0..rounds {
-        for (side, spent) in sides.iter_mut().zip(&mut spent) {
+    let mut turns = sides.each_mut().map(|side| {
+        || {
             side.restore();
-            spent.push(one_round(side.as_mut(), &measure.work));
+            one_round(side.as_mut(), &measure.work)
         }
-    }
-    let [library, model, baseline] = spent.map(median);
+    });
+    let [library, model, baseline] = by_turns(rounds, turns.each_mut().map(|turn| turn as _));
     Times {
         library,
         model,
         baseline,
     }
+}
+
+/// So many rounds, in each of which every side has its turn: the median of what each side's turns took.
+pub fn by_turns<const N: usize>(
+    rounds: usize,
+    mut sides: [&mut dyn FnMut() -> f64; N],
+) -> [f64; N] {
+    let mut spent = [(); N].map(|()| Vec::new());
+    for _ in 0..rounds {
+        for (turn, spent) in sides.iter_mut().zip(&mut spent) {
+            spent.push(turn());
+        }
+    }
+    spent.map(median)
+}
+
+/// The time that work of so many parts takes, by the part.
+pub fn nanoseconds_of(parts: usize, work: impl FnOnce()) -> f64 {
+    let begun = Instant::now();
+    work();
+    nanoseconds(begun.elapsed(), parts)
 }
 
 /// What a side answers to the work; nothing where it is asked whether the state is sound, and it is.

@@ -1,23 +1,27 @@
 //! The baseline computes what the proved library computes, word for word, so that what is timed is the
-//! same work: on random runs, on runs that fill buffers, on damaged memories, and for each measure.
+//! same work: on random runs, on runs that fill buffers, on damaged memories, for lists of Steps, and
+//! for each measure.
 
-use bench::{raw, Looks};
+use std::collections::BTreeMap;
+
+use bench::{raw, Looks, StepRecord};
 use compare::calls::{make, Lent};
 use compare::damaged::{other_things, other_words};
 use compare::layout::{NODE_TOKENS, NODE_WORDS};
 use compare::{choice, filling};
-use model::answers::Cause;
+use model::answers::{Cause, Opening};
 use model::network::{Hop, LinkEnd};
 use model::random::Random;
 use model::runs::Runner;
 use model::set::Setting;
 use model::sizes::{PORTS, REPLY_PORT};
 use model::tokens::Token;
-use model::{Answer, Call, Network};
-use ratio::baseline;
+use model::{Answer, Call, Network, No};
+use ratio::baseline::{self, Stepped};
+use ratio::lists::{self, lists, List, STEPS};
 use ratio::measures::{measures, Measure};
 use ratio::sides::{Baseline, Library};
-use ratio::states::{half_full, State};
+use ratio::states::{going_round, half_full, State};
 use ratio::timing::answers;
 
 const RUNS: u64 = 40;
@@ -211,18 +215,30 @@ fn damaged_half_full_boards_have_the_same_verdict() {
     }
 }
 
+/// Every port holds 32 tokens, in a state that lists may begin from: sound and tight.
+fn assert_half_full(state: &State) {
+    let network = state.network.as_ref().expect("a network");
+    for node in &network.nodes {
+        let held = node.ports.iter().map(|port| port.tokens.len());
+        assert!(held.eq([32; PORTS]));
+    }
+    assert!(model::sound::is_sound(network));
+    let Lent { state, memory } = &state.lent;
+    assert!(raw::is_sound(state, memory) && raw::is_tight(state, memory));
+}
+
 #[test]
 fn half_full_is_what_it_says() {
     for boards in [1, 2, 16] {
-        let network = half_full(boards).network.expect("a network");
+        assert_half_full(&going_round(boards));
+        let state = half_full(boards);
+        assert_half_full(&state);
+        let network = state.network.expect("a network");
         for node in &network.nodes {
-            let held = node.ports.iter().map(|port| port.tokens.len());
-            assert!(held.eq([32; PORTS]));
             let circuits = node.ports.iter().filter(|port| port.hop.is_some());
             assert_eq!(circuits.count(), 8);
             assert!(node.ports[REPLY_PORT].hop.is_none());
         }
-        assert!(model::sound::is_sound(&network));
     }
 }
 
@@ -248,5 +264,148 @@ fn the_measures_do_what_they_say() {
                 "{name}"
             );
         }
+    }
+}
+
+/// A result of the baseline as the library writes it: which case in the upper half, what it carries in
+/// the lower.
+fn crossed(result: &Result<Stepped, No>) -> u64 {
+    let cause = |cause| u64::from(cause == Cause::NoRoute);
+    let (case, value) = match *result {
+        Err(no) => (0, u64::from(no.number())),
+        Ok(Stepped::Idle) => (4, 0),
+        Ok(Stepped::Waiting) => (5, 0),
+        Ok(Stepped::Moved) => (6, 0),
+        Ok(Stepped::Opened(Opening::Link(link))) => (7, link as u64),
+        Ok(Stepped::Opened(Opening::Channel)) => (8, 0),
+        Ok(Stepped::Opened(Opening::Control)) => (9, 0),
+        Ok(Stepped::Refused(why)) => (10, cause(why)),
+        Ok(Stepped::Dropped(why)) => (11, cause(why)),
+    };
+    case << 32 | value
+}
+
+/// Makes a list from the same state on the library, by its list and by single calls, and on the
+/// baseline: the same results, and the same words behind.
+fn compare_lists(state: &State, list: &[StepRecord], from: &str) -> Vec<u64> {
+    let mut library = lists::Library::at(state, list.len());
+    let mut one_by_one = lists::Library::at(state, list.len());
+    let mut baseline = lists::Baseline::at(state, list.len());
+    library.make(list);
+    one_by_one.make_one_by_one(list);
+    baseline.make(list);
+    let found: Vec<u64> = baseline.results.iter().map(crossed).collect();
+    assert_eq!(found, library.results, "{from}");
+    assert!(
+        library.lent == one_by_one.lent,
+        "{from}: the list leaves other words"
+    );
+    let Lent { state, memory } = library.lent;
+    assert!(
+        baseline.network.write() == (state, memory),
+        "{from}: other words"
+    );
+    found
+}
+
+/// Records at random, most of ports that hold something, some of what is not there. Those that end a
+/// switch message, which the baseline does not obey, are left out.
+fn random_list(mut lent: Lent, random: &mut Random, many: usize) -> Vec<StepRecord> {
+    let mut list = Vec::new();
+    for _ in 0..many {
+        let record = random_record(&lent, random);
+        let call = Call::Step {
+            slot: record.slot,
+            port: record.port,
+        };
+        if !ends_message(&lent, &call) {
+            make(&mut lent, &call);
+            list.push(record);
+        }
+    }
+    list
+}
+
+fn random_record(lent: &Lent, random: &mut Random) -> StepRecord {
+    let looks = Looks::over(&lent.state, &lent.memory);
+    let places = (0..looks.nodes()).flat_map(|slot| (0..PORTS).map(move |port| (slot, port)));
+    let holding: Vec<_> = places
+        .filter(|&(slot, port)| looks.port(slot, port).held > 0)
+        .collect();
+    let anywhere = (random.below(looks.nodes() + 1), random.below(PORTS + 1));
+    let (slot, port) = match random.chance(80) {
+        true => random.pick(&holding).unwrap_or(anywhere),
+        false => anywhere,
+    };
+    StepRecord { slot, port }
+}
+
+#[test]
+fn lists_at_random() {
+    let mut cases = BTreeMap::new();
+    for seed in 0..RUNS {
+        let mut runner = Runner::new(seed);
+        let mut random = Random::new(seed ^ 0x1157);
+        for place in 0..CALLS {
+            runner.call();
+            let lent = Lent::of(runner.network(), &mut random);
+            if place % 10 != 0 || lent.state.is_empty() {
+                continue;
+            }
+            let many = random.below(120);
+            let list = random_list(lent.clone(), &mut random, many);
+            let network = None;
+            let from = format!("seed {seed}, call {place}");
+            count(
+                &mut cases,
+                compare_lists(&State { lent, network }, &list, &from),
+            );
+        }
+    }
+    println!("{cases:?}");
+    let reached: Vec<u64> = cases.into_keys().collect();
+    assert_eq!(reached, [0, 4, 5, 6, 7, 8, 9, 10, 11], "cases of answers");
+}
+
+/// How often each case stands in the results.
+fn count(cases: &mut BTreeMap<u64, usize>, results: Vec<u64>) {
+    for result in results {
+        *cases.entry(result >> 32).or_default() += 1;
+    }
+}
+
+#[test]
+fn results_of_another_length() {
+    let State { lent, .. } = going_round(1);
+    let list = [StepRecord { slot: 0, port: 8 }; 2];
+    for room in [0, 1, 3] {
+        let before = vec![Err(No::Trap); room];
+        let (mut network, mut results) = (baseline_at(&lent), before.clone());
+        let answer = network.steps_untested(&list, &mut results);
+        assert_eq!((answer, results), (Err(No::NoSuch), before));
+        assert!(network == baseline_at(&lent));
+    }
+}
+
+/// The lists that are timed, with the mix of Steps that is claimed.
+#[test]
+fn the_lists_do_what_they_say() {
+    for List {
+        name,
+        begin,
+        records,
+    } in lists()
+    {
+        let mut cases = BTreeMap::new();
+        count(&mut cases, compare_lists(&begin, &records, &name));
+        println!("{name}: {cases:?}");
+        assert_eq!(cases.values().sum::<usize>(), STEPS);
+        let share = |case: u64| cases.get(&case).map_or(0, |many| 100 * many / STEPS);
+        // Idle, where the sink has had all; Waiting; Moved; a circuit opened to a link.
+        assert!(share(4) <= 9, "{name}");
+        assert!((12..=16).contains(&share(5)), "{name}");
+        assert!(share(6) >= 66, "{name}");
+        assert!((7..=9).contains(&share(7)), "{name}");
+        assert!(cases.keys().all(|case| (4..=8).contains(case)), "{name}");
     }
 }

@@ -42,7 +42,7 @@ impl Network {
                 channel_end,
                 kind,
             } => self.input(slot, channel_end, kind),
-            Call::Step { slot, port } => self.step(slot, port),
+            Call::Step { slot, port } => self.step(slot, port).map(Answer::from),
         }
     }
 

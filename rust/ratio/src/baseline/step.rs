@@ -9,6 +9,30 @@ use super::records::{
     closes, Circuit, Hop, Network, Node, NO_ROUTE, OUTWARD, PAUSE, SPLIT, TO_CHANNEL, TO_UNIT,
 };
 
+/// What came of a Step.
+#[derive(Clone, Copy, Debug, PartialEq, Eq)]
+pub enum Stepped {
+    Idle,
+    Waiting,
+    Moved,
+    Opened(Opening),
+    Refused(Cause),
+    Dropped(Cause),
+}
+
+impl From<Stepped> for Answer {
+    fn from(stepped: Stepped) -> Answer {
+        match stepped {
+            Stepped::Idle => Answer::Idle,
+            Stepped::Waiting => Answer::Waiting,
+            Stepped::Moved => Answer::Moved,
+            Stepped::Opened(opening) => Answer::Opened(opening),
+            Stepped::Refused(cause) => Answer::Refused(cause),
+            Stepped::Dropped(cause) => Answer::Dropped(cause),
+        }
+    }
+}
+
 /// What a whole header asks for.
 enum Target {
     Channel(usize),
@@ -16,11 +40,11 @@ enum Target {
 }
 
 impl Network {
-    pub(super) fn step(&mut self, slot: usize, place: usize) -> Result<Answer, No> {
+    pub(super) fn step(&mut self, slot: usize, place: usize) -> Result<Stepped, No> {
         let node = self.node(slot)?;
         let port = node.ports.get(place).ok_or(No::NoSuch)?;
         if port.held == 0 {
-            return Ok(Answer::Idle);
+            return Ok(Stepped::Idle);
         }
         Ok(match port.hop() {
             Hop::Shut => self.read_header(slot, place),
@@ -29,17 +53,17 @@ impl Network {
             Hop::Unit => self.tell_unit(slot, place),
             Hop::Dropped(cause) => {
                 self.take_and_close(slot, place);
-                Answer::Dropped(cause)
+                Stepped::Dropped(cause)
             }
         })
     }
 
-    fn read_header(&mut self, slot: usize, place: usize) -> Answer {
+    fn read_header(&mut self, slot: usize, place: usize) -> Stepped {
         let node = &mut self.nodes[slot];
         let port = &node.ports[place];
         let width = if port.token(0) & 0x400 == 0 { 1 } else { 3 };
         if port.held < width {
-            return Answer::Waiting;
+            return Stepped::Waiting;
         }
         if width != node.width {
             return node.refuse(place, Cause::Split);
@@ -54,16 +78,16 @@ impl Network {
         }
     }
 
-    fn open_channel(&mut self, slot: usize, place: usize, channel: usize) -> Answer {
+    fn open_channel(&mut self, slot: usize, place: usize, channel: usize) -> Stepped {
         let node = &mut self.nodes[slot];
         let free = node.tile_users.iter().position(|user| user.kind == 0);
         let Some(tile) = free else {
-            return Answer::Waiting;
+            return Stepped::Waiting;
         };
         if channel != SINK {
             let claim = &mut node.ends[channel].claim;
             if claim.kind != 0 {
-                return Answer::Waiting;
+                return Stepped::Waiting;
             }
             *claim = Circuit::port(place);
         }
@@ -71,19 +95,19 @@ impl Network {
         node.ports[place].tile = tile as u32;
         node.set_hop(place, TO_CHANNEL, channel);
         self.remove_header(slot, place);
-        Answer::Opened(Opening::Channel)
+        Stepped::Opened(Opening::Channel)
     }
 
-    fn open_unit(&mut self, slot: usize, place: usize) -> Answer {
+    fn open_unit(&mut self, slot: usize, place: usize) -> Stepped {
         let node = &mut self.nodes[slot];
         if node.unit.serves.kind != 0 || node.ports[REPLY_PORT].held != 0 {
-            return Answer::Waiting;
+            return Stepped::Waiting;
         }
         node.unit.serves = Circuit::port(place);
         node.unit.heard = 0;
         node.set_hop(place, TO_UNIT, 0);
         self.remove_header(slot, place);
-        Answer::Opened(Opening::Control)
+        Stepped::Opened(Opening::Control)
     }
 
     fn remove_header(&mut self, slot: usize, place: usize) {
@@ -110,9 +134,9 @@ impl Network {
         token
     }
 
-    fn move_outward(&mut self, slot: usize, place: usize, link: usize) -> Answer {
+    fn move_outward(&mut self, slot: usize, place: usize, link: usize) -> Stepped {
         if self.nodes[slot].links[link].credit == 0 {
-            return Answer::Waiting;
+            return Stepped::Waiting;
         }
         let token = self.take_and_close(slot, place);
         let out = &mut self.nodes[slot].links[link];
@@ -121,32 +145,32 @@ impl Network {
             self.nodes[far_slot].ports[far_link].put(token);
         }
         self.consider_grant((slot, link));
-        Answer::Moved
+        Stepped::Moved
     }
 
-    fn hand_to_channel(&mut self, slot: usize, place: usize, channel: usize) -> Answer {
+    fn hand_to_channel(&mut self, slot: usize, place: usize, channel: usize) -> Stepped {
         let node = &mut self.nodes[slot];
         let token = node.ports[place].token(0);
         if channel != SINK && token != PAUSE {
             let end = &mut node.ends[channel];
             if end.held as usize >= CHANNEL_END_CAPACITY {
-                return Answer::Waiting;
+                return Stepped::Waiting;
             }
             end.keep(token);
         }
         self.take_and_close(slot, place);
-        Answer::Moved
+        Stepped::Moved
     }
 
     /// A message is heard; what its end brings is left out.
-    fn tell_unit(&mut self, slot: usize, place: usize) -> Answer {
+    fn tell_unit(&mut self, slot: usize, place: usize) -> Stepped {
         let token = self.take_and_close(slot, place);
         let unit = &mut self.nodes[slot].unit;
         if (unit.heard as usize) < HEARD {
             unit.tokens[unit.heard as usize] = u32::from(token);
             unit.heard += 1;
         }
-        Answer::Moved
+        Stepped::Moved
     }
 }
 
@@ -156,13 +180,13 @@ impl Node {
         self.ports[place].circuit = Circuit { kind, index };
     }
 
-    fn refuse(&mut self, place: usize, cause: Cause) -> Answer {
+    fn refuse(&mut self, place: usize, cause: Cause) -> Stepped {
         let kind = match cause {
             Cause::Split => SPLIT,
             Cause::NoRoute => NO_ROUTE,
         };
         self.set_hop(place, kind, 0);
-        Answer::Refused(cause)
+        Stepped::Refused(cause)
     }
 
     /// The number and the target of the whole header at a port's front, which has the node's width.
@@ -181,7 +205,7 @@ impl Node {
         (number, Target::Channel(byte(2) as usize))
     }
 
-    fn open_outward(&mut self, place: usize, bit: usize) -> Answer {
+    fn open_outward(&mut self, place: usize, bit: usize) -> Stepped {
         let (direction, network) = (self.direction(bit), self.network_of(place));
         let mut all_in_use = false;
         for link in 0..LINKS {
@@ -192,12 +216,12 @@ impl Node {
             if out.user.kind == 0 {
                 out.user = Circuit::port(place);
                 self.set_hop(place, OUTWARD, link);
-                return Answer::Opened(Opening::Link(link));
+                return Stepped::Opened(Opening::Link(link));
             }
             all_in_use = true;
         }
         if all_in_use {
-            return Answer::Waiting;
+            return Stepped::Waiting;
         }
         self.refuse(place, Cause::NoRoute)
     }

@@ -1,0 +1,150 @@
+//! Lists of Steps: what a Step of a list costs, beside the baseline's Step with no test of the state,
+//! and beside a single call of the library.
+
+use std::hint::black_box;
+
+use bench::{raw, StepRecord};
+use compare::calls::Lent;
+use model::sizes::{LINKS, MOST_NODES, PORTS};
+use model::No;
+
+use crate::baseline::{Network, Stepped};
+use crate::states::{going_round, State};
+use crate::timing::{by_turns, nanoseconds_of};
+
+/// How many Steps a list has.
+pub const STEPS: usize = 10_000;
+
+/// The networks on which lists are timed, by the number of their boards.
+pub const BOARDS: [usize; 3] = [1, 4, MOST_NODES];
+
+/// A list of Steps that every side makes from the same state.
+pub struct List {
+    pub name: String,
+    pub begin: State,
+    pub records: Vec<StepRecord>,
+}
+
+/// The nanoseconds of a Step: of the library's list, of the baseline's with no test of the state, and
+/// of the library's single calls.
+pub struct Times {
+    pub list: f64,
+    pub untested_baseline: f64,
+    pub single_library: f64,
+}
+
+/// What `ratio` prints of lists, in its order.
+pub fn lists() -> Vec<List> {
+    let lists = BOARDS.map(|boards| List {
+        name: format!("list-step/{boards}-half-full"),
+        begin: going_round(boards),
+        records: records(boards),
+    });
+    lists.into()
+}
+
+/// Two rounds of the ports behind links, then one of the others, over and over, each port on every
+/// board in turn. Of 21 Steps 16 are of messages that go round over the cables, one that opens a
+/// circuit to eight that move a token; two hand tokens to the sink of their board until there are none
+/// left, after which they are Idle; one hands to a channel-end, which is soon full, and two have a
+/// header that waits for it.
+fn records(boards: usize) -> Vec<StepRecord> {
+    let ports = (0..LINKS).chain(0..PORTS);
+    let round = ports.flat_map(|port| (0..boards).map(move |slot| StepRecord { slot, port }));
+    let round: Vec<StepRecord> = round.collect();
+    round.iter().copied().cycle().take(STEPS).collect()
+}
+
+/// The library's list, on words of its own.
+pub struct Library<'a> {
+    begin: &'a Lent,
+    pub lent: Lent,
+    pub results: Vec<u64>,
+}
+
+impl<'a> Library<'a> {
+    pub fn at(state: &'a State, many: usize) -> Library<'a> {
+        let begin = &state.lent;
+        Library {
+            begin,
+            lent: begin.clone(),
+            results: vec![0; many],
+        }
+    }
+
+    pub fn restore(&mut self) {
+        self.lent.state.clone_from(&self.begin.state);
+        self.lent.memory.clone_from(&self.begin.memory);
+    }
+
+    pub fn make(&mut self, list: &[StepRecord]) {
+        let Lent { state, memory } = &mut self.lent;
+        let answer = raw::steps(state, memory, list, &mut self.results);
+        assert_eq!(answer, bench::Answer::Done);
+    }
+
+    /// The same by single calls, as a host makes them.
+    pub fn make_one_by_one(&mut self, list: &[StepRecord]) {
+        let Lent { state, memory } = &mut self.lent;
+        for record in list {
+            black_box(raw::step(state, memory, record.slot, record.port));
+        }
+    }
+}
+
+/// The baseline's list.
+pub struct Baseline {
+    begin: Box<Network>,
+    pub network: Box<Network>,
+    pub results: Vec<Result<Stepped, No>>,
+}
+
+impl Baseline {
+    pub fn at(state: &State, many: usize) -> Baseline {
+        let Lent { state, memory } = &state.lent;
+        let begin = Network::read(state, memory).unwrap_or_default();
+        Baseline {
+            network: begin.clone(),
+            begin,
+            results: vec![Ok(Stepped::Idle); many],
+        }
+    }
+
+    pub fn restore(&mut self) {
+        self.network.clone_from(&self.begin);
+    }
+
+    pub fn make(&mut self, list: &[StepRecord]) {
+        let made = self.network.steps_untested(list, &mut self.results);
+        assert_eq!(made, Ok(()));
+    }
+}
+
+/// Times a list: so many rounds beside the baseline, and so many beside single calls, which take far
+/// longer than a list.
+pub fn time(measure: &List, rounds: usize, single_rounds: usize) -> Times {
+    let records = &measure.records;
+    let many = records.len();
+    let mut listed = Library::at(&measure.begin, many);
+    let mut list = || {
+        listed.restore();
+        nanoseconds_of(many, || listed.make(black_box(records)))
+    };
+    let mut untested = Baseline::at(&measure.begin, many);
+    let mut baseline = || {
+        untested.restore();
+        nanoseconds_of(many, || untested.make(black_box(records)))
+    };
+    let mut one_by_one = Library::at(&measure.begin, many);
+    let mut single = || {
+        one_by_one.restore();
+        nanoseconds_of(many, || one_by_one.make_one_by_one(black_box(records)))
+    };
+    let [list_time, untested_baseline] = by_turns(rounds, [&mut list, &mut baseline]);
+    let [_, single_library] = by_turns(single_rounds, [&mut list, &mut single]);
+    Times {
+        list: list_time,
+        untested_baseline,
+        single_library,
+    }
+}
