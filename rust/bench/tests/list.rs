@@ -1,7 +1,7 @@
 //! A list of Steps: the same as its Steps made one by one, on any memories.
 
 use bench::{raw, Answer, Bench, Destination, Kind, LinkEnd, Setting};
-use bench::{Refusal, StepRecord, StepResult, Stepped};
+use bench::{Cause, Opening, Refusal, StepRecord, StepResult, Stepped};
 
 /// Both memories of a network.
 #[derive(Clone, Debug, PartialEq, Eq)]
@@ -171,7 +171,7 @@ fn a_refused_record_stops_nothing() {
     let places = [(0, 8), (2, 8), (0, 8), (0, 13), (usize::MAX, 0), (0, 8)];
     let list = places.map(|(slot, port)| StepRecord { slot, port });
     let answers = bench.steps(&list);
-    let opened = Stepped::Opened(bench::Opening::Link(0));
+    let opened = Stepped::Opened(Opening::Link(0));
     let (moved, refused) = (Ok(Stepped::Moved), Err(Refusal::NoSuch));
     assert_eq!(answers[0], Ok(opened));
     assert_eq!(answers[1..], [refused, moved, refused, refused, moved]);
@@ -198,10 +198,45 @@ fn a_list_is_its_steps_one_by_one() {
     has(Answer::Step(Stepped::Idle));
     has(Answer::Step(Stepped::Waiting));
     has(Answer::Step(Stepped::Moved));
-    has(Answer::Step(Stepped::Opened(bench::Opening::Link(0))));
-    has(Answer::Step(Stepped::Opened(bench::Opening::Channel)));
-    has(Answer::Step(Stepped::Refused(bench::Cause::NoRoute)));
-    has(Answer::Step(Stepped::Dropped(bench::Cause::NoRoute)));
+    has(Answer::Step(Stepped::Opened(Opening::Link(0))));
+    has(Answer::Step(Stepped::Opened(Opening::Channel)));
+    has(Answer::Step(Stepped::Refused(Cause::NoRoute)));
+    has(Answer::Step(Stepped::Dropped(Cause::NoRoute)));
+}
+
+/// The begin of another header at the far end of the cable, behind which nobody who keeps to the calls
+/// would send: the state is sound, and not tight.
+fn untight() -> Lent {
+    let mut lent = cabled();
+    send(&mut lent, 0, 0, 1, 7);
+    let Lent { state, memory } = &mut lent;
+    let answer = raw::step(state, memory, 0, 8);
+    assert_eq!(answer, Answer::Step(Stepped::Opened(Opening::Link(0))));
+    let first = raw::port_token(state, memory, 0, 8, 0).expect("a header");
+    // Port 0 of board 1 holds one token, and link A of board 0 has credit for the others.
+    let board = raw::state_words();
+    let (port, credit) = (board + 4 + 8 * 10, 4 + 7);
+    state[port + 1] = 1;
+    state[credit] = 63;
+    memory[raw::memory_words()] = first as u16;
+    assert!(raw::is_sound(state, memory) && !raw::is_tight(state, memory));
+    lent
+}
+
+/// Each Step is tested for itself: one of them leads out of what is sound, and those behind it are
+/// refused for that, in the middle of the list.
+#[test]
+fn a_list_that_leads_out_of_sound() {
+    let list = [StepRecord { slot: 0, port: 8 }; 7];
+    let (mut lent, mut one_by_one) = (untight(), untight());
+    let mut results = [UNTOUCHED; 7];
+    assert_eq!(steps(&mut lent, &list, &mut results), Answer::Done);
+    let expected = singles(&mut one_by_one, &list);
+    let answers = results.into_iter().filter_map(Answer::from_crossed);
+    assert!(answers.eq(expected.iter().copied()));
+    assert_eq!(lent, one_by_one);
+    assert_eq!(expected[..3], [Answer::Step(Stepped::Moved); 3]);
+    assert_eq!(expected[3..], [Answer::No(Refusal::Unsound); 4]);
 }
 
 /// Two lists are the list of both.
@@ -235,9 +270,9 @@ fn a_message_is_obeyed_where_its_end_stands() {
     let mut list = vec![StepRecord { slot: 0, port: 8 }; 12];
     list.extend([StepRecord { slot: 0, port: 12 }; 3]);
     let answers = bench.steps(&list);
-    assert_eq!(answers[0], Ok(Stepped::Opened(bench::Opening::Control)));
+    assert_eq!(answers[0], Ok(Stepped::Opened(Opening::Control)));
     assert_eq!(answers[1..12], [Ok(Stepped::Moved); 11]);
-    assert_eq!(answers[12], Ok(Stepped::Opened(bench::Opening::Channel)));
+    assert_eq!(answers[12], Ok(Stepped::Opened(Opening::Channel)));
     assert_eq!(bench.looks().node(0).number, 0x0125);
     assert_eq!(bench.input(0, 7, Kind::Control), Ok(3));
 }
