@@ -11,14 +11,13 @@ fn printed(wanted: &str) -> Vec<String> {
     text.lines().map(str::to_owned).collect()
 }
 
-/// `NAME ratio R.RR`, and the nanoseconds that it is of.
-#[test]
-fn a_line_for_each_other_side() {
-    let lines = printed("cable/1-");
+/// A line for each other side: `NAME ratio R.RR`, and the nanoseconds that it is of.
+fn assert_lines(measure: &str, others: [&str; 2]) {
+    let lines = printed(measure);
     assert_eq!(lines.len(), 2);
-    for (line, other) in lines.iter().zip(["baseline", "model"]) {
+    for (line, other) in lines.iter().zip(others) {
         let words: Vec<&str> = line.split_whitespace().collect();
-        let name = format!("step-over-cable/1-half-full/{other}");
+        let name = format!("{measure}/{other}");
         let [found, "ratio", ratio, "library", library, "ns,", side, times, "ns"] = words[..]
         else {
             panic!("{line}");
@@ -28,6 +27,17 @@ fn a_line_for_each_other_side() {
         let quotient = library.expect("a number") / times.expect("a number");
         assert!((quotient - ratio.expect("a number")).abs() < 0.02, "{line}");
     }
+}
+
+#[test]
+fn a_call() {
+    assert_lines("step-over-cable/1-half-full", ["baseline", "model"]);
+}
+
+#[test]
+fn a_step_of_a_list() {
+    let others = ["untested-baseline", "single-library"];
+    assert_lines("list-step/1-half-full", others);
 }
 
 #[test]

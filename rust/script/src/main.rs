@@ -38,7 +38,7 @@ and lines that begin with // are passed over. Numbers are decimal, or hexadecima
 
 ";
 
-const SETTINGS: &str = "
+const ARGUMENTS: &str = "
 SETTING INDEX VALUE is number 0 VALUE, width 0 VALUE, direction BIT VALUE, linkdirection LINK VALUE,
 network LINK VALUE, enable LINK VALUE or hello LINK 0.
 
@@ -116,7 +116,7 @@ fn help() -> String {
     for form in FORMS.iter().flat_map(|(_, forms)| forms.split(", or ")) {
         let _ = writeln!(text, "  {form}");
     }
-    text + SETTINGS + ANSWERS
+    text + ARGUMENTS + ANSWERS
 }
 
 fn help_for(verb: &str) -> Result<&'static str, Complaint> {
