@@ -25,12 +25,10 @@ pub struct List {
     pub records: Vec<StepRecord>,
 }
 
-/// The nanoseconds of a Step: of the library's list, of the baseline's with no test of the state, and
-/// of the library's single calls.
+/// The nanoseconds of a Step of the library's list, and of another side that took turns with it.
 pub struct Times {
     pub list: f64,
-    pub untested_baseline: f64,
-    pub single_library: f64,
+    pub other: f64,
 }
 
 /// What `ratio` prints of lists, in its order.
@@ -120,31 +118,35 @@ impl Baseline {
     }
 }
 
-/// Times a list: so many rounds beside the baseline, and so many beside single calls, which take far
-/// longer than a list.
-pub fn time(measure: &List, rounds: usize, single_rounds: usize) -> Times {
-    let records = &measure.records;
-    let many = records.len();
-    let mut listed = Library::at(&measure.begin, many);
+/// The library's list beside the baseline's.
+pub fn beside_baseline(measure: &List, rounds: usize) -> Times {
+    let List { begin, records, .. } = measure;
+    let mut baseline = Baseline::at(begin, records.len());
+    beside(measure, rounds, &mut || {
+        baseline.restore();
+        nanoseconds_of(records.len(), || baseline.make(black_box(records)))
+    })
+}
+
+/// The library's list beside its single calls.
+pub fn beside_single_calls(measure: &List, rounds: usize) -> Times {
+    let List { begin, records, .. } = measure;
+    let mut library = Library::at(begin, records.len());
+    beside(measure, rounds, &mut || {
+        library.restore();
+        nanoseconds_of(records.len(), || {
+            library.make_one_by_one(black_box(records))
+        })
+    })
+}
+
+fn beside(measure: &List, rounds: usize, other: &mut dyn FnMut() -> f64) -> Times {
+    let List { begin, records, .. } = measure;
+    let mut library = Library::at(begin, records.len());
     let mut list = || {
-        listed.restore();
-        nanoseconds_of(many, || listed.make(black_box(records)))
+        library.restore();
+        nanoseconds_of(records.len(), || library.make(black_box(records)))
     };
-    let mut untested = Baseline::at(&measure.begin, many);
-    let mut baseline = || {
-        untested.restore();
-        nanoseconds_of(many, || untested.make(black_box(records)))
-    };
-    let mut one_by_one = Library::at(&measure.begin, many);
-    let mut single = || {
-        one_by_one.restore();
-        nanoseconds_of(many, || one_by_one.make_one_by_one(black_box(records)))
-    };
-    let [list_time, untested_baseline] = by_turns(rounds, [&mut list, &mut baseline]);
-    let [_, single_library] = by_turns(single_rounds, [&mut list, &mut single]);
-    Times {
-        list: list_time,
-        untested_baseline,
-        single_library,
-    }
+    let [list, other] = by_turns(rounds, [&mut list, other]);
+    Times { list, other }
 }

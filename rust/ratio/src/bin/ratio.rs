@@ -1,9 +1,9 @@
 //! The proved library against plain Rust, in one run: a line for each measure and each other side.
 //! With an argument, the measures alone whose names have it in them.
 
-use ratio::lists::{self, lists};
+use ratio::lists::{beside_baseline, beside_single_calls, lists, Times};
 use ratio::measures::measures;
-use ratio::timing::{time, Times};
+use ratio::timing::{self, time};
 
 /// Enough that the median does not move by what else the machine does.
 const ROUNDS: usize = 201;
@@ -20,7 +20,7 @@ fn main() {
 fn calls(wanted: &str) {
     let measures = measures().into_iter();
     for measure in measures.filter(|measure| measure.name.contains(wanted)) {
-        let Times {
+        let timing::Times {
             library,
             model,
             baseline,
@@ -33,17 +33,14 @@ fn calls(wanted: &str) {
 fn steps_of_lists(wanted: &str) {
     let lists = lists().into_iter();
     for measure in lists.filter(|measure| measure.name.contains(wanted)) {
-        let lists::Times {
-            list,
-            untested_baseline,
-            single_library,
-        } = lists::time(&measure, ROUNDS, SINGLE_ROUNDS);
-        line(&measure.name, list, "untested-baseline", untested_baseline);
-        line(&measure.name, list, "single-library", single_library);
+        let Times { list, other } = beside_baseline(&measure, ROUNDS);
+        line(&measure.name, list, "untested-baseline", other);
+        let Times { list, other } = beside_single_calls(&measure, SINGLE_ROUNDS);
+        line(&measure.name, list, "single-library", other);
     }
 }
 
-/// The library's time divided by the other's.
+/// The library's time, of a list a Step of it, divided by the other's.
 fn line(name: &str, library: f64, other_name: &str, other: f64) {
     let name = format!("{name}/{other_name}");
     let ratio = library / other;
