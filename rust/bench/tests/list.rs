@@ -92,7 +92,7 @@ fn mixed(many: usize) -> Vec<StepRecord> {
             slot: 2 + at,
             port: 8,
         },
-        6 if at % 3 == 0 => StepRecord {
+        6 if at % 3 < 1 => StepRecord {
             slot: at % 2,
             port: usize::MAX - at,
         },

@@ -23,9 +23,12 @@ fn assert_lines(measure: &str, others: [&str; 2]) {
             panic!("{line}");
         };
         assert_eq!((found, side), (name.as_str(), other));
-        let [ratio, library, times] = [ratio, library, times].map(|word| word.parse::<f64>());
-        let quotient = library.expect("a number") / times.expect("a number");
-        assert!((quotient - ratio.expect("a number")).abs() < 0.02, "{line}");
+        let [ratio, library, times] =
+            [ratio, library, times].map(|word| word.parse::<f64>().expect("a number"));
+        let quotient = library / times;
+        // All three are printed to three digits.
+        let nearly = f64::max(0.02, quotient / 100.0);
+        assert!((quotient - ratio).abs() < nearly, "{line}");
     }
 }
 

@@ -96,9 +96,9 @@ fn write_destination(f: &mut fmt::Formatter<'_>, destination: Destination) -> fm
     }
 }
 
-/// `RESULTS SLOT PORT SLOT PORT ..`.
+/// `steps RESULTS SLOT PORT SLOT PORT ..`.
 fn write_list(f: &mut fmt::Formatter<'_>, results: usize, list: &[StepRecord]) -> fmt::Result {
-    write!(f, "{results}")?;
+    write!(f, "steps {results}")?;
     for StepRecord { slot, port } in list {
         write!(f, " {slot} {port}")?;
     }
@@ -112,10 +112,10 @@ impl fmt::Display for Call {
                 nodes,
                 memory_words,
             } => write!(f, "fresh {nodes} {memory_words}"),
-            Call::Wire { one, other } => {
-                let (near, far) = ((one.slot, one.link), (other.slot, other.link));
-                write!(f, "wire {} {} {} {}", near.0, near.1, far.0, far.1)
-            }
+            Call::Wire {
+                one: LinkEnd { slot, link },
+                other,
+            } => write!(f, "wire {slot} {link} {} {}", other.slot, other.link),
             Call::Set { slot, setting } => {
                 write!(f, "set {slot} ")?;
                 write_setting(f, setting)
@@ -143,10 +143,7 @@ impl fmt::Display for Call {
                 kind,
             } => write!(f, "input {slot} {channel_end} {}", kind_word(kind)),
             Call::Step { slot, port } => write!(f, "step {slot} {port}"),
-            Call::Steps { results, ref list } => {
-                f.write_str("steps ")?;
-                write_list(f, results, list)
-            }
+            Call::Steps { results, ref list } => write_list(f, results, list),
         }
     }
 }
