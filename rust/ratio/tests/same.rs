@@ -132,7 +132,7 @@ fn cabled(credit: usize, held: usize) -> Network {
 fn every_grant() {
     let mut made = Made::default();
     let mut random = Random::new(3);
-    let hello = Call::Set {
+    let hello = || Call::Set {
         slot: 0,
         setting: Setting::Hello { link: 0 },
     };
@@ -140,7 +140,7 @@ fn every_grant() {
         for credit in 0..=64 - held {
             let lent = Lent::of(Some(&cabled(credit, held)), &mut random);
             let from = format!("credit {credit}, {held} held");
-            for call in [hello, Call::Step { slot: 0, port: 1 }] {
+            for call in [hello(), Call::Step { slot: 0, port: 1 }] {
                 compare(&lent, &call, &from, &mut made);
             }
         }
