@@ -80,7 +80,7 @@ pub enum Opening {
 }
 
 /// What came of a call.
-#[derive(Clone, Copy, Debug, PartialEq, Eq, Hash)]
+#[derive(Clone, Debug, PartialEq, Eq, Hash)]
 pub enum Answer {
     /// Refused: nothing is changed.
     No(No),
@@ -99,4 +99,6 @@ pub enum Answer {
     Dropped(Cause),
     Malformed,
     Unheard,
+    /// A list of steps: the whole answer of each record's Step, in their order.
+    Results(Vec<Answer>),
 }

@@ -9,9 +9,16 @@ use crate::sound;
 use crate::step;
 use crate::tokens::{is_channel, Destination, Kind, Token};
 
+/// A record of a list of steps: "each a slot and a port".
+#[derive(Clone, Copy, Debug, PartialEq, Eq)]
+pub struct StepRecord {
+    pub slot: usize,
+    pub port: usize,
+}
+
 /// A call with its arguments, which may be out of range: that is what refusals
 /// are for.
-#[derive(Clone, Copy, Debug, PartialEq, Eq)]
+#[derive(Clone, Debug, PartialEq, Eq)]
 pub enum Call {
     Fresh {
         nodes: usize,
@@ -46,6 +53,18 @@ pub enum Call {
         slot: usize,
         port: usize,
     },
+    Steps {
+        /// The length of the results buffer that the host lends.
+        results: usize,
+        records: Vec<StepRecord>,
+    },
+}
+
+impl From<StepRecord> for Call {
+    /// The single Step that a record stands for.
+    fn from(StepRecord { slot, port }: StepRecord) -> Call {
+        Call::Step { slot, port }
+    }
 }
 
 /// Makes a call. A refused call changes nothing.
@@ -53,7 +72,8 @@ pub fn apply(network: &mut Option<Network>, call: &Call) -> Answer {
     make(network, call).unwrap_or_else(Answer::No)
 }
 
-/// Every call but Fresh looks first at whether the state is sound.
+/// Every call but Fresh and a list of steps looks first at whether the state is
+/// sound.
 fn make(state: &mut Option<Network>, call: &Call) -> Result<Answer, No> {
     match *call {
         Call::Fresh {
@@ -89,6 +109,10 @@ fn make(state: &mut Option<Network>, call: &Call) -> Result<Answer, No> {
             kind,
         } => input(sound_network(state)?, slot, channel_end, kind),
         Call::Step { slot, port } => step::step(sound_network(state)?, slot, port),
+        Call::Steps {
+            results,
+            ref records,
+        } => steps(state, results, records),
     }
 }
 
@@ -170,4 +194,21 @@ fn input(network: &mut Network, slot: usize, channel_end: usize, kind: Kind) -> 
         .tokens
         .pop_front();
     Ok(Answer::Token(token.value))
+}
+
+/// "does them in order and writes one result per record, as the same steps made one
+/// by one; a refused record stops nothing. The list may be empty. Refusals: first, a
+/// results buffer of another length than the list is NoSuch, and nothing is done;
+/// Unsound is each record's own." So the call asks nothing of the state, and an empty
+/// list is done on any.
+fn steps(
+    state: &mut Option<Network>,
+    results: usize,
+    records: &[StepRecord],
+) -> Result<Answer, No> {
+    if results != records.len() {
+        return Err(No::NoSuch);
+    }
+    let each = records.iter().map(|record| apply(state, &(*record).into()));
+    Ok(Answer::Results(each.collect()))
 }

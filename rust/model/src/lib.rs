@@ -34,5 +34,5 @@ pub mod topology;
 pub mod words;
 
 pub use answers::{Answer, No};
-pub use calls::{apply, Call};
+pub use calls::{apply, Call, StepRecord};
 pub use network::Network;

@@ -3,7 +3,7 @@
 use std::fmt;
 
 use crate::answers::{Answer, Cause, Opening};
-use crate::calls::Call;
+use crate::calls::{Call, StepRecord};
 use crate::network::LinkEnd;
 use crate::script::{Fault, Outcome};
 use crate::set::Setting;
@@ -47,6 +47,12 @@ impl fmt::Display for LinkEnd {
     }
 }
 
+impl fmt::Display for StepRecord {
+    fn fmt(&self, f: &mut fmt::Formatter) -> fmt::Result {
+        write!(f, "{} {}", self.slot, self.port)
+    }
+}
+
 impl fmt::Display for Call {
     fn fmt(&self, f: &mut fmt::Formatter) -> fmt::Result {
         match self {
@@ -74,6 +80,10 @@ impl fmt::Display for Call {
                 kind,
             } => write!(f, "input {slot} {channel_end} {kind}"),
             Call::Step { slot, port } => write!(f, "step {slot} {port}"),
+            Call::Steps { results, records } => {
+                write!(f, "steps {results}")?;
+                records.iter().try_for_each(|record| write!(f, " {record}"))
+            }
         }
     }
 }
@@ -104,8 +114,19 @@ impl fmt::Display for Answer {
             Answer::Dropped(cause) => write!(f, "dropped {cause}"),
             Answer::Malformed => f.write_str("malformed"),
             Answer::Unheard => f.write_str("unheard"),
+            Answer::Results(answers) => write_results(answers, f),
         }
     }
+}
+
+/// "`results` and each record's answer, as `step` gives it, parted by `; `"
+fn write_results(answers: &[Answer], f: &mut fmt::Formatter) -> fmt::Result {
+    f.write_str("results")?;
+    for (place, answer) in answers.iter().enumerate() {
+        let parting = if place == 0 { " " } else { "; " };
+        write!(f, "{parting}{answer}")?;
+    }
+    Ok(())
 }
 
 impl fmt::Display for Outcome {

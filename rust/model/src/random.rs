@@ -42,9 +42,9 @@ impl Random {
     }
 
     /// One of the items, if there are any.
-    pub fn pick<T: Copy>(&mut self, items: &[T]) -> Option<T> {
+    pub fn pick<T: Clone>(&mut self, items: &[T]) -> Option<T> {
         let place = self.below(items.len());
-        items.get(place).copied()
+        items.get(place).cloned()
     }
 
     /// Puts the items in another order.

@@ -2,6 +2,7 @@
 //! wait, are refused, dropped and closed, messages that are answered or not.
 
 mod changes;
+mod lists;
 mod oddities;
 
 use std::collections::VecDeque;
@@ -28,6 +29,12 @@ pub fn calls(seed: u64, count: usize) -> Vec<Call> {
     run(seed, count).into_iter().map(|(call, _)| call).collect()
 }
 
+/// The calls of a run in which lists of steps are made among single ones.
+pub fn calls_with_lists(seed: u64, count: usize) -> Vec<Call> {
+    let mut runner = Runner::with_lists(seed);
+    (0..count).map(|_| runner.call().0).collect()
+}
+
 /// How many channel-ends of a node take part; few, so that they meet.
 const TALKERS: usize = 6;
 /// How many speeches are under way at once.
@@ -45,6 +52,8 @@ pub struct Runner {
     speaking: Option<usize>,
     /// Ports that answered Waiting since anything changed.
     stalled: Vec<(usize, usize)>,
+    /// Does it make lists of steps too?
+    lists: bool,
 }
 
 impl Runner {
@@ -59,6 +68,7 @@ impl Runner {
             speeches: Vec::new(),
             speaking: None,
             stalled: Vec::new(),
+            lists: false,
         };
         runner.prepare();
         runner
@@ -74,17 +84,17 @@ impl Runner {
         self.speaking = None;
         let call = self.next_call();
         let found = outcome(&mut self.network, &call);
-        self.heed(call, found.answer);
+        self.heed(&call, &found.answer);
         (call, found)
     }
 
     /// Sets up the planned network, now and then with a setting left out.
     fn prepare(&mut self) {
         let left_out = self.random.pick(&[0, 0, 5]).unwrap_or(0);
-        self.prepared.extend(self.plan.cabling.iter().copied());
+        self.prepared.extend(self.plan.cabling.iter().cloned());
         for call in &self.plan.settings {
             if !self.random.chance(left_out) {
-                self.prepared.push_back(*call);
+                self.prepared.push_back(call.clone());
             }
         }
     }
@@ -92,11 +102,11 @@ impl Runner {
     /// Remembers what waits. A speech goes on where its token was taken, goes behind
     /// the others where there was no room, and is given up where it was refused for
     /// good.
-    fn heed(&mut self, call: Call, answer: Answer) {
+    fn heed(&mut self, call: &Call, answer: &Answer) {
         match (call, answer) {
-            (Call::Step { slot, port }, Answer::Waiting) => self.stalled.push((slot, port)),
+            (Call::Step { slot, port }, Answer::Waiting) => self.stalled.push((*slot, *port)),
             (Call::Output { .. } | Call::Aim { .. }, _) | (_, Answer::No(_) | Answer::Idle) => {}
-            (Call::Step { slot, .. }, _) => self.stalled.retain(|place| place.0 != slot),
+            (Call::Step { slot, .. }, _) => self.stalled.retain(|place| place.0 != *slot),
             _ => self.stalled.clear(),
         }
         let Some(place) = self.speaking else { return };
@@ -113,6 +123,7 @@ impl Runner {
             return call;
         }
         match self.random.below(400) {
+            0..=69 if self.lists => self.list(),
             0..=209 => self.step_busy_port(),
             210..=301 => self.speak(),
             302..=321 => self.begin_speech(),

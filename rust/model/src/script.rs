@@ -7,14 +7,14 @@ use crate::network::Network;
 use crate::words::{parse_call, parse_outcome};
 
 /// What came of a call: its answer, and the digest of the state behind it.
-#[derive(Clone, Copy, Debug, PartialEq, Eq)]
+#[derive(Clone, Debug, PartialEq, Eq)]
 pub struct Outcome {
     pub answer: Answer,
     pub digest: u64,
 }
 
 /// A line of a script: a call, with what the line states of it.
-#[derive(Clone, Copy, Debug, PartialEq, Eq)]
+#[derive(Clone, Debug, PartialEq, Eq)]
 pub struct Line {
     pub number: usize,
     pub call: Call,

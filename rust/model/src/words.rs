@@ -4,14 +4,14 @@
 use std::str::SplitWhitespace;
 
 use crate::answers::{Answer, Cause, No, Opening};
-use crate::calls::Call;
+use crate::calls::{Call, StepRecord};
 use crate::network::LinkEnd;
 use crate::script::Outcome;
 use crate::set::Setting;
 use crate::sizes::LINKS;
 use crate::tokens::{Destination, Kind};
 
-const CALLS: &str = "fresh, wire, set, aim, output, input or step";
+const CALLS: &str = "fresh, wire, set, aim, output, input, step or steps";
 
 /// Reads a call.
 pub fn parse_call(text: &str) -> Result<Call, String> {
@@ -32,9 +32,10 @@ pub fn parse_call(text: &str) -> Result<Call, String> {
         "aim" => words.aim()?,
         "output" => words.output()?,
         "input" => words.input()?,
-        "step" => Call::Step {
-            slot: words.slot()?,
-            port: words.number("a port")?,
+        "step" => words.step()?.into(),
+        "steps" => Call::Steps {
+            results: words.number("a number of results")?,
+            records: words.steps()?,
         },
         other => return Err(expected(CALLS, Some(other))),
     };
@@ -64,6 +65,29 @@ fn parse_digest(text: &str) -> Result<u64, String> {
 
 /// Reads an answer.
 pub fn parse_answer(text: &str) -> Result<Answer, String> {
+    let text = text.trim();
+    match text.strip_prefix("results") {
+        Some("") => Ok(Answer::Results(Vec::new())),
+        Some(each) if each.starts_with(char::is_whitespace) => {
+            let each = each.split(';').map(parse_result);
+            Ok(Answer::Results(each.collect::<Result<_, _>>()?))
+        }
+        _ => parse_single(text),
+    }
+}
+
+/// Reads the answer of one record, "as `step` gives it".
+fn parse_result(text: &str) -> Result<Answer, String> {
+    match parse_single(text)? {
+        Answer::Done | Answer::Granted(_) | Answer::Token(_) => {
+            Err(expected("an answer of a step", Some(text.trim())))
+        }
+        answer => Ok(answer),
+    }
+}
+
+/// Reads the answer of any call but a list of steps.
+fn parse_single(text: &str) -> Result<Answer, String> {
     let mut words = Words(text.split_whitespace());
     let answer = match words.word("an answer")? {
         "no" => Answer::No(words.one_of("a refusal 1..12", No::from_number)?),
@@ -151,6 +175,22 @@ impl<'a> Words<'a> {
 
     fn slot(&mut self) -> Result<usize, String> {
         self.number("a slot")
+    }
+
+    fn step(&mut self) -> Result<StepRecord, String> {
+        Ok(StepRecord {
+            slot: self.slot()?,
+            port: self.number("a port")?,
+        })
+    }
+
+    /// "any number of records, also none"
+    fn steps(&mut self) -> Result<Vec<StepRecord>, String> {
+        let mut records = Vec::new();
+        while self.0.clone().next().is_some() {
+            records.push(self.step()?);
+        }
+        Ok(records)
     }
 
     fn channel_end(&mut self) -> Result<usize, String> {

@@ -2,7 +2,7 @@
 //! itself, and a line that cannot be read is named.
 
 use model::answers::{Answer, Cause, No, Opening};
-use model::calls::Call;
+use model::calls::{Call, StepRecord};
 use model::network::LinkEnd;
 use model::runs;
 use model::script::{check, parse, parse_line, run, Fault, Outcome};
@@ -12,7 +12,7 @@ use model::words::{parse_answer, parse_call};
 
 #[track_caller]
 fn reads(text: &str, call: Call) {
-    assert_eq!(parse_call(text), Ok(call));
+    assert_eq!(parse_call(text).as_ref(), Ok(&call));
     assert_eq!(call.to_string(), text);
 }
 
@@ -120,7 +120,7 @@ fn answers_in_words() {
         ("unheard", Answer::Unheard),
     ];
     for (text, answer) in answers {
-        assert_eq!(parse_answer(text), Ok(answer));
+        assert_eq!(parse_answer(text).as_ref(), Ok(&answer));
         assert_eq!(answer.to_string(), text);
     }
     for no in No::ALL {
@@ -128,6 +128,50 @@ fn answers_in_words() {
         assert_eq!(parse_answer(&text), Ok(Answer::No(no)));
         assert_eq!(Answer::No(no).to_string(), text);
     }
+}
+
+#[test]
+fn lists_in_words() {
+    let list = |results, places: &[(usize, usize)]| Call::Steps {
+        results,
+        records: places
+            .iter()
+            .map(|&(slot, port)| StepRecord { slot, port })
+            .collect(),
+    };
+    reads("steps 0", list(0, &[]));
+    reads("steps 5", list(5, &[]));
+    reads("steps 1 3 12", list(1, &[(3, 12)]));
+    reads("steps 0 3 12 0 8", list(0, &[(3, 12), (0, 8)]));
+    reads("steps 18446744073709551615", list(usize::MAX, &[]));
+}
+
+/// "`results moved; no 4; opened link 3`. No records: `results`"
+#[test]
+fn results_in_words() {
+    let answers = [
+        ("results", vec![]),
+        ("results idle", vec![Answer::Idle]),
+        (
+            "results moved; no 4; opened link 3",
+            vec![
+                Answer::Moved,
+                Answer::No(No::Busy),
+                Answer::Opened(Opening::Link(3)),
+            ],
+        ),
+        (
+            "results dropped split; malformed",
+            vec![Answer::Dropped(Cause::Split), Answer::Malformed],
+        ),
+    ];
+    for (text, results) in answers {
+        let answer = Answer::Results(results);
+        assert_eq!(parse_answer(text).as_ref(), Ok(&answer));
+        assert_eq!(answer.to_string(), text);
+    }
+    let spaced = parse_answer("  results\tmoved ;no  0x4;  opened link 3 ");
+    assert_eq!(spaced, parse_answer("results moved; no 4; opened link 3"));
 }
 
 #[test]
@@ -156,7 +200,7 @@ fn a_line_with_its_outcome() {
     };
     assert_eq!(
         parse_line(line),
-        Ok((Call::Step { slot: 0, port: 0 }, Some(stated)))
+        Ok((Call::Step { slot: 0, port: 0 }, Some(stated.clone())))
     );
     assert_eq!(format!("step 0 0 -> {stated}"), line);
 }
@@ -165,7 +209,9 @@ fn a_line_with_its_outcome() {
 #[test]
 fn printed_runs_are_read_back() {
     for seed in 0..40 {
-        for (call, found) in runs::run(seed, 400) {
+        let mut listing = runs::Runner::with_lists(seed);
+        let listed = (0..400).map(|_| listing.call());
+        for (call, found) in runs::run(seed, 400).into_iter().chain(listed) {
             let line = format!("{call} -> {found}");
             assert_eq!(parse_line(&line), Ok((call, Some(found))));
         }
@@ -225,8 +271,15 @@ fn no_network_yet() {
 
 /// Lines that are no call, and what was expected.
 #[rustfmt::skip]
-const UNREADABLE_CALLS: [(&str, &str); 22] = [
-    ("jump 0 0", "expected fresh, wire, set, aim, output, input or step, found jump"),
+const UNREADABLE_CALLS: [(&str, &str); 29] = [
+    ("jump 0 0", "expected fresh, wire, set, aim, output, input, step or steps, found jump"),
+    ("steps", "expected a number of results, found nothing"),
+    ("steps -1", "expected a number of results, found -1"),
+    ("steps 18446744073709551616", "expected a number of results, found 18446744073709551616"),
+    ("steps 1 0", "expected a port, found nothing"),
+    ("steps 2 0 8 1", "expected a port, found nothing"),
+    ("steps 2 0 8; 1 8", "expected a port, found 8;"),
+    ("steps 1 0 8 # 0", "expected a slot, found #"),
     ("step 0", "expected a port, found nothing"),
     ("step 0 0 0", "expected no more words, found 0"),
     ("step 0 x", "expected a port, found x"),
@@ -252,7 +305,17 @@ const UNREADABLE_CALLS: [(&str, &str); 22] = [
 
 /// Lines whose outcome cannot be read.
 #[rustfmt::skip]
-const UNREADABLE_OUTCOMES: [(&str, &str); 10] = [
+const UNREADABLE_OUTCOMES: [(&str, &str); 20] = [
+    ("steps 1 0 0 -> results", "expected ANSWER # DIGEST behind ->"),
+    ("steps 1 0 0 -> result idle # 0000000000000000", "expected an answer, found result"),
+    ("steps 1 0 0 -> resultsidle # 0000000000000000", "expected an answer, found resultsidle"),
+    ("steps 1 0 0 -> results; idle # 0000000000000000", "expected an answer, found results;"),
+    ("steps 1 0 0 -> results idle; # 0000000000000000", "expected an answer, found nothing"),
+    ("steps 1 0 0 -> results idle idle # 0000000000000000", "expected no more words, found idle"),
+    ("steps 1 0 0 -> results done # 0000000000000000", "expected an answer of a step, found done"),
+    ("steps 1 0 0 -> results token 1 # 0000000000000000", "expected an answer of a step, found token 1"),
+    ("steps 1 0 0 -> results results # 0000000000000000", "expected an answer, found results"),
+    ("steps 1 0 0 -> results no 13 # 0000000000000000", "expected a refusal 1..12, found 13"),
     ("step 0 0 ->", "expected ANSWER # DIGEST behind ->"),
     ("step 0 0 -> idle", "expected ANSWER # DIGEST behind ->"),
     ("step 0 0 -> idle #", "expected a digest of 16 hexadecimal digits, found "),

@@ -218,7 +218,7 @@ impl Shadow {
                 let held = self.held.entry((slot, channel_end)).or_default();
                 assert_eq!(held.pop_front().map(|token| token.value), Some(value));
             }
-            (Some(before), Call::Step { slot, port }, _) => {
+            (Some(before), Call::Step { slot, port }, answer) => {
                 match before.nodes[slot].ports[port].hop {
                     None => self.read(before, slot, port, answer),
                     Some(_) if answer == Answer::Waiting => {}

@@ -66,8 +66,8 @@ impl Runner {
             .plan
             .settings
             .iter()
-            .copied()
             .filter(|call| !network.is_some_and(|network| is_in_force(network, call)))
+            .cloned()
             .collect();
         let any = self.random.pick(&self.plan.settings);
         match self.random.pick(&undone).or(any) {
