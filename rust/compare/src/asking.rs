@@ -13,12 +13,20 @@ use model::speech;
 use model::tokens::{Destination, Kind, Token, END, SINK};
 use model::{Answer, No};
 
-use crate::choice::busy_ports;
+use crate::choice::{busy_ports, list_of};
 use boards::{NODES, OWN, OWN_BIT, OWN_START};
 
 /// A run of that many calls on two boards. The same seed gives the same run.
 pub fn calls(seed: u64, count: usize) -> Vec<Call> {
-    let mut asking = Asking::new(seed);
+    run(Asking::new(seed, false), count)
+}
+
+/// The same, with lists of Steps among single ones: messages are carried, heard and ended in them.
+pub fn calls_with_lists(seed: u64, count: usize) -> Vec<Call> {
+    run(Asking::new(seed, true), count)
+}
+
+fn run(mut asking: Asking, count: usize) -> Vec<Call> {
     while asking.calls.len() < count {
         asking.scene();
     }
@@ -33,6 +41,8 @@ const KEEPER: usize = 7;
 const KEPT: usize = 9;
 /// After so many Steps in a row what still moves goes in a circle.
 const PATIENCE: usize = 200;
+/// How many records a list has by which messages are carried on.
+const LIST: usize = 24;
 
 const HELLO: u32 = 1 << 24;
 const ENABLE: u32 = 1 << 31;
@@ -51,15 +61,18 @@ struct Asking {
     settings: Vec<Call>,
     network: Option<Network>,
     calls: Vec<Call>,
+    /// Are lists of Steps made, too?
+    lists: bool,
 }
 
 impl Asking {
-    fn new(seed: u64) -> Asking {
+    fn new(seed: u64, lists: bool) -> Asking {
         let mut asking = Asking {
             random: Random::new(seed),
             settings: Vec::new(),
             network: None,
             calls: Vec::new(),
+            lists,
         };
         asking.start_anew();
         asking
@@ -92,8 +105,9 @@ impl Asking {
     }
 
     fn make(&mut self, call: Call) -> Answer {
+        let answer = model::apply(&mut self.network, &call);
         self.calls.push(call);
-        model::apply(&mut self.network, &call)
+        answer
     }
 
     fn set(&mut self, slot: usize, setting: Setting) {
@@ -273,7 +287,7 @@ impl Asking {
             kind: token.kind,
             value: token.value,
         };
-        if self.make(call) == Answer::No(No::Full) {
+        if self.make(call.clone()) == Answer::No(No::Full) {
             self.take_replies();
             self.settle();
             self.make(call);
@@ -295,12 +309,9 @@ impl Asking {
     /// Steps the ports 8..11 of a channel-end's board until they wait.
     fn send_on(&mut self, from: End) {
         for port in TILE_PORTS {
-            let call = Call::Step {
-                slot: from.slot,
-                port,
-            };
+            let place = (from.slot, port);
             let mut left = PATIENCE;
-            while left > 0 && !matches!(self.make(call), Answer::Waiting | Answer::Idle) {
+            while left > 0 && !matches!(self.step(place), Answer::Waiting | Answer::Idle) {
                 left -= 1;
             }
         }
@@ -308,6 +319,9 @@ impl Asking {
 
     /// Steps ports that hold a token until all of them wait.
     fn settle(&mut self) {
+        while self.lists && self.random.chance(60) {
+            self.make_list(LIST);
+        }
         let mut waiting = Vec::new();
         for _ in 0..PATIENCE {
             let mut busy = self.busy_ports();
@@ -322,7 +336,16 @@ impl Asking {
         }
     }
 
+    fn make_list(&mut self, most: usize) {
+        let count = self.random.below(most + 1);
+        let call = list_of(&mut self.random, self.network.as_ref(), count);
+        self.make(call);
+    }
+
     fn step_any(&mut self) {
+        if self.lists && self.random.chance(30) {
+            return self.make_list(4);
+        }
         let busy = self.busy_ports();
         if let Some(place) = self.random.pick(&busy) {
             self.step(place);

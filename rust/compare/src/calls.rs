@@ -11,6 +11,7 @@ use model::{Answer, No};
 
 use crate::difference;
 use crate::layout;
+use crate::lists;
 use crate::reading::read;
 
 /// The words that a host lends.
@@ -31,7 +32,7 @@ impl Lent {
 /// How the model makes a call: [`model::apply`], or another where it is to be wrong on purpose.
 pub type Apply = fn(&mut Option<Network>, &Call) -> Answer;
 
-/// Makes a call on lent words.
+/// Makes a call on lent words. A list must have written one answer a record, or nothing.
 pub fn make(lent: &mut Lent, call: &Call) -> Answer {
     let answer = match *call {
         Call::Fresh {
@@ -61,6 +62,13 @@ pub fn make(lent: &mut Lent, call: &Call) -> Answer {
             kind,
         } => input(lent, slot, channel_end, kind),
         Call::Step { slot, port } => raw::step(&mut lent.state, &mut lent.memory, slot, port),
+        Call::Steps {
+            results,
+            ref records,
+        } => {
+            let made = lists::make(lists::library, lent, results, records);
+            return made.unwrap_or_else(|how| panic!("{call}: {how}"));
+        }
     };
     of_bench(answer)
 }
@@ -135,7 +143,7 @@ fn set(lent: &mut Lent, slot: usize, setting: Setting) -> bench::Answer {
     }
 }
 
-fn of_bench(answer: bench::Answer) -> Answer {
+pub(crate) fn of_bench(answer: bench::Answer) -> Answer {
     match answer {
         bench::Answer::No(refusal) => match No::from_number(refusal.number()) {
             Some(no) => Answer::No(no),
@@ -170,17 +178,47 @@ fn of_cause(cause: bench::Cause) -> Cause {
     }
 }
 
-/// "A Waiting or Idle step changes nothing either": neither does what is refused.
-fn changes_nothing(answer: Answer) -> bool {
-    matches!(answer, Answer::No(_) | Answer::Idle | Answer::Waiting)
+/// "A Waiting or Idle step changes nothing either": neither does what is refused, nor a list of such.
+fn changes_nothing(answer: &Answer) -> bool {
+    match answer {
+        Answer::No(_) | Answer::Idle | Answer::Waiting => true,
+        Answer::Results(each) => each.iter().all(changes_nothing),
+        _ => false,
+    }
 }
 
 /// Complains where an answer that changes nothing has changed a word of state or token memory.
-pub fn hold_unchanged(answer: Answer, before: &Lent, after: &Lent) -> Result<(), String> {
+pub fn hold_unchanged(answer: &Answer, before: &Lent, after: &Lent) -> Result<(), String> {
     match changes_nothing(answer) && before != after {
         true => Err(format!("{answer}, and a word has changed")),
         false => Ok(()),
     }
+}
+
+/// Makes a call on lent words; of a list it holds, besides, that it is its Steps one by one.
+fn make_held(lent: &mut Lent, call: &Call) -> Result<Answer, String> {
+    match call {
+        Call::Steps { results, records } => {
+            lists::held_to_single_steps(lists::library, lent, *results, records)
+        }
+        _ => Ok(make(lent, call)),
+    }
+}
+
+/// How two answers to a call differ, of two lists the first record that does.
+fn differing(call: &Call, found: &Answer, expected: &Answer) -> Option<String> {
+    if let (Call::Steps { records, .. }, Answer::Results(found), Answer::Results(expected)) =
+        (call, found, expected)
+    {
+        let mut pairs = found.iter().zip(expected).zip(records).enumerate();
+        let first = pairs.find(|(_, ((found, expected), _))| found != expected);
+        if let Some((place, ((found, expected), record))) = first {
+            return Some(format!(
+                "record {place}, {record}: the library {found}, the model {expected}"
+            ));
+        }
+    }
+    (found != expected).then(|| format!("the library {found}, the model {expected}"))
 }
 
 /// Makes a call on both sides, whose states are the same before it, and gives the answer of both.
@@ -194,12 +232,12 @@ pub fn compare(
     call: &Call,
 ) -> Result<Answer, String> {
     let (before, state_before) = (lent.clone(), network.clone());
-    let found = make(lent, call);
+    let found = make_held(lent, call).map_err(|how| format!("{call}: {how}"))?;
     let expected = apply(network, call);
-    if found != expected {
-        return Err(format!("{call}: the library {found}, the model {expected}"));
+    if let Some(how) = differing(call, &found, &expected) {
+        return Err(format!("{call}: {how}"));
     }
-    hold_unchanged(found, &before, lent).map_err(|how| format!("{call}: {how}"))?;
+    hold_unchanged(&found, &before, lent).map_err(|how| format!("{call}: {how}"))?;
     let Some(network) = network else {
         return Ok(found);
     };

@@ -12,15 +12,25 @@ use model::speech::{self, Speech};
 use model::tokens::{Destination, Token, ONE_BYTE, SINK, THREE_BYTES};
 use model::{Answer, No};
 
-use crate::choice::busy_ports;
+use crate::choice::{any_list, busy_ports};
 
 /// A run of that many calls on one to four boards. The same seed gives the same run.
 pub fn calls(seed: u64, count: usize) -> Vec<Call> {
+    run(seed, count, false)
+}
+
+/// The same, with lists of Steps among single ones.
+pub fn calls_with_lists(seed: u64, count: usize) -> Vec<Call> {
+    run(seed, count, true)
+}
+
+fn run(seed: u64, count: usize, lists: bool) -> Vec<Call> {
     let mut changing = Changing {
         random: Random::new(seed),
         network: None,
         speeches: Vec::new(),
         calls: Vec::new(),
+        lists,
     };
     while changing.calls.len() < count {
         changing.next();
@@ -44,12 +54,15 @@ struct Changing {
     network: Option<Network>,
     speeches: Vec<Speech>,
     calls: Vec<Call>,
+    /// Are lists of Steps made, too?
+    lists: bool,
 }
 
 impl Changing {
     fn make(&mut self, call: Call) -> Answer {
+        let answer = model::apply(&mut self.network, &call);
         self.calls.push(call);
-        model::apply(&mut self.network, &call)
+        answer
     }
 
     fn nodes(&self) -> usize {
@@ -68,6 +81,7 @@ impl Changing {
         }
         match self.random.below(400) {
             0 => self.start_anew(),
+            1..=79 if self.lists => self.list(),
             1..=219 => self.step(),
             220..=319 => self.speak(),
             320..=359 => self.take(),
@@ -162,6 +176,11 @@ impl Changing {
             },
         };
         self.make(Call::Set { slot, setting });
+    }
+
+    fn list(&mut self) {
+        let call = any_list(&mut self.random, self.network.as_ref());
+        self.make(call);
     }
 
     fn step(&mut self) {

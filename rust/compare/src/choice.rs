@@ -4,7 +4,7 @@ mod ends;
 
 pub use ends::any_token;
 
-use model::calls::Call;
+use model::calls::{Call, StepRecord};
 use model::network::{LinkEnd, Network};
 use model::random::Random;
 use model::set::Setting;
@@ -44,13 +44,40 @@ pub fn any(random: &mut Random, network: Option<&Network>) -> Call {
             other: any_end(random, nodes),
         },
         3..=14 => any_set(random, network, nodes),
-        15..=20 => any_step(random, network, nodes),
+        15..=20 => any_record(random, network).into(),
+        21 => any_list(random, network),
         _ => ends::any(random, network),
     }
 }
 
+/// No list that is made up among other calls has as many records.
+const LIST: usize = 40;
+
+/// A list of Steps, mostly short, sometimes of none.
+pub fn any_list(random: &mut Random, network: Option<&Network>) -> Call {
+    let count = match random.below(8) {
+        0 => 0,
+        1 => 1,
+        2..=6 => 2 + random.below(6),
+        _ => random.below(LIST),
+    };
+    list_of(random, network, count)
+}
+
+/// A list of so many Steps, now and then with results of another length.
+pub fn list_of(random: &mut Random, network: Option<&Network>, count: usize) -> Call {
+    let records = (0..count).map(|_| any_record(random, network)).collect();
+    let others = [0, count + 1, count.wrapping_sub(1), usize::MAX];
+    let results = match random.chance(10) {
+        true => random.pick(&others).unwrap_or(count),
+        false => count,
+    };
+    Call::Steps { results, records }
+}
+
 /// Often of a port that holds a token, such as the end of a message.
-fn any_step(random: &mut Random, network: Option<&Network>, nodes: usize) -> Call {
+fn any_record(random: &mut Random, network: Option<&Network>) -> StepRecord {
+    let nodes = network.map_or(3, |network| network.nodes.len());
     let busy = network.map(busy_ports).unwrap_or_default();
     let any = (
         below_or_beyond(random, nodes),
@@ -60,7 +87,7 @@ fn any_step(random: &mut Random, network: Option<&Network>, nodes: usize) -> Cal
         Some(place) if random.chance(70) => place,
         _ => any,
     };
-    Call::Step { slot, port }
+    StepRecord { slot, port }
 }
 
 /// The ports that hold a token, by slot and place.

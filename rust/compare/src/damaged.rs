@@ -59,7 +59,7 @@ fn sum(words: &[u32]) -> u64 {
 /// Makes a call on a damaged memory. Where its words are a state of the model, sound or not, the
 /// model must answer the same. Where they are none the proved bench refuses the call as Unsound, and
 /// leaves every word as it is.
-fn call_on(read: Option<&Network>, lent: Lent, call: &Call) -> Result<Reached, String> {
+pub fn call_on(read: Option<&Network>, lent: Lent, call: &Call) -> Result<Reached, String> {
     let no_state = read.is_none();
     if no_state && !matches!(call, Call::Fresh { .. }) {
         return refuses(lent, call).map(|()| Reached::default());
@@ -69,12 +69,20 @@ fn call_on(read: Option<&Network>, lent: Lent, call: &Call) -> Result<Reached, S
     Ok(pair.reached())
 }
 
-/// Holds that a call on an unsound memory is refused as that, and changes no word.
+/// Holds that a call on an unsound memory is refused as that, and changes no word. Of a list that is
+/// said of each record, behind the length of its results.
 fn refuses(mut lent: Lent, call: &Call) -> Result<(), String> {
+    let unsound = Answer::No(No::Unsound);
+    let expected = match call {
+        Call::Steps { results, records } if *results != records.len() => Answer::No(No::NoSuch),
+        Call::Steps { records, .. } => Answer::Results(vec![unsound; records.len()]),
+        _ => unsound,
+    };
     let before = lent.clone();
-    match make(&mut lent, call) {
-        unsound @ Answer::No(No::Unsound) => hold_unchanged(unsound, &before, &lent),
-        found => Err(format!("{call} on an unsound memory: {found:?}")),
+    let found = make(&mut lent, call);
+    match found == expected {
+        true => hold_unchanged(&found, &before, &lent),
+        false => Err(format!("{call} on an unsound memory: {found:?}")),
     }
 }
 

@@ -58,7 +58,7 @@ impl Pair {
         let ending = message_ended_by(self.network.as_ref(), call);
         let answer = compare(self.apply, &mut self.network, &mut self.lent, call)?;
         let after = self.network.as_ref();
-        self.reached.call(ending, call, answer, after);
+        self.reached.call(ending, call, &answer, after);
         Ok(())
     }
 }

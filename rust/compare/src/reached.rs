@@ -17,7 +17,7 @@ use ends::Message;
 
 /// What can be reached, by call: its answers, and each number for no that document 01 has for it.
 #[rustfmt::skip]
-const CASES: [(&str, &[&str]); 15] = [
+const CASES: [(&str, &[&str]); 17] = [
     ("fresh", &["done", "no 1", "no 2"]),
     ("wire", &["done", "no 1", "no 2", "no 3", "no 4"]),
     ("set number", &["done", "no 1", "no 2", "no 3"]),
@@ -30,16 +30,22 @@ const CASES: [(&str, &[&str]); 15] = [
     ("aim", &["done", "no 1", "no 2", "no 3", "no 6"]),
     ("output", &["done", "no 1", "no 2", "no 5", "no 7", "no 8", "no 9", "no 10"]),
     ("input", &["token", "no 1", "no 2", "no 11", "no 12"]),
-    ("step", &[
-        "idle", "waiting", "moved", "opened link", "opened channel", "opened control",
-        "refused split", "refused noroute", "dropped split", "dropped noroute", "malformed",
-        "unheard", "no 1", "no 2",
-    ]),
+    ("step", STEP),
+    ("steps", &["results", "results of none", "no 2"]),
+    ("record of steps", STEP),
     ("message answered", ends::ANSWERED),
     ("message not answered", ends::NOT_ANSWERED),
 ];
 
-/// A call, and what it answered; or a message, and its end.
+/// What a Step can answer, alone or as a record of a list.
+#[rustfmt::skip]
+const STEP: &[&str] = &[
+    "idle", "waiting", "moved", "opened link", "opened channel", "opened control",
+    "refused split", "refused noroute", "dropped split", "dropped noroute", "malformed",
+    "unheard", "no 1", "no 2",
+];
+
+/// A call, and what it answered; a record of a list, and what it did; or a message, and its end.
 type Case = (&'static str, &'static str);
 
 /// How often each case was reached.
@@ -74,10 +80,15 @@ impl Reached {
         &mut self,
         ending: Option<Message>,
         call: &Call,
-        answer: Answer,
+        answer: &Answer,
         after: Option<&Network>,
     ) {
         self.count((call_name(call), answer_name(answer)));
+        if let Answer::Results(each) = answer {
+            for answer in each {
+                self.count(("record of steps", answer_name(answer)));
+            }
+        }
         let ended = ending.zip(after);
         if let Some(case) = ended.and_then(|(message, after)| message.case(answer, after)) {
             self.count(case);
@@ -130,6 +141,7 @@ fn call_name(call: &Call) -> &'static str {
         Call::Output { .. } => "output",
         Call::Input { .. } => "input",
         Call::Step { .. } => "step",
+        Call::Steps { .. } => "steps",
     }
 }
 
@@ -145,12 +157,12 @@ fn setting_name(setting: &Setting) -> &'static str {
     }
 }
 
-/// The answer as scripts have it, without a token's value or a link's place.
-fn answer_name(answer: Answer) -> &'static str {
+/// The answer as scripts have it, without a token's value, a link's place or a record's result.
+fn answer_name(answer: &Answer) -> &'static str {
     match answer {
-        Answer::No(no) => no_name(no),
+        Answer::No(no) => no_name(*no),
         Answer::Done => "done",
-        Answer::Granted(credit) => grant_name(credit),
+        Answer::Granted(credit) => grant_name(*credit),
         Answer::Token(_) => "token",
         Answer::Idle => "idle",
         Answer::Waiting => "waiting",
@@ -164,6 +176,8 @@ fn answer_name(answer: Answer) -> &'static str {
         Answer::Dropped(Cause::NoRoute) => "dropped noroute",
         Answer::Malformed => "malformed",
         Answer::Unheard => "unheard",
+        Answer::Results(each) if each.is_empty() => "results of none",
+        Answer::Results(_) => "results",
     }
 }
 

@@ -13,8 +13,8 @@ use crate::pair::{differing, script, Differing};
 /// Runs calls from nothing, and gives the run up to the first call in which something is wrong.
 pub type Fails<'a> = &'a dyn Fn(&[Call]) -> Option<Differing>;
 
-/// The run with no call that can be left out, no number that may as well be 0 and no node too many,
-/// and with nothing behind the call in which the sides differ.
+/// The run with no call and no record of a list that can be left out, no number that may as well be 0
+/// and no node too many, and with nothing behind the call in which the sides differ.
 pub fn reduce(apply: Apply, found: Differing) -> Differing {
     reduce_by(&|calls| differing(apply, calls), found)
 }
@@ -48,13 +48,13 @@ fn leave_out(fails: Fails, calls: &[Call], part: usize) -> Option<Differing> {
     let starts = (0..=calls.len() - part).rev().step_by(part);
     let mut shorter = starts.map(|start| {
         let kept = calls[..start].iter().chain(&calls[start + part..]);
-        kept.copied().collect::<Vec<_>>()
+        kept.cloned().collect::<Vec<_>>()
     });
     shorter.find_map(|kept| fails(&kept))
 }
 
-/// The run with fewer nodes, or with some number 0 in all calls or in one, if something is still
-/// wrong.
+/// The run with fewer nodes, with a list of fewer records, or with some number 0 in all calls or in
+/// one, if something is still wrong.
 fn plainer(fails: Fails, calls: &[Call]) -> Option<Differing> {
     let everywhere = numbers(calls).into_iter().map(|number| {
         let plainer = calls.iter().map(|call| with_nought(call, &number));
@@ -63,6 +63,7 @@ fn plainer(fails: Fails, calls: &[Call]) -> Option<Differing> {
     let in_one = (0..calls.len()).flat_map(|place| {
         let mut numbers = numbers(&calls[place..=place]).into_iter();
         let mut plainer = fewer_nodes(&calls[place]);
+        plainer.extend(fewer_records(&calls[place]));
         plainer.extend(numbers.by_ref().map(|n| with_nought(&calls[place], &n)));
         plainer.into_iter().map(move |call| {
             let mut tried = calls.to_vec();
@@ -88,8 +89,8 @@ fn with_nought(call: &Call, number: &str) -> Call {
     let nought = |word| if word == number { "0" } else { word };
     let words: Vec<&str> = text.split(' ').map(nought).collect();
     match call {
-        Call::Fresh { .. } => *call,
-        _ => parse_call(&words.join(" ")).unwrap_or(*call),
+        Call::Fresh { .. } => call.clone(),
+        _ => parse_call(&words.join(" ")).unwrap_or(call.clone()),
     }
 }
 
@@ -99,6 +100,27 @@ fn fewer_nodes(call: &Call) -> Vec<Call> {
         Call::Fresh { nodes, .. } => (1..nodes.min(MOST_NODES + 1)).filter_map(fresh).collect(),
         _ => Vec::new(),
     }
+}
+
+/// A list without a part of its records, large parts first. Results of the right length stay so.
+fn fewer_records(call: &Call) -> Vec<Call> {
+    let Call::Steps { results, records } = call else {
+        return Vec::new();
+    };
+    let halves = std::iter::successors(Some(records.len()), |part| Some(part / 2));
+    let parts = halves.take_while(|part| *part > 0);
+    let without = parts.flat_map(|part| {
+        let starts = (0..=records.len() - part).step_by(part);
+        starts.map(move |start| [&records[..start], &records[start + part..]].concat())
+    });
+    let shorter = without.map(|kept| Call::Steps {
+        results: match *results == records.len() {
+            true => kept.len(),
+            false => *results,
+        },
+        records: kept,
+    });
+    shorter.collect()
 }
 
 fn fresh(nodes: usize) -> Option<Call> {

@@ -103,7 +103,7 @@ fn aside(apply: Apply, pair: &Pair, made: &[Call], random: &mut Random) -> Resul
     let mut more = Vec::new();
     for _ in 0..ASIDE {
         let call = any(random, pair.network());
-        more.push(call);
+        more.push(call.clone());
         pair.call(&call)
             .map_err(|how| found(apply, [made, &more].concat(), how))?;
     }
@@ -144,13 +144,30 @@ pub fn ask(apply: Apply, seed: u64, count: usize) -> Result<Figures, Found> {
 
 /// Runs of every kind on the library alone, with a watcher beside it.
 pub fn watched(seed: u64, count: usize) -> Result<Figures, Found> {
-    let makers = [
+    let makers: [Maker; 5] = [
         runs::calls,
         choice::calls,
         filling::calls,
         asking::calls,
         changing::calls,
     ];
+    watched_over(&makers, seed, count)
+}
+
+/// The same of runs in which lists of Steps are made.
+pub fn watched_lists(seed: u64, count: usize) -> Result<Figures, Found> {
+    let makers: [Maker; 3] = [
+        runs::calls_with_lists,
+        asking::calls_with_lists,
+        changing::calls_with_lists,
+    ];
+    watched_over(&makers, seed, count)
+}
+
+/// Makes up a run of so many calls from a seed.
+type Maker = fn(u64, usize) -> Vec<Call>;
+
+fn watched_over(makers: &[Maker], seed: u64, count: usize) -> Result<Figures, Found> {
     let mut figures = Figures::default();
     for calls in makers {
         let watched = watch::library(&calls(seed, count)).map_err(Found::Watched)?;

@@ -22,7 +22,7 @@ use bench::{Destination, Hop, Looks, Node};
 use model::calls::Call;
 use model::network::Network;
 use model::random::Random;
-use model::Answer;
+use model::{Answer, StepRecord};
 
 use crate::books::{self, Books, Note, Port, Touched};
 use crate::calls::{make, Lent};
@@ -33,18 +33,31 @@ pub const EVERY: usize = 64;
 
 /// What can be watched.
 pub trait Watched {
-    fn looks(&self) -> Looks<'_>;
+    /// The words that the looks are over.
+    fn words(&self) -> &Lent;
     fn call(&mut self, call: &Call) -> Answer;
+    /// What a call answers and which words it leaves, made on a copy.
+    fn aside(&mut self, call: &Call) -> (Answer, Lent);
+
+    fn looks(&self) -> Looks<'_> {
+        let Lent { state, memory } = self.words();
+        Looks::over(state, memory)
+    }
 }
 
 /// The proved library.
 impl Watched for Lent {
-    fn looks(&self) -> Looks<'_> {
-        Looks::over(&self.state, &self.memory)
+    fn words(&self) -> &Lent {
+        self
     }
 
     fn call(&mut self, call: &Call) -> Answer {
         make(self, call)
+    }
+
+    fn aside(&mut self, call: &Call) -> (Answer, Lent) {
+        let mut copy = self.clone();
+        (make(&mut copy, call), copy)
     }
 }
 
@@ -67,15 +80,26 @@ impl<A: FnMut(&mut Option<Network>, &Call) -> Answer> Modelled<A> {
 }
 
 impl<A: FnMut(&mut Option<Network>, &Call) -> Answer> Watched for Modelled<A> {
-    fn looks(&self) -> Looks<'_> {
-        self.shown.looks()
+    fn words(&self) -> &Lent {
+        &self.shown
     }
 
     fn call(&mut self, call: &Call) -> Answer {
         let answer = (self.apply)(&mut self.network, call);
-        self.shown = Lent::of(self.network.as_ref(), &mut Random::new(0));
+        self.shown = shown(self.network.as_ref());
         answer
     }
+
+    fn aside(&mut self, call: &Call) -> (Answer, Lent) {
+        let mut copy = self.network.clone();
+        let answer = (self.apply)(&mut copy, call);
+        (answer, shown(copy.as_ref()))
+    }
+}
+
+/// The words for a model's state, always the same.
+fn shown(network: Option<&Network>) -> Lent {
+    Lent::of(network, &mut Random::new(0))
 }
 
 /// What the watcher remembers of the state before a call.
@@ -194,6 +218,9 @@ impl fmt::Display for Broken {
 pub struct Watcher {
     note: Note,
     held: Vec<Sentence>,
+    /// How many calls of the run were begun.
+    begun: usize,
+    /// How many calls were seen, a list as its Steps.
     calls: usize,
     pub books: Books,
     pub figures: Figures,
@@ -211,23 +238,63 @@ impl Watcher {
         Watcher {
             note,
             held: held.to_vec(),
+            begun: 0,
             calls: 0,
             books: Books::default(),
             figures: Figures::default(),
         }
     }
 
-    /// Has a call made, writes it down, and says the first sentence that it breaks.
+    /// Has a call made, writes it down, and says the first sentence that it breaks. A list is seen
+    /// as its Steps; one with results of another length is none.
     pub fn watch(&mut self, bench: &mut impl Watched, call: &Call) -> Result<Answer, Broken> {
         if matches!(call, Call::Fresh { .. }) {
             self.hold_all(bench.looks(), call)?;
         }
+        self.begun += 1;
+        match call {
+            Call::Steps { results, records } if *results == records.len() => {
+                self.watch_list(bench, call, records)
+            }
+            _ => self.watch_one(bench, call),
+        }
+    }
+
+    /// Which call of the run is the last begun, from 0.
+    fn place(&self) -> usize {
+        self.begun.saturating_sub(1)
+    }
+
+    /// The list is made on a copy, its Steps one by one on what is watched, and both must agree.
+    fn watch_list(
+        &mut self,
+        bench: &mut impl Watched,
+        call: &Call,
+        records: &[StepRecord],
+    ) -> Result<Answer, Broken> {
+        let (answer, left) = bench.aside(call);
+        let each = records.iter().map(|record| (*record).into());
+        let each: Result<_, _> = each.map(|step| self.watch_one(bench, &step)).collect();
+        let single = Answer::Results(each?);
+        if answer != single || left != *bench.words() {
+            return Err(Broken {
+                sentence: Sentence::Answers,
+                what: format!("its Steps one by one are {single}, or leave other words"),
+                place: self.place(),
+                call: format!("{call} -> {answer}"),
+            });
+        }
+        self.figures.add(Met::Lists);
+        Ok(answer)
+    }
+
+    fn watch_one(&mut self, bench: &mut impl Watched, call: &Call) -> Result<Answer, Broken> {
         let before = Glimpse::before(bench.looks(), call);
         let answer = bench.call(call);
         let seen = Seen {
-            place: self.calls,
-            call: *call,
-            answer,
+            place: self.place(),
+            call: call.clone(),
+            answer: answer.clone(),
             before,
             after: bench.looks(),
         };
@@ -257,7 +324,7 @@ impl Watcher {
             held.map_err(|what| Broken {
                 sentence: *sentence,
                 what,
-                place: self.calls.saturating_sub(1),
+                place: self.place(),
                 call: call.to_string(),
             })?;
         }
@@ -282,7 +349,7 @@ pub fn watched(bench: &mut impl Watched, calls: &[Call]) -> Result<Figures, Diff
     match watcher.run(bench, calls) {
         Ok(()) => Ok(watcher.figures),
         Err(broken) => Err(Differing {
-            calls: calls.iter().take(broken.place + 1).copied().collect(),
+            calls: calls.iter().take(broken.place + 1).cloned().collect(),
             how: broken.to_string(),
         }),
     }

@@ -49,7 +49,7 @@ struct Ending<'a> {
 impl<'a> Ending<'a> {
     /// What this call ends, if it ends a message.
     fn of(before: Option<&'a Network>, call: &Call) -> Option<Ending<'a>> {
-        let (Call::Step { slot, port }, Some(before)) = (*call, before) else {
+        let (Call::Step { slot, port }, Some(before)) = (call.clone(), before) else {
             return None;
         };
         let here = before.port(slot, port).ok()?;

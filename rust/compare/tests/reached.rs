@@ -75,10 +75,10 @@ fn a_word_changed_by_what_changes_nothing_is_named() {
     let mut other_memory = before.clone();
     other_memory.memory[1] = 0;
     for answer in [Answer::Idle, Answer::Waiting, Answer::No(No::Trap)] {
-        assert_eq!(hold_unchanged(answer, &before, &before), Ok(()));
+        assert_eq!(hold_unchanged(&answer, &before, &before), Ok(()));
         for after in [&other_state, &other_memory] {
             let complaint = format!("{answer}, and a word has changed");
-            assert_eq!(hold_unchanged(answer, &before, after), Err(complaint));
+            assert_eq!(hold_unchanged(&answer, &before, after), Err(complaint));
         }
     }
     for answer in [
@@ -86,6 +86,6 @@ fn a_word_changed_by_what_changes_nothing_is_named() {
         Answer::Opened(Opening::Channel),
         Answer::Dropped(Cause::Split),
     ] {
-        assert_eq!(hold_unchanged(answer, &before, &other_memory), Ok(()));
+        assert_eq!(hold_unchanged(&answer, &before, &other_memory), Ok(()));
     }
 }

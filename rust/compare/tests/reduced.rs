@@ -13,7 +13,7 @@ use model::{Answer, Call, No};
 /// "Handing PAUSE to a program", which document 01 lists among the errors that look reasonable.
 fn hands_pause_on(state: &mut Option<Network>, call: &Call) -> Answer {
     let answer = model::apply(state, call);
-    let (Call::Output { slot, kind, .. }, Answer::Done) = (*call, answer) else {
+    let (Call::Output { slot, kind, .. }, Answer::Done) = (call.clone(), &answer) else {
         return answer;
     };
     let pauses = matches!(call, Call::Output { value: PAUSE, .. }) && kind == Kind::Control;
@@ -48,7 +48,7 @@ fn loses_what_traps(state: &mut Option<Network>, call: &Call) -> Answer {
         },
         Answer::No(No::Trap),
         Some(network),
-    ) = (*call, answer, state)
+    ) = (call.clone(), &answer, state)
     {
         network.nodes[slot].channel_ends[channel_end]
             .tokens
@@ -76,7 +76,7 @@ fn grants_by_credit_alone(state: &mut Option<Network>, call: &Call) -> Answer {
 /// A channel that a port's circuit claims is taken for free: the answer alone is wrong.
 fn overlooks_claims_by_ports(state: &mut Option<Network>, call: &Call) -> Answer {
     let answer = model::apply(state, call);
-    let (Call::Output { slot, .. }, Answer::No(No::Full), Some(network)) = (*call, answer, state)
+    let (Call::Output { slot, .. }, Answer::No(No::Full), Some(network)) = (call.clone(), &answer, state)
     else {
         return answer;
     };

@@ -70,7 +70,7 @@ fn behind_output(
         },
         Answer::Done,
         Some(network),
-    ) = (*call, answer, state)
+    ) = (call.clone(), &answer, state)
     {
         let token = Token::plain(kind, value);
         wrong(&mut network.nodes[slot], channel_end, token);
@@ -84,7 +84,7 @@ fn is_inner(token: &Token) -> bool {
 }
 
 /// The port at the far end of the cable over which a Step moved a token.
-fn far_port<'a>(network: &'a mut Network, before: &Before, answer: Answer) -> Option<&'a mut Port> {
+fn far_port<'a>(network: &'a mut Network, before: &Before, answer: &Answer) -> Option<&'a mut Port> {
     let (Some(Hop::Outward(link)), Answer::Moved) = (before.hop, answer) else {
         return None;
     };
@@ -93,7 +93,7 @@ fn far_port<'a>(network: &'a mut Network, before: &Before, answer: Answer) -> Op
 }
 
 /// The channel, other than the sink, to which a Step had a circuit opened.
-fn landed(network: &Network, before: &Before, answer: Answer) -> Option<usize> {
+fn landed(network: &Network, before: &Before, answer: &Answer) -> Option<usize> {
     let hop = network.nodes[before.slot].ports[before.port].hop;
     match (answer, hop) {
         (Answer::Opened(Opening::Channel), Some(Hop::Channel(channel))) if channel != SINK => {
@@ -122,7 +122,7 @@ fn puts_the_newest_first(state: &mut Option<Network>, call: &Call) -> Answer {
 
 fn swaps_on_the_way(state: &mut Option<Network>, call: &Call) -> Answer {
     behind_step(state, call, |network, before, answer| {
-        if let Some(port) = far_port(network, &before, *answer) {
+        if let Some(port) = far_port(network, &before, answer) {
             let last = port.tokens.len().saturating_sub(2);
             let inner = port.tokens.range(last..).all(is_inner);
             if inner && port.tokens.len() >= 2 {
@@ -134,7 +134,7 @@ fn swaps_on_the_way(state: &mut Option<Network>, call: &Call) -> Answer {
 
 fn loses_a_token(state: &mut Option<Network>, call: &Call) -> Answer {
     behind_step(state, call, |network, before, answer| {
-        if let Some(port) = far_port(network, &before, *answer) {
+        if let Some(port) = far_port(network, &before, answer) {
             if port.tokens.back().is_some_and(is_inner) {
                 port.tokens.pop_back();
             }
@@ -156,12 +156,12 @@ fn stores_nothing(state: &mut Option<Network>, call: &Call) -> Answer {
 
 fn hands_twice(state: &mut Option<Network>, call: &Call) -> Answer {
     behind_step(state, call, |network, before, answer| {
-        hand_too(network, &before, *answer, |token| is_inner(&token));
+        hand_too(network, &before, answer, |token| is_inner(&token));
     })
 }
 
 /// Hands the token that a Step took to the channel once more.
-fn hand_too(network: &mut Network, before: &Before, answer: Answer, which: fn(Token) -> bool) {
+fn hand_too(network: &mut Network, before: &Before, answer: &Answer, which: fn(Token) -> bool) {
     let (Some(Hop::Channel(channel)), Answer::Moved, Some(token)) =
         (before.hop, answer, before.first)
     else {
@@ -178,7 +178,7 @@ fn hand_too(network: &mut Network, before: &Before, answer: Answer, which: fn(To
 /// Handing PAUSE to a program.
 fn hands_pause(state: &mut Option<Network>, call: &Call) -> Answer {
     behind_step(state, call, |network, before, answer| {
-        hand_too(network, &before, *answer, |token| token.is_pause());
+        hand_too(network, &before, answer, |token| token.is_pause());
     })
 }
 
@@ -186,7 +186,7 @@ fn hands_pause(state: &mut Option<Network>, call: &Call) -> Answer {
 fn hands_a_header_token_on(state: &mut Option<Network>, call: &Call) -> Answer {
     let third = third_token(state, call);
     behind_step(state, call, |network, before, answer| {
-        if let (Some(_), Some(token)) = (landed(network, &before, *answer), third) {
+        if let (Some(_), Some(token)) = (landed(network, &before, answer), third) {
             let tokens = &mut network.nodes[before.slot].ports[before.port].tokens;
             tokens.push_front(Token::data(token.value));
         }
@@ -197,7 +197,7 @@ fn hands_a_header_token_on(state: &mut Option<Network>, call: &Call) -> Answer {
 fn hands_a_marked_token(state: &mut Option<Network>, call: &Call) -> Answer {
     let third = third_token(state, call);
     behind_step(state, call, |network, before, answer| {
-        if let (Some(channel), Some(token)) = (landed(network, &before, *answer), third) {
+        if let (Some(channel), Some(token)) = (landed(network, &before, answer), third) {
             let end = &mut network.nodes[before.slot].channel_ends[channel];
             end.tokens.push_back(token);
         }
@@ -217,7 +217,7 @@ fn gives_the_newest(state: &mut Option<Network>, call: &Call) -> Answer {
             slot, channel_end, ..
         },
         Some(network),
-    ) = (*call, state.as_mut())
+    ) = (call.clone(), state.as_mut())
     {
         let node = network.nodes.get_mut(slot);
         let end = node.and_then(|node| node.channel_ends.get_mut(channel_end));
@@ -232,7 +232,7 @@ fn gives_the_newest(state: &mut Option<Network>, call: &Call) -> Answer {
 fn gives_it_again(state: &mut Option<Network>, call: &Call) -> Answer {
     let kept = state.clone();
     let answer = model::apply(state, call);
-    if let (Call::Input { .. }, Answer::Token(_)) = (call, answer) {
+    if let (Call::Input { .. }, Answer::Token(_)) = (call, &answer) {
         *state = kept;
     }
     answer
@@ -252,7 +252,7 @@ fn lead_elsewhere(node: &mut Node, port: usize, channel: usize) {
 
 fn lands_at_another_channel(state: &mut Option<Network>, call: &Call) -> Answer {
     behind_step(state, call, |network, before, answer| {
-        if let Some(channel) = landed(network, &before, *answer) {
+        if let Some(channel) = landed(network, &before, answer) {
             let node = &mut network.nodes[before.slot];
             lead_elsewhere(node, before.port, channel);
         }
@@ -263,7 +263,7 @@ fn lands_at_another_channel(state: &mut Option<Network>, call: &Call) -> Answer 
 fn hands_at_two_places(state: &mut Option<Network>, call: &Call) -> Answer {
     behind_step(state, call, |network, before, answer| {
         let first = before.first.is_some_and(|token| is_inner(&token));
-        if let (Some(Hop::Channel(channel)), Answer::Moved, true) = (before.hop, *answer, first) {
+        if let (Some(Hop::Channel(channel)), Answer::Moved, true) = (before.hop, &*answer, first) {
             if channel != SINK {
                 let node = &mut network.nodes[before.slot];
                 lead_elsewhere(node, before.port, channel);
@@ -393,7 +393,7 @@ fn splits_and_hands_one(state: &mut Option<Network>, call: &Call) -> Answer {
         let node = &mut network.nodes[before.slot];
         let tokens = &node.ports[before.port].tokens;
         let token = tokens.iter().find(|token| is_inner(token)).copied();
-        if let (Answer::Refused(Cause::Split), Some(token)) = (*answer, token) {
+        if let (Answer::Refused(Cause::Split), Some(token)) = (&*answer, token) {
             node.channel_ends[0].tokens.push_back(token);
         }
     })
@@ -413,7 +413,7 @@ fn calls_it_split(state: &mut Option<Network>, call: &Call) -> Answer {
 /// A header token has lost its mark behind a cable.
 fn loses_a_mark(state: &mut Option<Network>, call: &Call) -> Answer {
     behind_step(state, call, |network, before, answer| {
-        if let Some(last) = far_port(network, &before, *answer).and_then(|it| it.tokens.back_mut())
+        if let Some(last) = far_port(network, &before, answer).and_then(|it| it.tokens.back_mut())
         {
             last.header = None;
         }
@@ -428,7 +428,7 @@ fn marks_anew_what_comes_round(state: &mut Option<Network>, call: &Call) -> Answ
         };
         let far = network.nodes[before.slot].links[link].far;
         let round = far.is_some_and(|far| (far.slot, far.link) == (before.slot, before.port));
-        let port = far_port(network, &before, *answer).filter(|_| round);
+        let port = far_port(network, &before, answer).filter(|_| round);
         if let Some(token) = port.and_then(|port| port.tokens.back_mut()) {
             token.header = token.header.map(|width| 4 - width);
         }
@@ -449,7 +449,7 @@ fn with_reply(
         ends.then(|| node.control_unit.heard.clone())
     });
     behind_step(state, call, |network, before, answer| {
-        if let (Some(heard), Answer::Moved) = (heard, *answer) {
+        if let (Some(heard), Answer::Moved) = (heard, &*answer) {
             wrong(&mut network.nodes[before.slot], &heard, before.width);
         }
     })
@@ -504,7 +504,7 @@ fn keeps_its_first_aim(state: &mut Option<Network>, call: &Call) -> Answer {
     };
     let had = aim(state);
     let answer = model::apply(state, call);
-    if let (Answer::Done, Some(_), Some(network)) = (answer, had, state) {
+    if let (Answer::Done, Some(_), Some(network)) = (&answer, had, state) {
         network.nodes[slot].channel_ends[channel_end].aim = had;
     }
     answer
@@ -513,7 +513,7 @@ fn keeps_its_first_aim(state: &mut Option<Network>, call: &Call) -> Answer {
 /// A channel-end is turned elsewhere by a Set of its node.
 fn turns_by_itself(state: &mut Option<Network>, call: &Call) -> Answer {
     let answer = model::apply(state, call);
-    if let (Call::Set { slot, .. }, Answer::Done, Some(network)) = (*call, answer, state) {
+    if let (Call::Set { slot, .. }, Answer::Done, Some(network)) = (call.clone(), &answer, state) {
         let (number, channel) = (0, 0);
         let ends = network.nodes[slot].channel_ends.iter_mut();
         let free = ends.filter(|end| end.sending.is_none());
@@ -529,7 +529,7 @@ fn fresh_keeps_tokens(state: &mut Option<Network>, call: &Call) -> Answer {
     let before = state.clone();
     let answer = model::apply(state, call);
     if let (Call::Fresh { .. }, Answer::Done, Some(before), Some(network)) =
-        (*call, answer, before, state)
+        (call.clone(), &answer, before, state)
     {
         for (node, was) in network.nodes.iter_mut().zip(before.nodes) {
             for (end, was) in node.channel_ends.iter_mut().zip(was.channel_ends) {
@@ -552,7 +552,7 @@ fn forgets_its_circuit(state: &mut Option<Network>, call: &Call) -> Answer {
 /// "one that moves the first token and then answers Waiting"
 fn moves_and_waits(state: &mut Option<Network>, call: &Call) -> Answer {
     behind_step(state, call, |_, before, answer| {
-        if let (Some(Hop::Outward(_)), Answer::Moved) = (before.hop, *answer) {
+        if let (Some(Hop::Outward(_)), Answer::Moved) = (before.hop, &*answer) {
             *answer = Answer::Waiting;
         }
     })
@@ -561,7 +561,7 @@ fn moves_and_waits(state: &mut Option<Network>, call: &Call) -> Answer {
 /// A port that waits for a link says that a token has moved.
 fn waits_and_moves(state: &mut Option<Network>, call: &Call) -> Answer {
     behind_step(state, call, |_, before, answer| {
-        if let (None, Answer::Waiting) = (before.hop, *answer) {
+        if let (None, Answer::Waiting) = (before.hop, &*answer) {
             *answer = Answer::Moved;
         }
     })

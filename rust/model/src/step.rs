@@ -9,7 +9,7 @@ use crate::tokens::{read_header, Destination, Front, Token, SINK};
 
 /// The call Step, on a state that is known to be sound. "Empty: Idle." Else with
 /// no circuit the switch looks at the header, and with a circuit one token goes.
-pub(crate) fn step(network: &mut Network, slot: usize, port: usize) -> Result<Answer, No> {
+pub fn step(network: &mut Network, slot: usize, port: usize) -> Result<Answer, No> {
     let here = network.port(slot, port)?;
     let hop = here.hop;
     let Some(&token) = here.tokens.front() else {

@@ -85,7 +85,9 @@ fn a_list_is_its_steps_one_by_one() {
                 assert_eq!(copy.as_ref(), runner.network());
                 continue;
             }
-            let single = list.iter().map(|record| apply(&mut copy, &(*record).into()));
+            let single = list
+                .iter()
+                .map(|record| apply(&mut copy, &(*record).into()));
             assert_eq!(found.answer, Answer::Results(single.collect()));
             assert_eq!(copy.as_ref(), runner.network());
             lists += 1;

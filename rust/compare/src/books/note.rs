@@ -18,8 +18,8 @@ pub type Note = fn(&mut Books, &Seen) -> Result<Touched, Broken>;
 /// Writes what was seen of one call, and says what it touched. Fails where no books can be written,
 /// because no rule of document 01 gives such an answer there.
 pub fn note(books: &mut Books, seen: &Seen) -> Result<Touched, Broken> {
-    match (seen.call, seen.answer) {
-        (Call::Step { slot, port }, _) => super::step::step(books, seen, Port { slot, port }),
+    match (&seen.call, &seen.answer) {
+        (&Call::Step { slot, port }, _) => super::step::step(books, seen, Port { slot, port }),
         (call, Answer::No(_)) => Ok(named(books, call)),
         (Call::Fresh { .. }, Answer::Done) => {
             *books = Books::default();
@@ -36,16 +36,16 @@ pub fn note(books: &mut Books, seen: &Seen) -> Result<Touched, Broken> {
 
 /// What a channel-end was asked and did.
 fn of_end(books: &mut Books, seen: &Seen, end: End) -> Result<Touched, Broken> {
-    let mut touched = named(books, seen.call);
-    match (seen.call, seen.answer) {
+    let mut touched = named(books, &seen.call);
+    match (&seen.call, &seen.answer) {
         (Call::Aim { destination, .. }, Answer::Done) => {
-            books.ends.entry(end).or_default().aimed = Some(aimed_at(destination));
+            books.ends.entry(end).or_default().aimed = Some(aimed_at(*destination));
         }
-        (Call::Input { kind, .. }, Answer::Token(value)) => {
+        (&Call::Input { kind, .. }, &Answer::Token(value)) => {
             let token = plain(kind_of(kind), value);
             books.ends.entry(end).or_default().taken.push(token);
         }
-        (Call::Output { kind, value, .. }, Answer::Done) => {
+        (&Call::Output { kind, value, .. }, Answer::Done) => {
             let token = plain(kind_of(kind), value);
             output(books, seen, end, token, &mut touched)?;
         }
@@ -55,7 +55,7 @@ fn of_end(books: &mut Books, seen: &Seen, end: End) -> Result<Touched, Broken> {
 }
 
 /// The channel-end that a call names, if there is such a one.
-fn end_of(call: Call) -> Option<End> {
+fn end_of(call: &Call) -> Option<End> {
     let (Call::Aim {
         slot, channel_end, ..
     }
@@ -64,7 +64,7 @@ fn end_of(call: Call) -> Option<End> {
     }
     | Call::Input {
         slot, channel_end, ..
-    }) = call
+    }) = *call
     else {
         return None;
     };
@@ -75,7 +75,7 @@ fn end_of(call: Call) -> Option<End> {
 }
 
 /// The places that a call names, touched or not: a refused call is to have left them alone.
-fn named(books: &Books, call: Call) -> Touched {
+fn named(books: &Books, call: &Call) -> Touched {
     let mut touched = Touched::default();
     let Some(end) = end_of(call) else {
         return touched;

@@ -29,15 +29,15 @@ pub(super) fn step(books: &mut Books, seen: &Seen, at: Port) -> Result<Touched, 
         at,
         touched: &mut touched,
     };
-    match (seen.answer, hop) {
+    match (&seen.answer, hop) {
         (Answer::No(_) | Answer::Idle | Answer::Waiting, _) => {}
-        (Answer::Opened(Opening::Link(link)), None) => noting.leave_by(link)?,
+        (Answer::Opened(Opening::Link(link)), None) => noting.leave_by(*link)?,
         (Answer::Opened(Opening::Channel | Opening::Control), None) => noting.land()?,
         // Whether a Split is answered where it may be, its own sentence says.
         (Answer::Refused(cause), None) | (Answer::Refused(cause @ Cause::Split), _) => {
-            noting.refuse(cause)?;
+            noting.refuse(*cause)?;
         }
-        (Answer::Dropped(cause), Some(Hop::Dropped(_))) => noting.drop_one(cause)?,
+        (Answer::Dropped(cause), Some(Hop::Dropped(_))) => noting.drop_one(*cause)?,
         (Answer::Moved, Some(Hop::Link(_))) => noting.carry()?,
         (Answer::Moved, Some(Hop::Channel(channel))) => {
             let slot = at.slot;

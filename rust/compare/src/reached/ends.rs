@@ -60,7 +60,7 @@ impl Message {
     }
 
     /// How it ended; it did not where the Step was refused.
-    pub(super) fn case(&self, answer: Answer, after: &Network) -> Option<Case> {
+    pub(super) fn case(&self, answer: &Answer, after: &Network) -> Option<Case> {
         match answer {
             Answer::No(_) => None,
             Answer::Malformed => Some(("message not answered", self.malformed())),

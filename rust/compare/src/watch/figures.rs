@@ -14,7 +14,10 @@ use crate::books::{Books, Fate, Happening, Sender, Touched};
 /// Something that can be met.
 #[derive(Clone, Copy, Debug, PartialEq, Eq, PartialOrd, Ord)]
 pub enum Met {
+    /// Calls, a list counted as its Steps.
     Calls,
+    /// Lists, each of them seen as its Steps.
+    Lists,
     Refusals,
     /// A Fresh done that was not the first.
     BegunAnew,
@@ -51,6 +54,7 @@ impl Met {
     fn name(self) -> &'static str {
         match self {
             Met::Calls => "calls watched",
+            Met::Lists => "lists of Steps",
             Met::Refusals => "refused",
             Met::BegunAnew => "begun anew",
             Met::FreshRefused => "Fresh refused",
@@ -85,7 +89,7 @@ impl Figures {
         self.0.get(&met).copied().unwrap_or(0)
     }
 
-    fn add(&mut self, met: Met) {
+    pub(super) fn add(&mut self, met: Met) {
         *self.0.entry(met).or_default() += 1;
     }
 

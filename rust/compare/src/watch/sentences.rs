@@ -291,8 +291,8 @@ fn pause_unhanded(circuit: &Circuit) -> Held {
 
 /// "no Input ever answers control 2"
 fn pause_taken(seen: &Seen) -> Held {
-    match (seen.call, seen.answer) {
-        (model::Call::Input { kind, .. }, Answer::Token(value))
+    match (&seen.call, &seen.answer) {
+        (&model::Call::Input { kind, .. }, &Answer::Token(value))
             if is_pause(words::plain(crate::books::kind_of(kind), value)) =>
         {
             Err("Input has given a PAUSE".to_owned())
