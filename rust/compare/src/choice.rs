@@ -91,7 +91,7 @@ fn any_record(random: &mut Random, network: Option<&Network>) -> StepRecord {
 }
 
 /// The ports that hold a token, by slot and place.
-pub(crate) fn busy_ports(network: &Network) -> Vec<(usize, usize)> {
+pub fn busy_ports(network: &Network) -> Vec<(usize, usize)> {
     let nodes = network.nodes.iter().enumerate();
     let ports = nodes.flat_map(|(slot, node)| {
         let ports = node.ports.iter().enumerate();

@@ -115,6 +115,10 @@ pub fn held_to_single_steps(
     if results != records.len() {
         return refused(&made, &single, lent);
     }
+    if made.answer != Found::Done {
+        let answer = of_bench(made.answer);
+        return Err(format!("results of its own length, and {answer}"));
+    }
     for (place, record) in records.iter().enumerate() {
         let (found, alone) = (made.results[place], crossed(step(&mut single, *record)));
         if found != alone {

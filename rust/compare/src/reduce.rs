@@ -2,7 +2,7 @@
 
 use std::collections::BTreeSet;
 
-use model::calls::Call;
+use model::calls::{Call, StepRecord};
 use model::network::memory_words;
 use model::sizes::MOST_NODES;
 use model::words::parse_call;
@@ -83,8 +83,20 @@ fn numbers(calls: &[Call]) -> BTreeSet<String> {
     numbers.map(str::to_owned).collect()
 }
 
-/// A call with 0 wherever it has that number; a Fresh is left as it is.
+/// A call with 0 wherever it has that number; a Fresh, and the length of a list's results, are left as
+/// they are.
 fn with_nought(call: &Call, number: &str) -> Call {
+    if let Call::Steps { results, records } = call {
+        let nought = |word: usize| if word.to_string() == number { 0 } else { word };
+        let records = records.iter().map(|record| StepRecord {
+            slot: nought(record.slot),
+            port: nought(record.port),
+        });
+        return Call::Steps {
+            results: *results,
+            records: records.collect(),
+        };
+    }
     let text = call.to_string();
     let nought = |word| if word == number { "0" } else { word };
     let words: Vec<&str> = text.split(' ').map(nought).collect();

@@ -3,7 +3,7 @@
 
 use compare::{asking, filling};
 use model::random::Random;
-use model::{runs, Call};
+use model::{runs, Answer, Call, No};
 
 /// What the command prints for a script.
 fn run_library(text: &str) -> Result<String, script::Fault> {
@@ -44,16 +44,49 @@ fn the_same_text_from_both_sides() {
     println!("{} lines", random + filling + asking);
 }
 
-/// The model agrees with what every script of a folder states.
-fn model_agrees(folder: &str) {
+/// The scripts of a folder.
+fn scripts_in(folder: &str) -> Vec<String> {
     let folder = format!("{}/{folder}", env!("CARGO_MANIFEST_DIR"));
     let entries = std::fs::read_dir(folder).expect("a folder of scripts");
     let paths = entries.map(|entry| entry.expect("a file").path());
-    for path in paths.filter(|path| path.extension().is_some_and(|end| end == "txt")) {
-        let text = std::fs::read_to_string(&path).expect("a script");
+    let scripts = paths.filter(|path| path.extension().is_some_and(|end| end == "txt"));
+    scripts
+        .map(|path| std::fs::read_to_string(path).expect("a script"))
+        .collect()
+}
+
+/// The model agrees with what every script of a folder states.
+fn model_agrees(folder: &str) {
+    for text in scripts_in(folder) {
         let agree = model::script::check(&text);
-        assert!(agree.is_ok_and(|calls| calls > 10), "{}", path.display());
+        assert!(agree.as_ref().is_ok_and(|calls| *calls > 10), "{agree:?} of\n{text}");
     }
+}
+
+/// What the scripts state of lists: the length of the results is the one refusal of a list, and the
+/// refusals among its results are those of a Step.
+#[test]
+fn what_the_scripts_state_of_lists() {
+    let mut lists = Vec::new();
+    for text in scripts_in("../script/scripts") {
+        let lines = model::script::parse(&text).expect("a script");
+        let listed = lines
+            .into_iter()
+            .filter(|line| matches!(line.call, Call::Steps { .. }));
+        lists.extend(listed.filter_map(|line| Some(line.stated?.answer)));
+    }
+    let of_step = [Answer::No(No::Unsound), Answer::No(No::NoSuch)];
+    for answer in &lists {
+        match answer {
+            Answer::Results(each) => {
+                let mut refusals = each.iter().filter(|it| matches!(it, Answer::No(_)));
+                assert!(refusals.all(|it| of_step.contains(it)), "{answer}");
+            }
+            answer => assert_eq!(*answer, Answer::No(No::NoSuch)),
+        }
+    }
+    let refused = lists.contains(&Answer::No(No::NoSuch));
+    assert!(lists.is_empty() || refused, "no script states it");
 }
 
 /// The scripts that stand beside the command state what the model says too.
@@ -84,11 +117,11 @@ const NUMBERS: [&str; 17] = [
 ];
 
 /// A line with one or two of its words changed, left out or added; mostly a number for a number.
-fn damaged(random: &mut Random, line: &str) -> String {
+fn damaged(random: &mut Random, line: &str, names: &[&'static str]) -> String {
     let mut words: Vec<&str> = line.split(' ').collect();
     for _ in 0..1 + random.below(2) {
         let place = random.below(words.len());
-        let name = random.pick(&NAMES).unwrap_or("0");
+        let name = random.pick(names).unwrap_or("0");
         let number = random.pick(&NUMBERS).unwrap_or("0");
         let was_number = words[place].parse::<u64>().is_ok();
         match random.below(12) {
@@ -115,7 +148,7 @@ fn read_by_library(line: &str) -> Option<String> {
 
 fn read_by_model(line: &str) -> Option<String> {
     let lines = model::script::parse(line).ok()?;
-    let written = lines.iter().map(|line| match line.stated {
+    let written = lines.iter().map(|line| match &line.stated {
         Some(stated) => format!("{} -> {stated}", line.call),
         None => line.call.to_string(),
     });
@@ -128,7 +161,7 @@ fn both_take_the_same_lines_and_no_others() {
     for seed in 0..60 {
         let mut random = Random::new(seed ^ 0x11E5);
         for (call, found) in runs::run(seed, 400) {
-            let line = damaged(&mut random, &format!("{call} -> {found}"));
+            let line = damaged(&mut random, &format!("{call} -> {found}"), &NAMES);
             let read = read_by_library(&line);
             assert_eq!(read, read_by_model(&line), "{line}");
             match read {
@@ -141,6 +174,55 @@ fn both_take_the_same_lines_and_no_others() {
     assert!(taken > 1000 && not_taken > 1000);
 }
 
+// STAND-IN: until the command reads lists, those of its tests are passed over. To be removed with the
+// two lines that ask it.
+fn the_command_reads_lists() -> bool {
+    script::parse("steps 0").is_ok()
+}
+
+/// Lists as text: run on both sides, checked by each against the other's.
+#[test]
+fn lists_are_the_same_text_from_both_sides() {
+    if !the_command_reads_lists() {
+        return;
+    }
+    let makers = [runs::calls_with_lists, asking::calls_with_lists];
+    let runs = (0..20).flat_map(|seed| makers.map(|calls| calls(seed, 300)));
+    let lines: usize = runs.map(|calls| same_text(&calls)).sum();
+    assert!(lines > 10_000);
+}
+
+/// Words to be put into lines that have lists.
+#[rustfmt::skip]
+const LIST_NAMES: [&str; 10] = [
+    "steps", "results", "moved;", "idle;", "idle", ";", "results;", "2;", "done", "no",
+];
+
+#[test]
+fn both_take_the_same_lists_and_no_others() {
+    if !the_command_reads_lists() {
+        return;
+    }
+    let (mut taken, mut not_taken) = (0, 0);
+    for seed in 0..60 {
+        let mut random = Random::new(seed ^ 0x1157);
+        let mut runner = runs::Runner::with_lists(seed);
+        let made = (0..400).map(|_| runner.call());
+        let lists = made.filter(|(call, _)| matches!(call, Call::Steps { .. }));
+        for (call, found) in lists {
+            let line = damaged(&mut random, &format!("{call} -> {found}"), &LIST_NAMES);
+            let read = read_by_library(&line);
+            assert_eq!(read, read_by_model(&line), "{line}");
+            match read {
+                Some(_) => taken += 1,
+                None => not_taken += 1,
+            }
+        }
+    }
+    println!("{taken} lists taken, {not_taken} not");
+    assert!(taken > 1000 && not_taken > 1000);
+}
+
 /// Both name the same line as the first that is none.
 #[test]
 fn both_name_the_same_line() {
@@ -149,7 +231,7 @@ fn both_name_the_same_line() {
         let calls = runs::calls(seed % 20, 40);
         let mut lines: Vec<String> = calls.iter().map(Call::to_string).collect();
         let place = random.below(lines.len());
-        lines[place] = damaged(&mut random, &lines[place]);
+        lines[place] = damaged(&mut random, &lines[place], &NAMES);
         let text = lines.join("\n");
         let library = script::parse(&text).map_err(|(line, _)| line);
         let model = model::script::parse(&text).map_err(|fault| match fault {

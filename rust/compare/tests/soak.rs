@@ -17,7 +17,9 @@ fn a_short_soak() {
     let text = String::from_utf8_lossy(&output.stdout);
     assert!(output.status.success(), "{text}");
     assert!(text.starts_with("from seed 3\nup to seed 3, "), "{text}");
-    assert!(text.contains(" 15000 calls watched, "), "{text}");
+    assert!(text.contains(" calls watched, "), "{text}");
+    assert!(text.contains(" lists of Steps, "), "{text}");
+    assert!(text.contains("\nsteps: results "), "{text}");
     assert!(text.ends_with("no difference\n"), "{text}");
 }
 

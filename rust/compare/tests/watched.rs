@@ -3,7 +3,7 @@
 
 use compare::books::{self, words, Books, Circuit, Fate, Happening, Note, Port, Sender, Touched};
 use compare::calls::Lent;
-use compare::soak::{watched, Found};
+use compare::soak::{watched, watched_lists, Found};
 use compare::watch::{Broken, Figures, Met, Seen, Sentence, Watcher};
 use compare::{asking, changing, filling};
 use model::calls::Call;
@@ -51,6 +51,39 @@ fn streams_arrive_whole_and_at_the_right_door() {
     }
     println!("{met}");
     for (what, least) in LEAST {
+        assert!(met.of(what) >= least, "{what:?}: {met}");
+    }
+}
+
+/// What has to be met where lists are made, and how often at least.
+const LEAST_IN_LISTS: [(Met, usize); 12] = [
+    (Met::Lists, 2_500),
+    (Met::Circuits, 700),
+    (Met::Landed, 300),
+    (Met::Renumbered, 25),
+    (Met::Split, 40),
+    (Met::NoRoute, 100),
+    (Met::Carried, 6_000),
+    (Met::Handed, 2_500),
+    (Met::Dropped, 1_500),
+    (Met::Heard, 130),
+    (Met::Answered, 90),
+    (Met::RepliesLanded, 80),
+];
+
+/// A list is seen as its Steps, and so demand 3 is held behind each record.
+#[test]
+fn streams_arrive_whole_where_lists_are_made() {
+    let mut met = Figures::default();
+    for seed in 0..15 {
+        match watched_lists(seed, 600) {
+            Ok(figures) => met += figures.watched,
+            Err(Found::Watched(broken)) => panic!("seed {seed}: {}", broken.how),
+            Err(other) => panic!("seed {seed}: {other:?}"),
+        }
+    }
+    println!("{met}");
+    for (what, least) in LEAST_IN_LISTS {
         assert!(met.of(what) >= least, "{what:?}: {met}");
     }
 }
@@ -130,6 +163,38 @@ fn a_board_renumbered_before_and_after_a_landing() {
     assert_eq!(watcher.books.log(door), [(data(11), 0), (data(12), 0)]);
     assert_eq!(watcher.figures.of(Met::Renumbered), 1);
     assert_eq!(watcher.figures.of(Met::PausesAtDoors), 1);
+}
+
+/// The same Steps as lists: the books are the same, circuit by circuit.
+#[test]
+fn a_list_is_written_down_as_its_steps() {
+    let rest = "
+        set 1 number 0 5
+        step 1 0
+        step 0 8
+        step 0 9
+        step 1 0
+        step 0 8
+        step 1 0
+    ";
+    let (single, _) = watch(&[TWO_BOARDS, rest].concat());
+    let two = TWO_BOARDS.split("step 0 8").next().unwrap_or_default();
+    let lists = "
+        steps 4 0 8 0 8 0 8 0 8
+        steps 0
+        steps 3 0 8
+        set 1 number 0 5
+        steps 6 1 0 0 8 0 9 1 0 0 8 1 0
+    ";
+    let (listed, answers) = watch(&[two, lists].concat());
+    let last = answers.last().map(Answer::to_string);
+    let moved = "results opened channel; moved; idle; moved; moved; moved";
+    assert_eq!(last.as_deref(), Some(moved));
+    let books = |watcher: &Watcher| format!("{:?}", watcher.books);
+    assert_eq!(books(&listed), books(&single));
+    assert_eq!(listed.figures.of(Met::Lists), 3);
+    assert_eq!(listed.figures.of(Met::Refusals), 1);
+    assert_eq!(listed.figures.of(Met::Handed), single.figures.of(Met::Handed));
 }
 
 /// The update that stopped halfway: the far board is at one byte and reads a header of three.
@@ -275,7 +340,7 @@ fn goes_on_behind_pause(books: &mut Books, seen: &Seen) -> Result<Touched, Broke
         let Some(circuit) = touched.circuits.last() else {
             return;
         };
-        let (Call::Output { .. }, true) = (seen.call, books.is_paused(*circuit)) else {
+        let (Call::Output { .. }, true) = (&seen.call, books.is_paused(*circuit)) else {
             return;
         };
         for end in &touched.ends {
@@ -290,7 +355,7 @@ fn goes_on_behind_pause(books: &mut Books, seen: &Seen) -> Result<Touched, Broke
 /// Takes a refused Output for a done one.
 fn counts_refused_outputs(books: &mut Books, seen: &Seen) -> Result<Touched, Broken> {
     then(books, seen, |books, touched| {
-        let (Call::Output { value, .. }, Answer::No(_)) = (seen.call, seen.answer) else {
+        let (&Call::Output { value, .. }, Answer::No(_)) = (&seen.call, &seen.answer) else {
             return;
         };
         for end in &touched.ends {

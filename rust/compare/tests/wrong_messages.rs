@@ -42,7 +42,7 @@ fn ended(before: Option<&Network>, call: &Call) -> Option<Ended> {
 fn with(state: &mut Option<Network>, call: &Call, wrong: fn(&mut Network, Ended)) -> Answer {
     let ended = ended(state.as_ref(), call);
     let answer = model::apply(state, call);
-    if let (Some(ended), Some(network), Answer::Moved) = (ended, state, answer) {
+    if let (Some(ended), Some(network), Answer::Moved) = (ended, state, &answer) {
         wrong(network, ended);
     }
     answer
@@ -99,7 +99,7 @@ fn writes_in_part(state: &mut Option<Network>, call: &Call) -> Answer {
 fn undoes_what_is_unheard(state: &mut Option<Network>, call: &Call) -> Answer {
     let before = ended(state.as_ref(), call);
     let answer = model::apply(state, call);
-    if let (Some(before), Some(network), Answer::Unheard) = (before, state, answer) {
+    if let (Some(before), Some(network), Answer::Unheard) = (before, state, &answer) {
         network.nodes[before.slot].width = before.width;
     }
     answer

@@ -5,7 +5,7 @@ use std::process::ExitCode;
 use std::time::{Duration, Instant, SystemTime, UNIX_EPOCH};
 
 use compare::reduce::{report, report_by};
-use compare::soak::{thorough, watched, Figures, Found};
+use compare::soak::{thorough, watched, watched_lists, Figures, Found};
 use compare::watch::library;
 use compare::{asking, changing, filling};
 use model::{runs, Call};
@@ -26,12 +26,13 @@ Exit status: 0 no difference, 1 a difference, 2 words that are not understood.
 ";
 
 /// Calls of each random run, most of them behind the setting up of its network, of each run that
-/// fills buffers, of each that asks control units, of each in which settings change, and of each
-/// that is watched.
+/// fills buffers, of each that asks control units, of each in which settings change, of each with
+/// lists of Steps, and of each other that is watched.
 const CALLS: usize = 1500;
 const FILLING: usize = 1500;
 const ASKING: usize = 3000;
 const CHANGING: usize = 1500;
+const LISTED: usize = 500;
 const WATCHED: usize = 3000;
 
 /// How often it says how far it is.
@@ -109,11 +110,15 @@ fn soak(asked: &Asked) -> ExitCode {
 
 fn compare_with(seed: u64) -> Result<Figures, Found> {
     let mut figures = watched(seed, WATCHED)?;
+    figures += watched_lists(seed, LISTED)?;
     for calls in [
         runs::calls(seed, CALLS),
         filling::calls(seed, FILLING),
         asking::calls(seed, ASKING),
         changing::calls(seed, CHANGING),
+        runs::calls_with_lists(seed, LISTED),
+        asking::calls_with_lists(seed, LISTED),
+        changing::calls_with_lists(seed, LISTED),
     ] {
         figures += thorough(model::apply, seed, &calls)?;
     }
