@@ -5,6 +5,7 @@ use model::digest::digest;
 use model::network::Network;
 use model::random::Random;
 use model::script::Outcome;
+use model::Answer;
 
 use crate::calls::{compare, Apply, Lent};
 use crate::reached::{message_ended_by, Reached};
@@ -56,9 +57,16 @@ impl Pair {
     /// Makes a call on both sides and says how they differ behind it.
     pub fn call(&mut self, call: &Call) -> Result<(), String> {
         let ending = message_ended_by(self.network.as_ref(), call);
+        let before = match call {
+            Call::Steps { .. } => self.network.clone(),
+            _ => None,
+        };
         let answer = compare(self.apply, &mut self.network, &mut self.lent, call)?;
         let after = self.network.as_ref();
         self.reached.call(ending, call, &answer, after);
+        if let (Call::Steps { records, .. }, Answer::Results(each)) = (call, &answer) {
+            self.reached.records(before, records, each);
+        }
         Ok(())
     }
 }

@@ -11,7 +11,8 @@ use model::answers::{Cause, Opening};
 use model::calls::Call;
 use model::network::Network;
 use model::set::Setting;
-use model::{Answer, No};
+use model::step::step;
+use model::{Answer, No, StepRecord};
 
 use ends::Message;
 
@@ -84,14 +85,32 @@ impl Reached {
         after: Option<&Network>,
     ) {
         self.count((call_name(call), answer_name(answer)));
-        if let Answer::Results(each) = answer {
-            for answer in each {
-                self.count(("record of steps", answer_name(answer)));
-            }
-        }
+        self.ended(ending, answer, after);
+    }
+
+    fn ended(&mut self, ending: Option<Message>, answer: &Answer, after: Option<&Network>) {
         let ended = ending.zip(after);
         if let Some(case) = ended.and_then(|(message, after)| message.case(answer, after)) {
             self.count(case);
+        }
+    }
+
+    /// Counts the records of a list that was made on a state and answered so, and the messages that
+    /// they ended: what is not refused is done once more, to see the states between.
+    pub(crate) fn records(
+        &mut self,
+        mut network: Option<Network>,
+        records: &[StepRecord],
+        each: &[Answer],
+    ) {
+        for (record, answer) in records.iter().zip(each) {
+            self.count(("record of steps", answer_name(answer)));
+            let ending = message_ended_by(network.as_ref(), &(*record).into());
+            if let (Some(network), false) = (&mut network, matches!(answer, Answer::No(_))) {
+                // The answer is known.
+                let _ = step(network, record.slot, record.port);
+            }
+            self.ended(ending, answer, network.as_ref());
         }
     }
 }

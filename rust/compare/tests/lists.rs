@@ -242,6 +242,7 @@ fn long_lists_where_there_is_much_to_do() {
         assert!(times(answer) > 0, "{answer}");
     }
     assert_eq!(times("no 1"), 0);
+    assert!(reached.times("message answered", "ACK of a write") > 0);
 }
 
 // Damaged memories.

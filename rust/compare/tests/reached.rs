@@ -54,6 +54,8 @@ fn nothing_reached_is_all_missing() {
     for case in [
         ("set enable", "no 4"),
         ("step", "dropped noroute"),
+        ("steps", "no 2"),
+        ("record of steps", "unheard"),
         ("message answered", "NACK of a write that Set refuses"),
         ("message not answered", "Malformed by END"),
     ] {

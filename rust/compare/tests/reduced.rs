@@ -76,7 +76,8 @@ fn grants_by_credit_alone(state: &mut Option<Network>, call: &Call) -> Answer {
 /// A channel that a port's circuit claims is taken for free: the answer alone is wrong.
 fn overlooks_claims_by_ports(state: &mut Option<Network>, call: &Call) -> Answer {
     let answer = model::apply(state, call);
-    let (Call::Output { slot, .. }, Answer::No(No::Full), Some(network)) = (call.clone(), &answer, state)
+    let (Call::Output { slot, .. }, Answer::No(No::Full), Some(network)) =
+        (call.clone(), &answer, state)
     else {
         return answer;
     };

@@ -59,7 +59,10 @@ fn scripts_in(folder: &str) -> Vec<String> {
 fn model_agrees(folder: &str) {
     for text in scripts_in(folder) {
         let agree = model::script::check(&text);
-        assert!(agree.as_ref().is_ok_and(|calls| *calls > 10), "{agree:?} of\n{text}");
+        assert!(
+            agree.as_ref().is_ok_and(|calls| *calls > 10),
+            "{agree:?} of\n{text}"
+        );
     }
 }
 

@@ -194,7 +194,10 @@ fn a_list_is_written_down_as_its_steps() {
     assert_eq!(books(&listed), books(&single));
     assert_eq!(listed.figures.of(Met::Lists), 3);
     assert_eq!(listed.figures.of(Met::Refusals), 1);
-    assert_eq!(listed.figures.of(Met::Handed), single.figures.of(Met::Handed));
+    assert_eq!(
+        listed.figures.of(Met::Handed),
+        single.figures.of(Met::Handed)
+    );
 }
 
 /// The update that stopped halfway: the far board is at one byte and reads a header of three.

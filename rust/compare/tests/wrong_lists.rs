@@ -50,11 +50,7 @@ fn writes_one_place_off(lent: &mut Lent, records: &[StepRecord], results: &mut [
 }
 
 /// Does what it can, and says NoSuch then.
-fn looks_at_the_length_last(
-    lent: &mut Lent,
-    records: &[StepRecord],
-    results: &mut [u64],
-) -> Found {
+fn looks_at_the_length_last(lent: &mut Lent, records: &[StepRecord], results: &mut [u64]) -> Found {
     for (record, result) in records.iter().zip(results.iter_mut()) {
         *result = crossed(step(lent, record));
     }
@@ -81,7 +77,8 @@ fn is_refused_whole(lent: &mut Lent, records: &[StepRecord], results: &mut [u64]
 }
 
 fn skips_the_last(lent: &mut Lent, records: &[StepRecord], results: &mut [u64]) -> Found {
-    let (Some((_, records)), Some((last, front))) = (records.split_last(), results.split_last_mut())
+    let (Some((_, records)), Some((last, front))) =
+        (records.split_last(), results.split_last_mut())
     else {
         return library(lent, records, results);
     };
@@ -115,28 +112,33 @@ fn tidies_up(lent: &mut Lent, records: &[StepRecord], results: &mut [u64]) -> Fo
     answer
 }
 
-/// What is said of a list on the words of random runs, and on the same words damaged.
+/// What is said of a list on these words.
+fn complaint_on(list: MakeList, lent: &Lent, call: &Call) -> Option<String> {
+    let Call::Steps { results, records } = call else {
+        return None;
+    };
+    held_to_single_steps(list, &mut lent.clone(), *results, records).err()
+}
+
+/// The same in a random run, on its words and on those words damaged.
+fn complaint_in_run(list: MakeList, seed: u64) -> Option<String> {
+    let mut random = Random::new(seed);
+    let (mut lent, mut network) = (Lent::default(), None);
+    for call in runs::calls_with_lists(seed, CALLS) {
+        let damaged = network.as_ref().map(|it| other_words(it, &mut random));
+        let on_these = complaint_on(list, &lent, &call);
+        let on_damaged = damaged.and_then(|words| complaint_on(list, &words, &call));
+        if let found @ Some(_) = on_these.or(on_damaged) {
+            return found;
+        }
+        make(&mut lent, &call);
+        model::apply(&mut network, &call);
+    }
+    None
+}
+
 fn complaint_of_library(list: MakeList) -> Option<String> {
-    (0..SEEDS).find_map(|seed| {
-        let mut random = Random::new(seed);
-        let (mut lent, mut network) = (Lent::default(), None);
-        runs::calls_with_lists(seed, CALLS).iter().find_map(|call| {
-            let found = match call {
-                Call::Steps { results, records } => {
-                    let good = [lent.clone()].into_iter();
-                    let damaged = network.as_ref().map(|it| other_words(it, &mut random));
-                    let mut both = good.chain(damaged);
-                    both.find_map(|mut lent| {
-                        held_to_single_steps(list, &mut lent, *results, records).err()
-                    })
-                }
-                _ => None,
-            };
-            make(&mut lent, call);
-            model::apply(&mut network, call);
-            found
-        })
-    })
+    (0..SEEDS).find_map(|seed| complaint_in_run(list, seed))
 }
 
 #[test]
@@ -148,7 +150,10 @@ fn wrong_libraries_are_found() {
         (is_unsound_first, "results of another length, and no 1"),
         (is_refused_whole, "results of its own length, and no 1"),
         (skips_the_last, "0x400000000 in the list, 0x"),
-        (leaves_refused_unwritten, "0xffffffffffffffff in the list, 0x1 alone"),
+        (
+            leaves_refused_unwritten,
+            "0xffffffffffffffff in the list, 0x1 alone",
+        ),
         (takes_a_longer_buffer, ", which is no answer"),
         (tidies_up, "leaves other words than its Steps one by one"),
     ];
@@ -163,11 +168,7 @@ fn wrong_libraries_are_found() {
 // Models.
 
 /// The model, and then something else with the answers of a list that it made.
-fn with(
-    state: &mut Option<Network>,
-    call: &Call,
-    wrong: impl FnOnce(&mut Vec<Answer>),
-) -> Answer {
+fn with(state: &mut Option<Network>, call: &Call, wrong: impl FnOnce(&mut Vec<Answer>)) -> Answer {
     match model::apply(state, call) {
         Answer::Results(mut each) => {
             wrong(&mut each);

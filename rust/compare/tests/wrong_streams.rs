@@ -84,7 +84,11 @@ fn is_inner(token: &Token) -> bool {
 }
 
 /// The port at the far end of the cable over which a Step moved a token.
-fn far_port<'a>(network: &'a mut Network, before: &Before, answer: &Answer) -> Option<&'a mut Port> {
+fn far_port<'a>(
+    network: &'a mut Network,
+    before: &Before,
+    answer: &Answer,
+) -> Option<&'a mut Port> {
     let (Some(Hop::Outward(link)), Answer::Moved) = (before.hop, answer) else {
         return None;
     };
@@ -413,8 +417,7 @@ fn calls_it_split(state: &mut Option<Network>, call: &Call) -> Answer {
 /// A header token has lost its mark behind a cable.
 fn loses_a_mark(state: &mut Option<Network>, call: &Call) -> Answer {
     behind_step(state, call, |network, before, answer| {
-        if let Some(last) = far_port(network, &before, answer).and_then(|it| it.tokens.back_mut())
-        {
+        if let Some(last) = far_port(network, &before, answer).and_then(|it| it.tokens.back_mut()) {
             last.header = None;
         }
     })
