@@ -75,8 +75,8 @@ pub fn list_of(random: &mut Random, network: Option<&Network>, count: usize) -> 
     Call::Steps { results, records }
 }
 
-/// Often of a port that holds a token, such as the end of a message.
-fn any_record(random: &mut Random, network: Option<&Network>) -> StepRecord {
+/// A Step, often of a port that holds a token, such as the end of a message.
+pub fn any_record(random: &mut Random, network: Option<&Network>) -> StepRecord {
     let nodes = network.map_or(3, |network| network.nodes.len());
     let busy = network.map(busy_ports).unwrap_or_default();
     let any = (

@@ -1,6 +1,6 @@
 //! A list of Steps on lent words, made by one call, and held against the same Steps made one by one.
 
-use bench::{raw, Answer as Found, Opening, Refusal, Stepped};
+use bench::{raw, Answer as Found, Opening, Stepped};
 use model::{Answer, No, StepRecord};
 
 use crate::calls::{of_bench, Lent};
@@ -13,7 +13,7 @@ pub type MakeList = fn(&mut Lent, &[StepRecord], &mut [u64]) -> Found;
 // STAND-IN: until the library has it, a loop of its single Steps.
 pub fn library(lent: &mut Lent, records: &[StepRecord], results: &mut [u64]) -> Found {
     if results.len() != records.len() {
-        return Found::No(Refusal::NoSuch);
+        return Found::No(bench::Refusal::NoSuch);
     }
     for (record, result) in records.iter().zip(results) {
         *result = crossed(step(lent, *record));

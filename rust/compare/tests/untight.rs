@@ -1,14 +1,19 @@
-//! Sound states that are not tight, from which a list of Steps leads out of sound: the results before
-//! that are those of its Steps, and every one behind it is Unsound, on both sides. A list that tested
-//! whether its state is sound at its beginning alone would go on, and is found.
+//! Sound states that are not tight, small ones and such as damage makes of random runs, from which a
+//! list of Steps leads out of sound: the results before that are those of its Steps, and every one
+//! behind it is Unsound, on both sides. A list that tested whether its state is sound at its beginning
+//! alone would go on, and is found.
 
 use bench::{raw, Clause, Looks};
 use compare::calls::Lent;
+use compare::choice::any_record;
+use compare::damaged::other_things;
 use compare::lists::{held_to_single_steps, library};
 use compare::pair::Pair;
+use compare::reading::read;
 use model::answers::Cause;
 use model::network::{Aim, Hop, LinkEnd, Network, Node, Sending};
 use model::random::Random;
+use model::runs::Runner;
 use model::sizes::REPLY_PORT;
 use model::step::step;
 use model::tokens::{Destination, Token, END, READC, SINK};
@@ -191,6 +196,52 @@ fn a_list_that_tests_sound_once_is_found() {
         let how = pair.call(&list(places)).expect_err("a difference");
         assert!(how.ends_with(complaint), "{how}");
     }
+}
+
+/// How a list went: none of it Unsound, or so from some record on.
+#[derive(Clone, Copy)]
+enum Went {
+    Through,
+    Out,
+}
+
+/// Makes a list of so many records on both sides, on words that are a state of the model.
+fn list_on(lent: &Lent, random: &mut Random) -> Went {
+    let network = read(&lent.state, &lent.memory).expect("a state of the model");
+    let records = (0..30).map(|_| any_record(random, Some(&network)));
+    let call = Call::Steps {
+        results: 30,
+        records: records.collect(),
+    };
+    let mut pair = Pair::on(model::apply, Some(network), lent.clone());
+    pair.call(&call).unwrap_or_else(|how| panic!("{how}"));
+    match pair.reached().times("record of steps", "no 1") {
+        0 => Went::Through,
+        _ => Went::Out,
+    }
+}
+
+/// Damage to states of random runs that leaves them sound and breaks a tie.
+#[test]
+fn random_states_that_are_sound_and_not_tight() {
+    let mut times = [0; 2];
+    for seed in 0..30 {
+        let mut runner = Runner::new(seed);
+        let mut random = Random::new(seed ^ 0x71E5);
+        for _ in 0..300 {
+            runner.call();
+            let damaged = runner.network().map(|it| other_things(it, &mut random));
+            let untight = damaged.filter(|lent| {
+                let looks = Looks::over(&lent.state, &lent.memory);
+                looks.is_sound() && !looks.is_tight()
+            });
+            if let Some(lent) = untight {
+                times[list_on(&lent, &mut random) as usize] += 1;
+            }
+        }
+    }
+    println!("lists that stayed sound, and that did not: {times:?}");
+    assert!(times[0] > 100 && times[1] > 50, "{times:?}");
 }
 
 /// An empty list is done behind it, too, and results of another length are NoSuch.

@@ -88,10 +88,7 @@ fn make(state: &mut Option<Network>, call: &Call) -> Result<Answer, No> {
             destination,
             network,
         } => {
-            let aim_at = Aim {
-                destination,
-                network,
-            };
+            let aim_at = Aim::new(destination, network);
             aim(sound_network(state)?, slot, channel_end, aim_at)
         }
         Call::Output {

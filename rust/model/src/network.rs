@@ -101,6 +101,15 @@ pub struct Aim {
     pub network: u32,
 }
 
+impl Aim {
+    pub fn new(destination: Destination, network: u32) -> Aim {
+        Aim {
+            destination,
+            network,
+        }
+    }
+}
+
 /// The circuit that a channel-end has open.
 #[derive(Clone, Copy, Debug, PartialEq, Eq)]
 pub enum Sending {
