@@ -156,14 +156,42 @@ fn a_list_is_unsound_from_its_middle_on() {
     }
 }
 
-/// The numbers of the smallest, as they cross.
+/// The smallest, word by word: what differs from a fresh network of one node, with port 8's ring begun
+/// at its first word.
+fn smallest_in_words() -> Lent {
+    let mut lent = Lent {
+        state: vec![0; raw::state_words()],
+        memory: vec![0; raw::memory_words()],
+    };
+    raw::fresh(&mut lent.state, &mut lent.memory, 1);
+    // Port 8: one token held; dropped, NoRoute; channel-end 0 sends by it.
+    lent.state[149] = 1;
+    (lent.state[152], lent.state[153]) = (5, 0);
+    (lent.state[154], lent.state[155]) = (2, 0);
+    // Channel-end 0: aimed at a channel, and open by port 8.
+    lent.state[196] = 1;
+    (lent.state[209], lent.state[210]) = (1, 8);
+    // END.
+    lent.memory[512] = 0x101;
+    lent
+}
+
+/// And so are the numbers that cross, and the words behind the list.
 #[test]
-fn the_results_of_the_smallest_are_these_numbers() {
-    let mut lent = lent(&open_behind_its_end(), 0);
+fn the_smallest_word_by_word() {
+    let mut lent = smallest_in_words();
+    assert_eq!(read(&lent.state, &lent.memory), Ok(open_behind_its_end()));
     let mut results = [7; 2];
     let answer = library(&mut lent, &records(&[(0, 8), (0, 8)]), &mut results);
     assert_eq!(answer, bench::Answer::Done);
     assert_eq!(results, [11 << 32 | 1, 1]);
+    let before = smallest_in_words();
+    assert!(lent.memory.iter().all(|word| *word == 0));
+    let words = lent.state.iter().zip(&before.state).enumerate();
+    let changed = words.filter(|(_, (now, then))| now != then);
+    let changed: Vec<_> = changed.map(|(place, (now, _))| (place, *now)).collect();
+    // The ring's head, what is held, and no circuit.
+    assert_eq!(changed, [(148, 1), (149, 0), (152, 0)]);
 }
 
 /// What these states are for: a list that tests whether its state is sound at its beginning alone.
