@@ -1,6 +1,8 @@
 //! The names that the proved library exports (`crates/host`). Across C a slice is two words:
 //! pointer, then length.
 
+use crate::list::StepRecord;
+
 extern "C" {
     pub fn tarvelgyo_fresh(
         state: *mut u32,
@@ -126,18 +128,16 @@ extern "C" {
         slot: usize,
         port: usize,
     ) -> u64;
-    // STAND-IN: `crates/host` does not export this yet. When it does, this is its declaration, and
-    // `use crate::list::StepRecord;` stands above.
-    // pub fn tarvelgyo_steps(
-    //     state: *mut u32,
-    //     words: usize,
-    //     memory: *mut u16,
-    //     tokens: usize,
-    //     list: *const StepRecord,
-    //     records: usize,
-    //     results: *mut u64,
-    //     room: usize,
-    // ) -> u64;
+    pub fn tarvelgyo_steps(
+        state: *mut u32,
+        words: usize,
+        memory: *mut u16,
+        tokens: usize,
+        list: *const StepRecord,
+        records: usize,
+        results: *mut u64,
+        room: usize,
+    ) -> u64;
     pub fn tarvelgyo_input_data(
         state: *mut u32,
         words: usize,

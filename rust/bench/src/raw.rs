@@ -343,40 +343,19 @@ pub fn steps(
     list: &[StepRecord],
     results: &mut [u64],
 ) -> Answer {
-    // STAND-IN: until `crates/host` exports `tarvelgyo_steps`, the same by single Steps. Then this
-    // block goes, and what is commented out behind it is the call.
-    {
-        if list.len() != results.len() {
-            return Answer::No(crate::refusal::Refusal::NoSuch);
-        }
-        for (record, result) in list.iter().zip(results) {
-            // SAFETY: as said above.
-            *result = unsafe {
-                proved::tarvelgyo_step(
-                    state.as_mut_ptr(),
-                    state.len(),
-                    memory.as_mut_ptr(),
-                    memory.len(),
-                    record.slot,
-                    record.port,
-                )
-            };
-        }
-        Answer::Done
-    }
-    // // SAFETY: as said above. A record is two words in the order that the library knows.
-    // answered(unsafe {
-    //     proved::tarvelgyo_steps(
-    //         state.as_mut_ptr(),
-    //         state.len(),
-    //         memory.as_mut_ptr(),
-    //         memory.len(),
-    //         list.as_ptr(),
-    //         list.len(),
-    //         results.as_mut_ptr(),
-    //         results.len(),
-    //     )
-    // })
+    // SAFETY: as said above. A record is two words in the order that the library knows.
+    answered(unsafe {
+        proved::tarvelgyo_steps(
+            state.as_mut_ptr(),
+            state.len(),
+            memory.as_mut_ptr(),
+            memory.len(),
+            list.as_ptr(),
+            list.len(),
+            results.as_mut_ptr(),
+            results.len(),
+        )
+    })
 }
 
 /// The numbers that a buffer of results is.

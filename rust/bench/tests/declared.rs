@@ -167,9 +167,8 @@ fn a_list_of_records_crosses_as_pointer_and_length() {
 fn the_records_that_cross_are_the_same() {
     let ours = records(&read(&here("src/list.rs")));
     assert_eq!(ours.len(), 1);
-    // STAND-IN: until `crates/host` has the record. Then this line goes, and the next one holds.
     assert_eq!(records(EXPORTED_LIST), ours);
-    // assert_eq!(records(&host()), ours);
+    assert_eq!(records(&read(&here("../../crates/bench/src/lib.rt"))), ours);
     let other_order = "{ pub port: usize, pub slot: usize }";
     for (from, to) in [
         ("{ pub slot: usize, pub port: usize }", other_order),

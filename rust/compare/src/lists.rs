@@ -10,15 +10,13 @@ use crate::calls::{of_bench, Lent};
 pub type MakeList = fn(&mut Lent, &[StepRecord], &mut [u64]) -> Found;
 
 /// The library's call.
-// STAND-IN: until the library has it, a loop of its single Steps.
 pub fn library(lent: &mut Lent, records: &[StepRecord], results: &mut [u64]) -> Found {
-    if results.len() != records.len() {
-        return Found::No(bench::Refusal::NoSuch);
-    }
-    for (record, result) in records.iter().zip(results) {
-        *result = crossed(step(lent, *record));
-    }
-    Found::Done
+    let list = records.iter().map(|record| bench::StepRecord {
+        slot: record.slot,
+        port: record.port,
+    });
+    let list: Vec<_> = list.collect();
+    raw::steps(&mut lent.state, &mut lent.memory, &list, results)
 }
 
 fn step(lent: &mut Lent, StepRecord { slot, port }: StepRecord) -> Found {

@@ -177,18 +177,9 @@ fn both_take_the_same_lines_and_no_others() {
     assert!(taken > 1000 && not_taken > 1000);
 }
 
-// STAND-IN: until the command reads lists, those of its tests are passed over. To be removed with the
-// two lines that ask it.
-fn the_command_reads_lists() -> bool {
-    script::parse("steps 0").is_ok()
-}
-
 /// Lists as text: run on both sides, checked by each against the other's.
 #[test]
 fn lists_are_the_same_text_from_both_sides() {
-    if !the_command_reads_lists() {
-        return;
-    }
     let makers = [runs::calls_with_lists, asking::calls_with_lists];
     let runs = (0..20).flat_map(|seed| makers.map(|calls| calls(seed, 300)));
     let lines: usize = runs.map(|calls| same_text(&calls)).sum();
@@ -203,9 +194,6 @@ const LIST_NAMES: [&str; 10] = [
 
 #[test]
 fn both_take_the_same_lists_and_no_others() {
-    if !the_command_reads_lists() {
-        return;
-    }
     let (mut taken, mut not_taken) = (0, 0);
     for seed in 0..60 {
         let mut random = Random::new(seed ^ 0x1157);

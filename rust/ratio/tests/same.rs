@@ -40,8 +40,17 @@ fn baseline_at(lent: &Lent) -> Box<baseline::Network> {
 }
 
 /// A Step that hands a control unit the END or PAUSE of a switch message, which the baseline does not
-/// obey.
+/// obey, or a list that has one.
 fn ends_message(lent: &Lent, call: &Call) -> bool {
+    if let Call::Steps { records, .. } = call {
+        let mut copy = lent.clone();
+        let mut steps = records.iter().map(|record| Call::from(*record));
+        return steps.any(|step| {
+            let ends = ends_message(&copy, &step);
+            make(&mut copy, &step);
+            ends
+        });
+    }
     let Call::Step { slot, port } = *call else {
         return false;
     };

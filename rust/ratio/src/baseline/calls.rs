@@ -2,7 +2,7 @@
 
 use model::sizes::MOST_NODES;
 use model::tokens::THREE_BYTES;
-use model::{Answer, Call, No};
+use model::{Answer, Call, No, StepRecord};
 
 use super::records::{Network, Node};
 
@@ -14,6 +14,10 @@ impl Network {
                 nodes,
                 memory_words,
             } => self.fresh(nodes, memory_words),
+            Call::Steps {
+                results,
+                ref records,
+            } => self.steps(results, records),
             _ if !self.is_sound() => Err(No::Unsound),
             _ => self.make_on_sound(call),
         };
@@ -22,7 +26,7 @@ impl Network {
 
     fn make_on_sound(&mut self, call: &Call) -> Result<Answer, No> {
         match *call {
-            Call::Fresh { .. } => Err(No::Unsound),
+            Call::Fresh { .. } | Call::Steps { .. } => Err(No::Unsound),
             Call::Wire { one, other } => self.wire(one, other),
             Call::Set { slot, setting } => self.set(slot, setting),
             Call::Aim {
@@ -44,6 +48,15 @@ impl Network {
             } => self.input(slot, channel_end, kind),
             Call::Step { slot, port } => self.step(slot, port).map(Answer::from),
         }
+    }
+
+    /// A list as its single Steps, each with its own test.
+    fn steps(&mut self, results: usize, records: &[StepRecord]) -> Result<Answer, No> {
+        if results != records.len() {
+            return Err(No::NoSuch);
+        }
+        let each = records.iter().map(|record| self.make(&(*record).into()));
+        Ok(Answer::Results(each.collect()))
     }
 
     fn fresh(&mut self, nodes: usize, memory_words: usize) -> Result<Answer, No> {

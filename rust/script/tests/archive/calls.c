@@ -28,8 +28,7 @@ u64 tarvelgyo_output_control(u32 *, u64, u16 *, u64, u64 slot, u64 end, u8 value
 u64 tarvelgyo_input_data(u32 *, u64, const u16 *, u64, u64 slot, u64 end);
 u64 tarvelgyo_input_control(u32 *, u64, const u16 *, u64, u64 slot, u64 end);
 u64 tarvelgyo_step(u32 *, u64, u16 *, u64, u64 slot, u64 port);
-// STAND-IN: when the archive has it.
-// u64 tarvelgyo_steps(u32 *, u64, u16 *, u64, const struct record *list, u64 records, u64 *results, u64 room);
+u64 tarvelgyo_steps(u32 *, u64, u16 *, u64, const struct record *list, u64 records, u64 *results, u64 room);
 u64 tarvelgyo_state_words(void);
 
 // Of the C library; the toolchain has no headers.
@@ -76,11 +75,7 @@ static u64 steps(void) {
     for (u64 i = 0; i < many; i++) list[i].slot = number(), list[i].port = number();
     results = calloc(room + 1, sizeof(u64));
     for (u64 i = 0; i < room; i++) results[i] = unwritten;
-    // STAND-IN: until the archive has tarvelgyo_steps, the same by single Steps. Then these three lines go, and the next one holds.
-    if (room != many) return 2;
-    for (u64 i = 0; i < many; i++) results[i] = tarvelgyo_step(state, words, memory, tokens, list[i].slot, list[i].port);
-    return 1UL << 32;
-    // return tarvelgyo_steps(state, words, memory, tokens, list, many, results, room);
+    return tarvelgyo_steps(state, words, memory, tokens, list, many, results, room);
 }
 
 #define CALL(name, ...) \
