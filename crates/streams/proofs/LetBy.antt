@@ -103,8 +103,11 @@ module _ (makes : Call → Bool) (say : Answer) where
 
       pub let-by : (cs : List Call) → Demand3 (seenOf n cs .books) (seenOf n cs .misread)
       let-by cs =
-          rw (sym (flat-lone cs), seen-lone (λ w c. lame w c .next) anews (λ w c. lame w c .answer) write jot reads portIn (lones cs)
-          (freshWorld n) unseen) (demand-3 isLink machine observer reading (lones cs))
+          rw (
+            sym (flat-lone cs),
+            seen-lone (λ w c. lame w c .next) anews (λ w c. lame w c .answer) write jot reads portIn (lones cs)
+                (freshWorld n) unseen,
+          ) (demand-3 isLink machine observer reading (lones cs))
 
 -- ONE THAT REFUSES ALL
 abbrev none : Call → Bool

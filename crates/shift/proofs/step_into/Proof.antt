@@ -19,8 +19,7 @@ returns c =
     let start = asked .before .before .before .before .before .before in
     let a = start .args in
     let w = world (a .st .now) (a .mem .now) in
-    let sure = known-from (a .sure) w (asked .known .result) (asked .known .ensures) (start .pre .1) in
-    (
+    let sure = known-from (a .sure) w (asked .known .result) (asked .known .ensures) (start .pre .1) in (
       kept-on (asked .known .result) w _ _ _ (made .step .ensures) sure,
       stored w (a .results .now) (a .i) (a .slot) (a .port) _ _ _ (made .step .ensures) (c .answer-number .ensures),
     )
