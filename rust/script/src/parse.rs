@@ -219,10 +219,20 @@ fn read_answer(text: &str) -> Result<Answer, Expected> {
     match (words.next(), words.next()) {
         (Some("results"), None) => Ok(Answer::Results(Vec::new())),
         (Some("results"), Some(answers)) => {
-            let answers = answers.split(';').map(read_single);
+            let answers = answers.split(';').map(read_stepped);
             Ok(Answer::Results(answers.collect::<Result<_, _>>()?))
         }
         _ => read_single(text),
+    }
+}
+
+/// What the Step of one record answers.
+fn read_stepped(text: &str) -> Result<Answer, Expected> {
+    match read_single(text)? {
+        Answer::Done | Answer::Granted(_) | Answer::Token(_) => {
+            Err(expected("an answer of a Step", Some(text.trim())))
+        }
+        answer => Ok(answer),
     }
 }
 

@@ -165,7 +165,7 @@ fn lines_are_counted_through() {
 
 /// Lines that are no call, and what was expected.
 #[rustfmt::skip]
-const BAD_LINES: [(&str, &str); 42] = [
+const BAD_LINES: [(&str, &str); 44] = [
     ("jump 0 0", "expected fresh, wire, set, aim, output, input, step or steps, found jump"),
     ("-> done # 0000000000000000", "expected fresh, wire, set, aim, output, input, step or steps, found nothing"),
     ("step 0", "expected a port, found nothing (step SLOT PORT)"),
@@ -206,6 +206,8 @@ const BAD_LINES: [(&str, &str); 42] = [
     ("steps 1 0 8 -> results ; moved # 0000000000000000", "expected an answer, found nothing"),
     ("steps 1 0 8 -> results moved moved # 0000000000000000", "expected no more words, found moved"),
     ("steps 1 0 8 -> results results # 0000000000000000", "expected an answer, found results"),
+    ("steps 1 0 8 -> results done # 0000000000000000", "expected an answer of a Step, found done"),
+    ("steps 1 0 8 -> results token 7 # 0000000000000000", "expected an answer of a Step, found token 7"),
     ("steps 1 0 8 -> results; moved # 0000000000000000", "expected an answer, found results;"),
     ("steps 1 0 8 -> moved; moved # 0000000000000000", "expected an answer, found moved;"),
 ];
