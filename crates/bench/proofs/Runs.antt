@@ -1,7 +1,7 @@
 -- Three runs of calls on two boards, computed: an update during which circuits are open, and the two examples of document 01, "Both sides
 -- of the line", that need a network. What an observer has then written down is in streams/proofs/Runs.antt. Assumes nothing.
 use Prim.Native.Nat.{ℕ}
-use mathlib.Core.Path.{refl}
+use mathlib.Core.Path.{_≡_, refl}
 use mathlib.Core.List.{List, [], _∷_, _++_, map}
 use lib.ListN.{replicate}
 use Rattle.names.specs.declared.Slot.{Slot}
@@ -16,8 +16,9 @@ use Rattle.ends.specs.declared.Token.the-variants.{Data, Control}
 use Rattle.ends.specs.declared.Wanted.the-variants as Wanted
 use Rattle.ends.specs.declared.aim.Goal.the-variants.{Channel, Unit}
 use Rattle.kept.proofs.Computes.{computes}
-use Rattle.bench.specs.Calls.{Call, Wire, Set, Aim, Output, Input, Step}
-use Rattle.bench.proofs.Computed.{Script, Runs, runs}
+use Rattle.bench.specs.Calls.{Call, Wire, Set, Aim, Output, Input, Step, Steps}
+use Rattle.bench.specs.Runs.{flat}
+use Rattle.bench.proofs.Computed.{Script, calls, Runs, runs}
 
 -- CALLS OF ONE KIND
 -- so many Steps of a port, all with one answer
@@ -143,6 +144,18 @@ narrowed =
     ++ ((Step lane 12, Idle) ∷ (Step hub 0, Refused Split) ∷ [])
     ++ steps 3 hub 0 (Dropped Split)
     ++ ((Step hub 0, Idle) ∷ [])
+
+-- the half-done update once more, its Steps as two lists: the lane's port 8, then the hub's port 0
+abbrev pub halfwayByLists : List Call
+halfwayByLists =
+    calls joined
+    ++ (Set hub (Width 1) ∷ Aim lane 0 (Channel 0 5) 0 ∷ [])
+    ++ calls (outputs lane 0 (Data 7 ∷ Control 1 ∷ []))
+    ++ (Steps 6 (replicate 6 (record { slot = 1; port = 8 })) ∷ Steps 7 (replicate 7 (record { slot = 0; port = 0 })) ∷ [])
+
+-- .. is that very run
+pub by-lists : flat halfwayByLists ≡ calls halfway
+by-lists = refl
 
 -- THE ANSWERS, one by one
 pub update-answers : Runs 2 update

@@ -7,6 +7,10 @@ ghost use mathlib.Core.Path.{_≡_};
 ghost use Rattle.cells.specs.World.{world};
 ghost use Rattle.shift.specs.Lists.{listed, listMade};
 
+// What the call itself answers, as the number that every answer crosses as: NoSuch, and Done.
+const NO_SUCH: u64 = 2;
+const DONE: u64 = 0x1_0000_0000;
+
 // Each record's Step in order, its answer's number at its place of the results; results of another length than
 // the list are refused, and nothing is done. Nothing is known of the state before the first record.
 #[no_mangle]
@@ -19,7 +23,7 @@ pub extern "C" fn tarvelgyo_steps(
     ensures { λ r. ⌜ listed r (world (now (st .exit)) (now (mem .exit))) (now (results .exit)) ≡ listMade (world (now (st .entry)) (now (mem .entry))) (now (results .entry)) (now (list .entry)) ⌝ }
 {
     if results.len() != list.len() {
-        return 2;
+        return NO_SUCH;
     }
     let mut sure = false;
     let mut i = 0;
@@ -28,5 +32,5 @@ pub extern "C" fn tarvelgyo_steps(
         sure = step_into(st, mem, results, i, x.slot, x.port, sure);
         i = i + 1;
     }
-    0x1_0000_0000
+    DONE
 }

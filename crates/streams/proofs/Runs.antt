@@ -18,7 +18,7 @@ use Rattle.bench.specs.Calls.{Call, apply}
 use Rattle.bench.specs.Runs.{flat}
 use Rattle.bench.proofs.Lasts.{call-keeps}
 use Rattle.bench.proofs.Computed.{applied, sound-row, Script, calls, fresh-kept}
-use Rattle.bench.proofs.Runs.{update, halfway, narrowed}
+use Rattle.bench.proofs.Runs.{update, halfway, halfwayByLists, by-lists, narrowed}
 use Rattle.streams.specs.Model.{Info, Given, Fate, Lost, Landed, Here, noBooks, alter, portNo, doorNo, unitDoor, marks}
 use Rattle.streams.specs.Watch.{Seen, unseen, sees, seen}
 use Rattle.streams.specs.Observer.{write, jot, anew, misreads, portIn}
@@ -163,6 +163,10 @@ pub halfway-books : Shows halfway accounts
     ∷ [])
 unfolding computes alter noBooks
 halfway-books = shown halfway accounts refl
+
+-- .. and by lists of steps the same
+pub by-lists-books : observed 2 halfwayByLists ≡ observed 2 (calls halfway)
+by-lists-books = ap (watched apply (freshWorld 2) unseen) by-lists
 
 -- "A message sets a node to one-byte": the message was heard, and nothing of the reply was handed
 pub narrowed-books : Shows narrowed accounts
