@@ -9,6 +9,7 @@ ghost use Rattle.shift.specs.Lists.{listed, listMade};
 
 // What the call itself answers, as the number that every answer crosses as: NoSuch, and Done.
 const NO_SUCH: u64 = 2;
+
 const DONE: u64 = 0x1_0000_0000;
 
 // Each record's Step in order, its answer's number at its place of the results; results of another length than
