@@ -10,6 +10,6 @@ abbrev pub Sure : Bool → World → Type 0
 Sure true w = (sound w ≡ true) × (tight w ≡ true)
 Sure false w = Unit
 
--- known before, or found
-abbrev pub known : Bool → World → Bool
-known sure w = sure || (sound w && tight w)
+-- known before; or found, where there are more records to come
+abbrev pub known : Bool → Bool → World → Bool
+known sure more w = sure || (more && (sound w && tight w))

@@ -15,12 +15,15 @@ ghost use Rattle.shift.specs.Lists.{left, oneStep};
 ghost use Rattle.shift.specs.Needs.{Sure, known};
 
 // The state is sound and tight: it was at the record before, and every Step keeps it so, or it is found to be
-// so now. Nothing is tested where it is known.
-fn known(st: &[u32], mem: &[u16], sure: bool) -> bool
-    ensures { λ r. ⌜ r ≡ known sure (world (now (st .entry)) (now (mem .entry))) ⌝ }
+// so now. Nothing is tested where it is known, or where no record is to come that has use of it.
+fn known(st: &[u32], mem: &[u16], sure: bool, more: bool) -> bool
+    ensures { λ r. ⌜ r ≡ known sure more (world (now (st .entry)) (now (mem .entry))) ⌝ }
 {
     if sure {
         return true;
+    }
+    if !more {
+        return false;
     }
     if !is_sound(st, mem) {
         return false;
@@ -52,7 +55,7 @@ pub fn step_into(
     requires { ⌜ (i < length (now results)) × Sure sure (world (now st) (now mem)) ⌝ }
     ensures { λ r. ⌜ Sure r (world (now (st .exit)) (now (mem .exit))) × (left (world (now (st .exit)) (now (mem .exit))) (now (results .exit)) ≡ oneStep (left (world (now (st .entry)) (now (mem .entry))) (now (results .entry))) i slot port) ⌝ }
 {
-    let sure = known(st, mem, sure);
+    let sure = known(st, mem, sure, i + 1 < results.len());
     let a = step(st, mem, Slot(slot), port, sure);
     results[i] = answer_number(a);
     sure

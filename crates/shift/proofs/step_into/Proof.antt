@@ -1,4 +1,7 @@
 -- `shift::step_into` meets its contract. Assumes nothing.
+use Prim.Native.Nat.{_+_}
+use lib.Dec.{ltb}
+use lib.ListN.{length}
 use borrow.Author.Needs.{needs}
 use Rattle.cells.specs.World.{world}
 use Rattle.shift.proofs.Sures.{known-from, kept-on, stored}
@@ -10,7 +13,8 @@ step-requires c κs =
     let asked = c .before .before in
     let start = asked .before .before .before .before .before .before in
     let a = start .args in
-    known-from (a .sure) (world (a .st .now) (a .mem .now)) _ (asked .known .ensures) (start .pre .1)
+    let more = ltb (a .i + 1) (length (a .results .now)) in
+    known-from (a .sure) more (world (a .st .now) (a .mem .now)) (asked .known .result) (asked .known .ensures) (start .pre .1)
 
 returns : tie.Need-returns
 returns c =
@@ -19,7 +23,8 @@ returns c =
     let start = asked .before .before .before .before .before .before in
     let a = start .args in
     let w = world (a .st .now) (a .mem .now) in
-    let sure = known-from (a .sure) w (asked .known .result) (asked .known .ensures) (start .pre .1) in (
+    let more = ltb (a .i + 1) (length (a .results .now)) in
+    let sure = known-from (a .sure) more w (asked .known .result) (asked .known .ensures) (start .pre .1) in (
       kept-on (asked .known .result) w _ _ _ (made .step .ensures) sure,
       stored w (a .results .now) (a .i) (a .slot) (a .port) _ _ _ (made .step .ensures) (c .answer-number .ensures),
     )
@@ -28,6 +33,7 @@ pub step-into-spec : {M : Type 1} → statement M
 step-into-spec =
     tie.close
     (tie.spec
+    (λ c. search needs)
     (λ c κs. search needs)
     step-requires
     (λ c κs. search needs)
