@@ -32,7 +32,7 @@ use Rattle.bench.specs.Calls.{Call, Fresh, Wire, Set, Aim, Output, Input
 use Rattle.bench.specs.Runs.{run}
 use Rattle.bench.specs.Lasts.{OtherBoards, NeverUnsound, Throughout}
 use Rattle.bench.proofs.Applied.{exactly, accepted}
-use Rattle.bench.proofs.Stepped.{step-made, stepped-keeps}
+use Rattle.bench.proofs.EachStep.{step-made, stepped-keeps}
 use Rattle.bench.proofs.Started.{started}
 
 -- ONE CALL, with any arguments: as many boards as before, since a Fresh of another number is refused

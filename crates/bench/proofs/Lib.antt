@@ -6,7 +6,7 @@ pub mod Numbers
 pub mod Cabled
 pub mod Started
 pub mod Waits
-pub mod Stepped
+pub mod EachStep
 pub mod Untouched
 pub mod Frees
 pub mod Stays

@@ -39,14 +39,16 @@ pub use Rattle.bench.proofs.Frees.{step-frees}
 pub use Rattle.bench.specs.Stays.{EndsCircuit}
 pub use Rattle.bench.proofs.Stays.{circuit-stays, goes-behind, goes-straight, behind-last, straight-last, circuit-ends}
 -- each number of each call: given exactly where no earlier row refuses and its own condition holds
-pub use Rattle.bench.proofs.Numbers.{NoEarlier, Refused, fresh-no-such, fresh-unsound, wire-unsound, wire-no-such, wire-value, wire-busy}
+pub use Rattle.bench.proofs.Numbers.{NoEarlier, Refused, fresh-no-such, fresh-unsound}
+pub use Rattle.bench.proofs.Numbers.{wire-unsound, wire-no-such, wire-value, wire-busy}
 pub use Rattle.bench.proofs.Numbers.{set-unsound, set-no-such, set-value, set-busy, aim-unsound, aim-no-such, aim-value, aim-open}
 pub use Rattle.bench.proofs.Numbers.{output-unsound, output-no-such, output-unaimed, output-hardware, output-privileged}
 pub use Rattle.bench.proofs.Numbers.{output-narrow, output-full, input-unsound, input-no-such, input-empty, input-trap}
 pub use Rattle.bench.proofs.Numbers.{step-unsound, step-no-such, steps-no-such}
 -- a write by switch message is the same Sets made by call, or nothing; the Step that ends the message is those Sets and the reply
 pub use Rattle.bench.proofs.Written.{none-refused, writes-as-sets, call-writes, call-refuses}
--- a list of steps is the same Steps made one by one, on any memory; the length of its results is looked at first; Unsound is each record's own
+-- a list of steps is the same Steps made one by one, on any memory; the length of its results is looked at first; Unsound is each
+-- record's own
 pub use Rattle.bench.proofs.Lists.{by-call, left-by-steps, results-by-steps, list-done, length-first}
 pub use Rattle.bench.proofs.Lists.{unsound-results, unsound-left, results-sure}
 -- OVER EVERY RUN
@@ -59,7 +61,8 @@ pub use Rattle.bench.proofs.Lasts.{always-sound, never-unsound, since-f
 pub use Rattle.bench.proofs.Stays.{circuit-lasts}
 -- what holds of every link of every state: room, silence while disabled, nobody's while disabled, disabling once more
 pub use Rattle.bench.proofs.Lasts.{always-room, always-silent, always-unused, always-disabled}
--- THE LOOKS: what may be read of a state, each a contract of its own for any words (`at` of each kind of record in `cells`, `looks`, `sound`)
+-- THE LOOKS: what may be read of a state, each a contract of its own for any words (`at` of each kind of record in `cells`; `looks`,
+-- `sound`)
 -- a node, link, port, tile link, channel-end and control unit by slot and place; how many nodes there are
 pub use Rattle.cells.specs.View.{Net, view, wholeLink, wholePort, wholeEnd, wholeUnit}
 -- a direction entry, the i-th token of a port and of a channel-end

@@ -52,7 +52,7 @@ use Rattle.bench.specs.Calls.{Call, Fresh, Wire, Set, Aim, Output, Input
 use Rattle.bench.specs.Runs.{run}
 use Rattle.bench.specs.Stays.{EndsCircuit}
 use Rattle.bench.proofs.Applied.{numbered, accepted, refused-changes-nothing}
-use Rattle.bench.proofs.Stepped.{step-made, stepped-keeps}
+use Rattle.bench.proofs.EachStep.{step-made, stepped-keeps}
 use Rattle.bench.proofs.Untouched.{Untouched, put-leaves, all-leave, took-leaves, strip-leaves, cross-leaves, end-leaves}
 
 -- where channel-ends send is no part of what ports hold or of credits, and no Set changes it

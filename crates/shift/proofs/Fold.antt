@@ -89,7 +89,8 @@ module _ (ys : List StepRecord) (st₀ mem₀ res₀ : List ℕ) where
   -- one record more is done
   abbrev pub next : (t : At) (sure : Bool) (st mem results : List ℕ) → t .i < length ys
       → Sure sure (world st mem)
-      → left (world st mem) results ≡ oneStep (left (world (t .st) (t .mem)) (t .results)) (t .i) (getD ys (t .i) none .slot) (getD ys (t .i) none .port)
+      → left (world st mem) results
+      ≡ oneStep (left (world (t .st) (t .mem)) (t .results)) (t .i) (getD ys (t .i) none .slot) (getD ys (t .i) none .port)
       → length st ≡ length (t .st) → length mem ≡ length (t .mem) → length results ≡ length (t .results) → At
   next t sure st mem results h known o a b c =
       record {

@@ -1,5 +1,5 @@
--- What a host has of a list, word for word: whatever meets the contract of `host::list::tarvelgyo_steps` (st, mem and rs were lent; zt, nem,
--- qs and the number r came back) is the same Steps made one by one, or nothing at all. Assumes nothing.
+-- What a host has of a list, word for word: whatever meets the contract of `host::list::tarvelgyo_steps` (st, mem and rs were lent; zt,
+-- nem, qs and the number r came back) is the same Steps made one by one, or nothing at all. Assumes nothing.
 use Prim.Native.Nat.{ℕ}
 use mathlib.Core.Path.{_≡_, refl, sym, ap, _∙_}
 use mathlib.Core.List.{List, map}

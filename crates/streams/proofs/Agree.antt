@@ -60,7 +60,8 @@ use Rattle.streams.proofs.Machine.{line-tokens, no-cells}
 use Rattle.streams.proofs.Fronts.{reads}
 use Rattle.streams.proofs.Sends.{putEach}
 use Rattle.streams.proofs.Noted.{AimsNoted}
-use Rattle.streams.proofs.Calls.{replyEvents, obeyEvents, stepEvents, outputEvents, done, isList, noEvent, madeEvents, eventsOf, is-event}
+use Rattle.streams.proofs.Calls.{replyEvents, obeyEvents, stepEvents, outputEvents, madeEvents, eventsOf}
+use Rattle.streams.proofs.Calls.{done, isList, noEvent, is-event}
 
 -- tokens put one by one
 puts-noted : (ts : List ℕ) (e d : ℕ) (g : Ghost) → booksOf (notes (putEach e d ts) g) ≡ putAll e d ts (booksOf g)

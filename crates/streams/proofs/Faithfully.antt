@@ -74,7 +74,8 @@ module _ (n : ℕ) (some : 1 ≤ n) (few : n ≤ nodes) where
       (seen-lone (λ w c. apply w c .next) anew (λ w c. apply w c .answer) write jot misreads portIn (lones cs) (freshWorld n) unseen)
 
   -- and the run leaves what they leave
-  singly-reached : (cs : List Call) → run (freshWorld n) cs .last ≡ runAll (λ w (c : Lone). apply w (c .call) .next) (freshWorld n) (lones cs)
+  singly-reached : (cs : List Call)
+      → run (freshWorld n) cs .last ≡ runAll (λ w (c : Lone). apply w (c .call) .next) (freshWorld n) (lones cs)
   singly-reached cs =
       sym (flat-left cs (freshWorld n))
       ∙ run-left (flat cs) (freshWorld n)

@@ -1,7 +1,8 @@
 -- THE OBSERVER: what a person beside the bench writes down of each call, who sees the state before it, the call and its answer, and has his
 -- own notes: no plan, no event, nothing that a header says. Document 01 is all that he knows: an Output that is done opens a circuit where
--- the channel-end had none, within the node or through the lowest free port; a Step that answers Moved takes the port's first word. A list of
--- steps he sees as its Steps, each with the state before it and its result (Statement.antt): of `Steps` itself nothing is written here.
+-- the channel-end had none, within the node or through the lowest free port; a Step that answers Moved takes the port's first word.
+-- A list of steps he sees as its Steps, each with the state before it and its result (Statement.antt): of `Steps` itself nothing is
+-- written here.
 use Prim.Native.Nat.{ℕ, suc}
 use mathlib.Core.Bool.{Bool, true, false, not, _&&_}
 use mathlib.Core.List.{List, [], _∷_, _++_}

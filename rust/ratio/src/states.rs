@@ -39,17 +39,7 @@ pub fn empty(boards: usize) -> State {
 /// in the circuits of ports 8..11, which channel-ends 0..3 send by. The ports behind links E..H have
 /// circuits too, port 4 to channel 7 and the others outward. Channel-ends 8..11 send straight to 16..19.
 pub fn half_full(boards: usize) -> State {
-    let mut lent = Lent::default();
-    make(&mut lent, fresh(boards));
-    for slot in 0..boards {
-        connect(&mut lent, slot, boards);
-    }
-    for slot in 0..boards {
-        enable(&mut lent, slot);
-    }
-    for slot in 0..boards {
-        greet(&mut lent, slot);
-    }
+    let mut lent = linked(boards);
     for slot in 0..boards {
         send_streams(&mut lent, slot);
         send_straight(&mut lent, slot);
@@ -67,6 +57,16 @@ pub fn half_full(boards: usize) -> State {
 /// port over one link. Of the ports 8..11 the first two have a message for the sink of their own
 /// board, the others one for channel 7, where the replies in port 12 are for too.
 pub fn going_round(boards: usize) -> State {
+    let mut lent = linked(boards);
+    for slot in 0..boards {
+        send_round(&mut lent, slot);
+        send_home(&mut lent, slot);
+    }
+    of_lent(with_replies(lent, 0), boards)
+}
+
+/// So many boards with their cables, links enabled and greeted.
+fn linked(boards: usize) -> Lent {
     let mut lent = Lent::default();
     make(&mut lent, fresh(boards));
     for slot in 0..boards {
@@ -78,11 +78,7 @@ pub fn going_round(boards: usize) -> State {
     for slot in 0..boards {
         greet(&mut lent, slot);
     }
-    for slot in 0..boards {
-        send_round(&mut lent, slot);
-        send_home(&mut lent, slot);
-    }
-    of_lent(with_replies(lent, 0), boards)
+    lent
 }
 
 /// Four messages of 8 tokens over each link.

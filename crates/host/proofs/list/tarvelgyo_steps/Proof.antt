@@ -1,5 +1,5 @@
--- `host::list::tarvelgyo_steps` meets its contract: a walk of its MIR, by hand, with one branch and one loop. A turn looks into the lent list
--- for the record at place i, lends the three other slices again to `step_into`, each for a lifetime that is made for the call, and has
+-- `host::list::tarvelgyo_steps` meets its contract: a walk of its MIR, by hand, with one branch and one loop. A turn looks into the lent
+-- list for the record at place i, lends the three other slices again to `step_into`, each for a lifetime that is made for the call, and has
 -- them back. All that the proof knows of `step_into` is that it meets its contract. What a turn keeps is the `At` of shift's `Fold.antt`,
 -- and the variant is the number of records left.
 -- Until the slices are lent again the context is [the four tokens; what the four parameters own; the frame], so that local k is entry
