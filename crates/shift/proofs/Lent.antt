@@ -45,9 +45,9 @@ module _ (st mem rs zt nem qs : List ℕ) (xs : List StepRecord) (r : ℕ)
       )
 
   -- "a results buffer of another length than the list is NoSuch, and nothing is done": every lent word is as it was
-  pub refused-as-lent : (length rs ≡ length xs → ⊥) → (r ≡ answerNumber (No (number NoSuch))) × (zt ≡ st) × (nem ≡ mem) × (qs ≡ rs)
+  pub list-as-lent : (length rs ≡ length xs → ⊥) → (r ≡ answerNumber (No (number NoSuch))) × (zt ≡ st) × (nem ≡ mem) × (qs ≡ rs)
   unfolding listMade apply
-  refused-as-lent other =
+  list-as-lent other =
       let d = rw (ne-eqb (length rs) (length xs) other) at e in (
         ap (λ (x : Listed). x .number) d,
         whole-state zt st (ap (λ (x : Listed). x .after .next .net) d),

@@ -2,7 +2,7 @@
 
 use crate::refusal::{Cause, Refusal};
 
-/// An answer of any call. `crates/host/specs/Crossed.antt` says which number stands for it across
+/// An answer of any call. `crates/answers/specs/Answer.antt` says which number stands for it across
 /// C.
 #[derive(Clone, Copy, Debug, PartialEq, Eq, Hash)]
 pub enum Answer {

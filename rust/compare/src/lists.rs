@@ -24,7 +24,7 @@ fn step(lent: &mut Lent, StepRecord { slot, port }: StepRecord) -> Found {
 }
 
 /// The number that the answer of a Step crosses as: its case in the upper half, what the case
-/// carries in the lower. Written down here a second time, beside `crates/host/specs/Crossed.antt`.
+/// carries in the lower. Written down here a second time, beside `crates/answers/specs/Answer.antt`.
 pub fn crossed(answer: Found) -> u64 {
     let (case, carried): (u64, u32) = match answer {
         Found::No(refusal) => (0, refusal.number()),
