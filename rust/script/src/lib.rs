@@ -37,4 +37,4 @@ pub use answer::{Answer, Opening};
 pub use call::{Call, FORMS};
 pub use host::{Host, Made, Outcome};
 pub use parse::{parse, Line};
-pub use play::{check, run, Fault};
+pub use play::{check, run, Fault, HEAD};

@@ -158,8 +158,13 @@ fn say_what_fails(file: &str, made: &Made) {
 fn run(file: &str) -> Ended {
     let text = read(file)?;
     let mut out = io::BufWriter::new(io::stdout().lock());
+    let mut head = Some(script::HEAD);
     let ran = script::run(&text, |made| {
         say_what_fails(file, made);
+        // Behind the first call: of a script with a bad line nothing is printed.
+        if let Some(head) = head.take() {
+            writeln!(out, "{head}")?;
+        }
         writeln!(out, "{made}")
     });
     let flushed = out.flush();

@@ -8,6 +8,9 @@ use crate::host::{Host, Made, Outcome};
 use crate::parse::{parse, Line};
 use crate::words::Expected;
 
+/// What a trace begins with: the Asks of document 02 that it was made with. A comment to every reader.
+pub const HEAD: &str = "// asks 1";
+
 /// Why a script was not run to its end.
 #[derive(Debug)]
 pub enum Fault {

@@ -212,7 +212,8 @@ fn an_unsound_memory_is_explained() {
     let path = file("unsound.txt", "fresh 1 831\nset 0 width 0 1\n");
     let output = bench(&["run", &path]);
     assert!(output.status.success());
-    let expected = "fresh 1 831 -> no 1 # 0000000000000000\n\
+    let expected = "// asks 1\n\
+                    fresh 1 831 -> no 1 # 0000000000000000\n\
                     set 0 width 0 1 -> no 1 # 0000000000000000\n";
     assert_eq!(text(&output.stdout), expected);
     let clause = "unsound memory, clause 1: both memories have the lengths of 1 to 16 nodes";
@@ -230,7 +231,8 @@ fn an_unsound_memory_is_explained_for_a_list() {
     );
     let output = bench(&["run", &path]);
     assert!(output.status.success());
-    let expected = "steps 0 -> results # 0000000000000000\n\
+    let expected = "// asks 1\n\
+                    steps 0 -> results # 0000000000000000\n\
                     steps 1 0 8 0 8 -> no 2 # 0000000000000000\n\
                     steps 2 0 8 0 8 -> results no 1; no 1 # 0000000000000000\n";
     assert_eq!(text(&output.stdout), expected);
@@ -253,7 +255,7 @@ fn a_list_that_differs_is_named() {
         let output = bench(&["check", &path]);
         assert_eq!(output.status.code(), Some(1), "{other}");
         let complaint = text(&output.stderr);
-        let gives = format!("{path}: line 2: {line} gives results idle; no 2 # ");
+        let gives = format!("{path}: line 3: {line} gives results idle; no 2 # ");
         assert!(complaint.starts_with(&gives), "{complaint}");
     }
 }
