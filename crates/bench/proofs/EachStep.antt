@@ -1,5 +1,4 @@
 -- A list of steps, record by record: what each Step keeps, the list keeps. Assumes nothing.
-use Prim.Native.Nat.{ℕ}
 use mathlib.Core.List.{List, [], _∷_}
 use Rattle.answers.specs.Rows.{Passes}
 use Rattle.cells.specs.World.{World}

@@ -1,27 +1,29 @@
 -- A LIST OF STEPS is the same Steps made one by one (document 02, Ask 1): what it leaves and its results are those of `run` over them, on
 -- any memory. So a run with lists in it is a run without, and what holds of every run holds of it. Assumes nothing.
 use Prim.{tt}
-use Prim.Native.Nat.{ℕ}
+use Prim.Native.Nat.{ℕ, _≤_}
 use mathlib.Core.Path.{_≡_, refl, sym, ap, _∙_}
-use mathlib.Core.Bool.{true, false}
+use mathlib.Core.Bool.{false}
 use mathlib.Core.List.{List, [], _∷_, _++_, map}
 use lib.Dec.{eqb}
 use lib.ListN.{length}
 use borrow.Author.Tests.{eq-eqb, ne-eqb}
 use Rattle.laws.specs.All.{Each}
-use Rattle.laws.specs.Pick.{pick}
 use Rattle.laws.proofs.Order.{by-test}
 use Rattle.names.specs.No.{number, Unsound, NoSuch}
+use Rattle.names.specs.Size.{nodes}
 use Rattle.answers.specs.Out.{out}
 use Rattle.answers.specs.declared.Answer.{Answer}
 use Rattle.answers.specs.declared.Answer.the-variants.{No, Done}
 use Rattle.cells.specs.World.{World}
+use Rattle.cells.specs.Fresh.{freshWorld}
 use Rattle.sound.specs.Sound.{sound}
 use Rattle.kept.specs.Kept.{Kept}
 use Rattle.bench.specs.declared.StepRecord.{StepRecord}
 use Rattle.bench.specs.Calls.{Call, Fresh, Wire, Set, Aim, Output, Input, Step, Steps, stepBy, stepped, results, apply}
 use Rattle.bench.specs.Runs.{run, stepOf, stepsOf, singly, flat}
-use Rattle.bench.proofs.Lasts.{call-keeps, call-unsound}
+use Rattle.bench.proofs.Bounded.{Bounded, bounded}
+use Rattle.bench.proofs.Lasts.{call-keeps, call-unsound, run-keeps, fresh-keeps}
 
 -- ONE RECORD is the single call
 pub by-call : (w : World) (x : StepRecord) → stepBy w x ≡ apply w (stepOf x)
@@ -67,6 +69,18 @@ pub results-sure : (xs : List StepRecord) (w : World) → Kept w → Each (λ (a
 unfolding apply
 results-sure [] w k = tt
 results-sure (x ∷ xs) w k = (call-unsound w k (stepOf x), results-sure xs (stepBy w x .next) (call-keeps w k (stepOf x)))
+
+-- .. so of no list of any run from Fresh, whatever calls were made before it
+pub never-unsound-results : (n : ℕ) → 1 ≤ n → n ≤ nodes → (cs : List Call) (xs : List StepRecord)
+    → Each (λ (a : Answer). a ≡ No (number Unsound) → ⊥) (results (run (freshWorld n) cs .last) xs)
+never-unsound-results n some few cs xs =
+    results-sure xs (run (freshWorld n) cs .last) (run-keeps cs (freshWorld n) (fresh-keeps n some few))
+
+-- each result is within the bounds of answers, so that its number tells it (`one-answer` in host/proofs/Told.antt)
+pub results-bounded : (xs : List StepRecord) (w : World) → Each Bounded (results w xs)
+unfolding apply
+results-bounded [] w = tt
+results-bounded (x ∷ xs) w = (bounded w (stepOf x), results-bounded xs (stepBy w x .next))
 
 -- RUNS with lists in them
 run-append : (cs ds : List Call) (w : World) → run w (cs ++ ds) .last ≡ run (run w cs .last) ds .last

@@ -1,6 +1,7 @@
 -- WHAT A PRODUCT ABOVE THE BENCH MAY REST ON: every statement of the bench by its name, and no other. A later crate imports this page and
 -- nothing below it. Each call's contract (bench/src/lib.rt) is one equation, for all arguments and any two memories lent:
 --     out answer (world state' memory') ≡ apply (world state memory) CALL
+-- A list of steps is such a call too; its function, which has the words of the results besides, is host/src/list.rt.
 
 -- THE STATEMENTS' WORDS
 -- a world is the state as tables and the token memory; `world` reads it off two lent slices
@@ -50,10 +51,10 @@ pub use Rattle.bench.proofs.Written.{none-refused, writes-as-sets, call
 -- a list of steps is the same Steps made one by one, on any memory; the length of its results is looked at first; Unsound is each
 -- record's own
 pub use Rattle.bench.proofs.Lists.{by-call, left-by-steps, results-by-steps, list-done, length-first}
-pub use Rattle.bench.proofs.Lists.{unsound-results, unsound-left, results-sure}
+pub use Rattle.bench.proofs.Lists.{unsound-results, unsound-left, results-sure, results-bounded}
 -- OVER EVERY RUN
--- a run with lists in it leaves what its single calls leave
-pub use Rattle.bench.proofs.Lists.{flat-left}
+-- a run with lists in it leaves what its single calls leave; from Fresh on no record of a list is Unsound
+pub use Rattle.bench.proofs.Lists.{flat-left, never-unsound-results}
 -- what is kept is kept; no call changes how many boards there are; from Fresh on no call is Unsound but a Fresh of another number
 pub use Rattle.bench.specs.Lasts.{OtherBoards, NeverUnsound, Throughout}
 pub use Rattle.bench.proofs.Lasts.{call-keeps, run-keeps, fresh-keeps, call-boards, run-boards, boards}

@@ -1,6 +1,6 @@
 -- A grant to a link is one of four, and its credit with it is a number of 32 bits. Assumes nothing.
 use Prim.Native.Nat.{ℕ, _+_, _<_, _^_}
-use mathlib.Core.Path.{_≡_, refl, sym, ap, _∙_}
+use mathlib.Core.Path.{_≡_}
 use native.Mathlib.Omega.{arith}
 use mathlib.Core.Logic.{⊎-elim}
 use lib.Dec.{eqb}
@@ -9,8 +9,7 @@ use Rattle.laws.proofs.Table.{upd-own}
 use Rattle.credits.specs.Grant.{grantOf, Granted, none}
 use Rattle.credits.proofs.Grants.{enough, most}
 use Rattle.credits.proofs.Grants as Rules
-use Rattle.cells.specs.View.{Net, withFlow}
-use Rattle.cells.specs.Changes.{creditAs}
+use Rattle.cells.specs.View.{Net}
 use Rattle.cells.specs.declared.link.Cable.{Cable}
 use Rattle.cells.specs.declared.link.Flow.{Flow}
 use Rattle.grants.specs.Grants.{grantTo, granted, considered, farHeld, greets, helloGrant}

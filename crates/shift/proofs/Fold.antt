@@ -1,23 +1,22 @@
 -- What a turn of the list's function has: the records before place i are done, and the rest, made from here, gives what the whole list
 -- gives. Assumes nothing.
 use mathlib.Core.Path.{_≡_, refl, sym, ap, _∙_}
-use mathlib.Core.Bool.{Bool, true, false, not}
+use mathlib.Core.Bool.{Bool, false}
 use mathlib.Core.List.{List, [], _∷_, _++_, map, append-assoc, append-nil}
-use Prim.Native.Nat.{ℕ, suc, _+_, _-_, _<_, _≤_}
+use Prim.Native.Nat.{ℕ, _+_, _-_, _<_, _≤_}
 use Prim.{tt}
 use native.Mathlib.Numerals.{add-one}
 use native.Mathlib.Omega.{arith}
-use lib.ListN.{length, set, take, drop, getD, length-set}
+use lib.ListN.{length, take, drop, getD, length-set}
 use lib.Seq.{drop-cons, drop-length}
 use lib.Seq.{take-suc-set, take-all}
 use borrow.Author.Tests.{eq-eqb, ne-eqb}
 use Rattle.answers.specs.Answer.{answerNumber}
-use Rattle.answers.specs.declared.Answer.{Answer}
 use Rattle.cells.specs.World.{World, world}
 use Rattle.bench.specs.declared.StepRecord.{StepRecord}
 use Rattle.bench.specs.Calls.{stepBy, stepped, results, apply}
 use Rattle.shift.specs.Needs.{Sure}
-use Rattle.shift.specs.Lists.{Left, left, Listed, listed, oneStep, listMade}
+use Rattle.shift.specs.Lists.{Left, left, listed, oneStep, listMade}
 
 -- the records from place i on, in order
 unfoldable pub stepsFrom : Left → ℕ → List StepRecord → Left

@@ -1,20 +1,20 @@
 -- What a host has of a list, word for word: whatever meets the contract of `host::list::tarvelgyo_steps` (st, mem and rs were lent; zt,
 -- nem, qs and the number r came back) is the same Steps made one by one, or nothing at all. Assumes nothing.
 use Prim.Native.Nat.{ℕ}
-use mathlib.Core.Path.{_≡_, refl, sym, ap, _∙_}
+use mathlib.Core.Path.{_≡_, sym, ap, _∙_}
 use mathlib.Core.List.{List, map}
 use lib.ListN.{length}
 use borrow.Author.Tests.{eq-eqb, ne-eqb}
 use Rattle.names.specs.No.{number, NoSuch}
 use Rattle.answers.specs.Answer.{answerNumber}
 use Rattle.answers.specs.declared.Answer.the-variants.{No, Done}
-use Rattle.cells.specs.World.{World, world}
+use Rattle.cells.specs.World.{world}
 use Rattle.cells.proofs.Whole.{whole-state}
 use Rattle.bench.specs.declared.StepRecord.{StepRecord}
+use Rattle.bench.specs.Calls.{apply}
 use Rattle.bench.specs.Runs.{run, stepsOf}
 use Rattle.bench.proofs.Lists.{left-by-steps, results-by-steps}
 use Rattle.shift.specs.Lists.{Listed, listed, listMade}
-use Rattle.bench.specs.Calls.{apply}
 
 -- "show that two results meeting it are equal" (document 01): number, every word of the state, of token memory and of the results
 pub one-list : (l : Listed) (r q : ℕ) (st zt mem nem rs qs : List ℕ)

@@ -2,7 +2,7 @@
 -- which a Step leads to a state that does not pass it. The list's results are computed: Unsound begins in its middle. Assumes nothing.
 use Prim.Native.Nat.{ℕ}
 use mathlib.Core.Path.{_≡_, refl}
-use mathlib.Core.Bool.{Bool, true, false}
+use mathlib.Core.Bool.{true, false}
 use mathlib.Core.List.{List, [], _∷_}
 use lib.ListN.{set}
 use Rattle.laws.specs.All.{all, every}
@@ -15,7 +15,7 @@ use Rattle.tokens.specs.Word.{controlWord}
 use Rattle.ports.specs.Memory.{place}
 use Rattle.answers.specs.declared.Answer.the-variants as Answers
 use Rattle.cells.specs.View.{Net, withCounters, withLeg, withSender, withAim, withSending}
-use Rattle.cells.specs.World.{World, shaped}
+use Rattle.cells.specs.World.{World}
 use Rattle.cells.specs.Fresh.{freshNet, freshWorld}
 use Rattle.sound.specs.Tests.{holds}
 use Rattle.sound.specs.Questions.{everywhere}

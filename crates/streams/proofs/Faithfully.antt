@@ -1,8 +1,8 @@
 -- DEMAND 3, of the bench: for every number of boards and every run of calls from Fresh, Fresh and lists of steps among them. Assumes
 -- nothing.
 use Prim.Native.Nat.{ℕ, _≤_}
-use mathlib.Core.Path.{_≡_, refl, sym, ap, _∙_}
-use mathlib.Core.List.{List, [], _∷_, _++_}
+use mathlib.Core.Path.{_≡_, sym, ap, _∙_}
+use mathlib.Core.List.{List, _++_}
 use Rattle.names.specs.Size.{nodes}
 use Rattle.cells.specs.World.{World}
 use Rattle.cells.specs.Fresh.{freshWorld}
@@ -13,14 +13,14 @@ use Rattle.bench.proofs.Lists.{flat-left}
 use Rattle.kept.specs.Kept.{Kept}
 use Rattle.streams.specs.Model.{isLink, Fate, Flying}
 use Rattle.streams.specs.Demand.{Demand3, Ties}
-use Rattle.streams.specs.Watch.{Seen, unseen, NoneAnew, runAll}
+use Rattle.streams.specs.Watch.{unseen, NoneAnew, runAll}
 use Rattle.streams.specs.Observer.{write, jot, anew, misreads, portIn}
 use Rattle.streams.specs.Statement.{observed}
 use Rattle.streams.specs.View.{moving}
 use Rattle.streams.proofs.Machine.{Machine}
 use Rattle.streams.proofs.Splits.{Reading}
 use Rattle.streams.proofs.Seen.{Observer, sighted, fate-once, demand-3, so-tied}
-use Rattle.streams.proofs.Singly.{Lone, lones, calls, flat-lone, lones-append, run-lone, seen-lone, run-left, old-lone}
+use Rattle.streams.proofs.Singly.{Lone, lones, flat-lone, lones-append, run-lone, seen-lone, run-left, old-lone}
 use Rattle.streams.proofs.Calls.{eventsOf, call-leads, fresh-view, fresh-seen}
 use Rattle.streams.proofs.Ties.{Tied, tied-fresh, tied-anew, tied-call, ties-so}
 use Rattle.streams.proofs.Agree.{call-agrees}

@@ -2,7 +2,7 @@
 use Prim.{tt}
 use Prim.Native.Nat.{ℕ}
 use mathlib.Core.Path.{_≡_, refl, sym, ap, _∙_}
-use mathlib.Core.Bool.{Bool, true, false}
+use mathlib.Core.Bool.{Bool, false}
 use mathlib.Core.List.{List, [], _∷_, _++_, map, append-assoc}
 use lib.Dec.{eqb}
 use lib.ListN.{length}
@@ -44,18 +44,18 @@ lones [] = []
 lones (c ∷ cs) = loneOf c ++ lones cs
 
 -- they are the single calls of the run
-abbrev pub calls : List Lone → List Call
-calls ls = map (λ (l : Lone). l .call) ls
+abbrev pub callsIn : List Lone → List Call
+callsIn ls = map (λ (l : Lone). l .call) ls
 
-calls-append : (ls ms : List Lone) → calls (ls ++ ms) ≡ calls ls ++ calls ms
+calls-append : (ls ms : List Lone) → callsIn (ls ++ ms) ≡ callsIn ls ++ callsIn ms
 calls-append [] ms = refl
 calls-append (l ∷ ls) ms = ap (λ (cs : List Call). l .call ∷ cs) (calls-append ls ms)
 
-steps-lone : (xs : List StepRecord) → calls (loneSteps xs) ≡ stepsOf xs
+steps-lone : (xs : List StepRecord) → callsIn (loneSteps xs) ≡ stepsOf xs
 steps-lone [] = refl
 steps-lone (x ∷ xs) = ap (λ (cs : List Call). stepOf x ∷ cs) (steps-lone xs)
 
-singly-lone : (c : Call) → calls (loneOf c) ≡ singly c
+singly-lone : (c : Call) → callsIn (loneOf c) ≡ singly c
 singly-lone (Fresh n) = refl
 singly-lone (Wire a l b k) = refl
 singly-lone (Set a x) = refl
@@ -65,7 +65,7 @@ singly-lone (Input a c k) = refl
 singly-lone (Step a p) = refl
 singly-lone (Steps n xs) = by-test (eqb n (length xs)) (λ e. rw e (steps-lone xs)) (λ e. rw e)
 
-pub flat-lone : (cs : List Call) → calls (lones cs) ≡ flat cs
+pub flat-lone : (cs : List Call) → callsIn (lones cs) ≡ flat cs
 flat-lone [] = refl
 flat-lone (c ∷ cs) = rw (calls-append (loneOf c) (lones cs), singly-lone c, flat-lone cs)
 
@@ -75,13 +75,13 @@ lones-append (c ∷ cs) ds = rw (lones-append cs ds) (sym (append-assoc (loneOf 
 
 -- ANY MACHINE made on single calls is made on the calls that they are
 module _ {S : Type 0} (apply : S → Call → S) where
-  pub run-lone : (ls : List Lone) (s : S) → runAll apply s (calls ls) ≡ runAll (λ s l. apply s (l .call)) s ls
+  pub run-lone : (ls : List Lone) (s : S) → runAll apply s (callsIn ls) ≡ runAll (λ s l. apply s (l .call)) s ls
   run-lone [] s = refl
   run-lone (l ∷ ls) s = run-lone ls (apply s (l .call))
 
   module _ (anew : S → Call → Bool) {A : Type 0} (answer : S → Call → A) (write : Notes → S → Call → A → Books → Books)
       (jot : Call → A → Notes → Notes) (misreads : S → Call → Bool) (portIn : Call → ℕ) where
-    pub seen-lone : (ls : List Lone) (s : S) (k : Seen) → seen apply anew answer write jot misreads portIn s k (calls ls)
+    pub seen-lone : (ls : List Lone) (s : S) (k : Seen) → seen apply anew answer write jot misreads portIn s k (callsIn ls)
         ≡ seen (λ s (l : Lone). apply s (l .call)) (λ s l. anew s (l .call)) (λ s l. answer s (l .call)) (λ o s l. write o s (l .call))
         (λ l. jot (l .call)) (λ s l. misreads s (l .call)) (λ l. portIn (l .call)) s k ls
     seen-lone [] s k = refl
@@ -95,7 +95,7 @@ module _ where
   abbrev Old : World → List Lone → Type 0
   Old w ls = NoneAnew (λ w (l : Lone). left w (l .call)) (λ w l. anew w (l .call)) w ls
 
-  old-append : (ls ms : List Lone) (w : World) → Old w ls → Old (runAll left w (calls ls)) ms → Old w (ls ++ ms)
+  old-append : (ls ms : List Lone) (w : World) → Old w ls → Old (runAll left w (callsIn ls)) ms → Old w (ls ++ ms)
   old-append [] ms w h k = k
   old-append (l ∷ ls) ms w (h, hs) k = (h, old-append ls ms (left w (l .call)) hs k)
 
@@ -117,7 +117,7 @@ module _ where
   run-left [] w = refl
   run-left (c ∷ cs) w = run-left cs (left w c)
 
-  one-left : (w : World) (c : Call) → runAll left w (calls (loneOf c)) ≡ left w c
+  one-left : (w : World) (c : Call) → runAll left w (callsIn (loneOf c)) ≡ left w c
   one-left w c = rw (singly-lone c) (sym (run-left (singly c) w) ∙ singly-left w c)
 
   pub old-lone : (cs : List Call) (w : World) → NoneAnew left anew w cs → Old w (lones cs)
