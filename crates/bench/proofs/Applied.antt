@@ -19,7 +19,7 @@ use Rattle.switch.specs.Step.{stepPerformed}
 use Rattle.plans.specs.declared.Plan.{Plan}
 use Rattle.plans.specs.declared.Plan.the-variants.{Idle, Wait, OpenOut, OpenChannel, OpenUnit, Refuse, MoveOut, Hand, Hear, Drop}
 use Rattle.switch.proofs.Stepped.{heard-answers}
-use Rattle.bench.specs.Calls.{Call, Fresh, Wire, Set, Aim, Output, Input, Step, Steps, rows, made, apply}
+use Rattle.bench.specs.Calls.{Call, Begin, Wire, Set, Aim, Output, Input, Step, Steps, rows, made, apply}
 
 -- "show that two results meeting it are equal": answer, every word of the state, every word of token memory
 pub one-result : (w : World) (c : Call) (r q : Answer) (st zt mem nem : List ℕ)
@@ -48,7 +48,7 @@ no-refusal w n p (Drop x) = refl
 
 -- what a call makes is no refusal
 passing : (w : World) (c : Call) → numberOf (made w c .answer) ≡ Names.passes
-passing w (Fresh n) = refl
+passing w (Begin s n) = refl
 passing w (Wire a l b k) = refl
 passing w (Set a (Number v)) = refl
 passing w (Set a (Width v)) = refl
@@ -65,7 +65,7 @@ passing w (Steps n xs) = refl
 
 -- no call has two rows of one number
 once : (w : World) (c : Call) → distinct (rows w c) ≡ true
-once w (Fresh n) = refl
+once w (Begin s n) = refl
 once w (Wire a l b k) = refl
 once w (Set a x) = refl
 once w (Aim a c g v) = refl
@@ -74,9 +74,9 @@ once w (Input a c k) = refl
 once w (Step a p) = refl
 once w (Steps n xs) = refl
 
--- "The lowest number wins": the rows of a call stand in the order of their numbers; Fresh looks at the count before the lengths
+-- "The lowest number wins": the rows of a call stand in the order of their numbers; a start looks at the count before the lengths
 abbrev pub InOrder : World → Call → Type 0
-InOrder w (Fresh n) = rising 0 (rows w (Fresh n)) ≡ false
+InOrder w (Begin s n) = rising 0 (rows w (Begin s n)) ≡ false
 InOrder w (Wire a l b k) = rising 0 (rows w (Wire a l b k)) ≡ true
 InOrder w (Set a x) = rising 0 (rows w (Set a x)) ≡ true
 InOrder w (Aim a c g v) = rising 0 (rows w (Aim a c g v)) ≡ true
@@ -86,7 +86,7 @@ InOrder w (Step a p) = rising 0 (rows w (Step a p)) ≡ true
 InOrder w (Steps n xs) = rising 0 (rows w (Steps n xs)) ≡ true
 
 pub in-order : (w : World) (c : Call) → InOrder w c
-in-order w (Fresh n) = refl
+in-order w (Begin s n) = refl
 in-order w (Wire a l b k) = refl
 in-order w (Set a x) = refl
 in-order w (Aim a c g v) = refl

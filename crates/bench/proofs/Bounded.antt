@@ -39,7 +39,7 @@ use Rattle.plans.specs.declared.Plan.the-variants as Plans
 use Rattle.plans.proofs.Routes.{Routed, opens, waits, discards, routed}
 use Rattle.switch.specs.Step.{stepPerformed}
 use Rattle.switch.proofs.Stepped.{heard-answers}
-use Rattle.bench.specs.Calls.{Call, Fresh, Wire, Set, Aim, Output, Input, Step, Steps, rows, made, apply}
+use Rattle.bench.specs.Calls.{Call, Begin, Wire, Set, Aim, Output, Input, Step, Steps, rows, made, apply}
 
 abbrev pub Bounded : Answer → Type 0
 Bounded (No n) = (1 ≤ n) × (n ≤ 12)
@@ -150,7 +150,7 @@ performed w n p (Plans.Drop x) h = tt
 -- Calls
 
 made-bounded : (w : World) (c : Call) → Bounded (made w c .answer)
-made-bounded w (Fresh n) = tt
+made-bounded w (Begin s n) = tt
 made-bounded w (Wire a l b k) = tt
 made-bounded w (Set a (Settings.Number v)) = tt
 made-bounded w (Set a (Settings.Width v)) = tt

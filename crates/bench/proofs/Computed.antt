@@ -11,8 +11,9 @@ use Rattle.answers.specs.Rows.{Row}
 use Rattle.answers.specs.Out.{Out, attempt}
 use Rattle.answers.specs.declared.Answer.{Answer}
 use Rattle.cells.specs.World.{World}
-use Rattle.cells.specs.Fresh.{freshWorld}
-use Rattle.fresh.specs.Fresh.{freshRows}
+use Rattle.fresh.specs.Fresh.{startRows, startOf}
+use Rattle.fresh.specs.declared.Start.{Start}
+use Rattle.kept.proofs.Calls.{start-kept}
 use Rattle.settings.specs.Wire.{wireRows}
 use Rattle.settings.specs.Set.{setRows}
 use Rattle.ends.specs.Aim.{aimRows}
@@ -21,13 +22,13 @@ use Rattle.ends.specs.Input.{inputRows}
 use Rattle.switch.specs.Step.{stepRows}
 use Rattle.kept.specs.Kept.{Kept}
 use Rattle.kept.proofs.Parts.{kept-sound}
-use Rattle.bench.specs.Calls.{Call, Fresh, Wire, Set, Aim, Output, Input, Step, Steps, rows, made, apply}
+use Rattle.bench.specs.Calls.{Call, Begin, Wire, Set, Aim, Output, Input, Step, Steps, rows, made, apply}
 use Rattle.bench.specs.Runs.{run}
-use Rattle.bench.proofs.Lasts.{call-keeps, fresh-keeps}
+use Rattle.bench.proofs.Lasts.{call-keeps}
 
 -- the rows of a call but for Unsound
 abbrev pub others : World → Call → List Row
-others w (Fresh n) = freshRows w n
+others w (Begin s n) = startRows w n
 others w (Wire a l b k) = wireRows (w .net) (a .0) l (b .0) k
 others w (Set a x) = setRows (w .net) (a .0) x
 others w (Aim a c g v) = aimRows (w .net) (a .0) c g v
@@ -41,7 +42,7 @@ applied w c = attempt (others w c) w (made w c)
 
 pub sound-row : (w : World) → Kept w → (c : Call) → apply w c ≡ applied w c
 unfolding apply
-sound-row w k (Fresh n) = refl
+sound-row w k (Begin s n) = refl
 sound-row w k (Wire a l b j) = rw (kept-sound w k .0)
 sound-row w k (Set a x) = rw (kept-sound w k .0)
 sound-row w k (Aim a c g v) = rw (kept-sound w k .0)
@@ -71,13 +72,14 @@ calls s = map (λ x. x .0) s
 abbrev pub answers : Script → List Answer
 answers s = map (λ x. x .1) s
 
--- so many boards answer so, from Fresh on
-abbrev pub Runs : ℕ → Script → Type 0
-Runs n s = run (freshWorld n) (calls s) .answers ≡ answers s
+-- so many boards answer so, from that start on
+abbrev pub Runs : Start → ℕ → Script → Type 0
+Runs x n s = run (startOf x n) (calls s) .answers ≡ answers s
 
 -- by tests on the number of boards, which compute
-pub fresh-kept : (n : ℕ) → leb 1 n ≡ true → leb n nodes ≡ true → Kept (freshWorld n)
-fresh-kept n some few = fresh-keeps n (leb-true 1 n some) (leb-true n nodes few)
+pub begun-kept : (x : Start) (n : ℕ) → leb 1 n ≡ true → leb n nodes ≡ true → Kept (startOf x n)
+begun-kept x n some few = start-kept x n (leb-true 1 n some) (leb-true n nodes few)
 
-pub runs : (n : ℕ) (s : Script) → leb 1 n ≡ true → leb n nodes ≡ true → answersOf (freshWorld n) (calls s) ≡ answers s → Runs n s
-runs n s some few computed = run-answers (calls s) (freshWorld n) (fresh-kept n some few) ∙ computed
+pub runs : (x : Start) (n : ℕ) (s : Script) → leb 1 n ≡ true → leb n nodes ≡ true → answersOf (startOf x n) (calls s) ≡ answers s
+    → Runs x n s
+runs x n s some few computed = run-answers (calls s) (startOf x n) (begun-kept x n some few) ∙ computed

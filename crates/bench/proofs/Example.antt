@@ -8,6 +8,7 @@ use Rattle.settings.specs.declared.Setting.the-variants.{Number, Enable, Hello}
 use Rattle.ends.specs.declared.Token.the-variants as Tokens
 use Rattle.ends.specs.declared.Wanted.the-variants as Wanted
 use Rattle.ends.specs.declared.aim.Goal.the-variants.{Channel}
+use Rattle.fresh.specs.declared.Start.the-variants.{Blank}
 use Rattle.kept.proofs.Computes.{computes}
 use Rattle.bench.specs.Calls.{Wire, Set, Aim, Output, Input, Step}
 use Rattle.bench.proofs.Computed.{Script, Runs, runs}
@@ -52,6 +53,6 @@ script =
     ∷ (Set here (Enable 0 0), Done)
     ∷ []
 
-pub example : Runs 2 script
+pub example : Runs Blank 2 script
 unfolding computes
-example = runs 2 script refl refl refl
+example = runs Blank 2 script refl refl refl

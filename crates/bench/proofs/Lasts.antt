@@ -1,43 +1,46 @@
--- Sound for ever: from Fresh of any number of boards, over every run of calls, every state is sound and tight and has that number of
--- boards, and no call is refused as Unsound but a Fresh of another number. Assumes nothing.
+-- Sound for ever: from either start, of any number of boards, over every run of calls, every state is sound and tight and has that number of
+-- boards, and no call is refused as Unsound but a start of another number. Assumes nothing.
 use Prim.{tt}
 use Prim.Native.Nat.{ℕ, _+_, _<_, _≤_}
 use mathlib.Core.Path.{_≡_, refl, sym, ap, _∙_}
 use mathlib.Core.Bool.{true, not, _&&_}
 use mathlib.Core.List.{List, [], _∷_}
+use mathlib.Core.Logic.{_⊎_}
 use lib.Dec.{eqb}
 use borrow.Author.Tests.{eq-eqb, not-false}
 use Rattle.laws.proofs.All.{also, as-is, equal}
 use Rattle.laws.proofs.Order.{clash}
-use Rattle.names.specs.Size.{nodes, links}
+use Rattle.names.specs.Size.{nodes, links, ports}
 use Rattle.names.specs.No.{number, passes, Unsound}
 use Rattle.answers.specs.Answer.{numberOf}
 use Rattle.answers.specs.Rows.{Exactly, Passes}
 use Rattle.names.specs.declared.Slot.{Slot}
+use Rattle.circuits.specs.declared.Hop.the-variants.{Out}
 use Rattle.ports.specs.Queue.{capacity}
-use Rattle.cells.specs.World.{World, shaped, farOf}
+use Rattle.grammar.specs.Walk.{threes, beginsOne}
+use Rattle.cells.specs.World.{World, shaped, farOf, hop, queue}
 use Rattle.cells.specs.declared.link.Far.the-variants.{At}
 use Rattle.acts.specs.Acts.{withNet}
 use Rattle.settings.specs.declared.Setting.the-variants.{Enable}
-use Rattle.cells.specs.Fresh.{freshWorld}
+use Rattle.fresh.specs.Fresh.{startOf}
+use Rattle.fresh.specs.declared.Start.{Start}
 use Rattle.sound.specs.Sound.{sound, tight}
-use Rattle.sound.proofs.Fresh.{fresh-sound, fresh-tight}
 use Rattle.kept.specs.Kept.{Kept}
-use Rattle.kept.proofs.Parts.{sound-kept, kept-sound}
+use Rattle.kept.proofs.Parts.{kept-sound}
 use Rattle.kept.proofs.Sets.{attempted}
 use Rattle.kept.proofs.Boards.{wire-boards, set-boards, aim-boards, input-boards, output-boards, step-boards}
-use Rattle.kept.proofs.Calls.{keep-fresh, keep-wire, keep-set-made, keep-aimed, keep-output, keep-inputted, keep-stepped}
-use Rattle.kept.proofs.Follows.{room-left, not-greeted, no-credit, unused, disable-twice}
-use Rattle.bench.specs.Calls.{Call, Fresh, Wire, Set, Aim, Output, Input, Step, Steps, rows, made, apply}
+use Rattle.kept.proofs.Calls.{start-kept, keep-start, keep-wire, keep-set-made, keep-aimed, keep-output, keep-inputted, keep-stepped}
+use Rattle.kept.proofs.Follows.{room-left, whole-header, not-greeted, no-credit, unused, disable-twice}
+use Rattle.bench.specs.Calls.{Call, Begin, Wire, Set, Aim, Output, Input, Step, Steps, rows, made, apply}
 use Rattle.bench.specs.Runs.{run}
 use Rattle.bench.specs.Lasts.{OtherBoards, NeverUnsound, Throughout}
 use Rattle.bench.proofs.Applied.{exactly, accepted}
 use Rattle.bench.proofs.EachStep.{step-made, stepped-keeps}
 use Rattle.bench.proofs.Started.{started}
 
--- ONE CALL, with any arguments: as many boards as before, since a Fresh of another number is refused
+-- ONE CALL, with any arguments: as many boards as before, since a start of another number is refused
 made-boards : (w : World) (c : Call) → Passes (rows w c) → made w c .next .net .nodes ≡ w .net .nodes
-made-boards w (Fresh n) p = sym (also (as-is (shaped w)) (equal (w .net .nodes) n) .sure (not-false _ (p .1 .0)) .1)
+made-boards w (Begin s n) p = sym (also (as-is (shaped w)) (equal (w .net .nodes) n) .sure (not-false _ (p .1 .0)) .1)
 made-boards w (Wire a l b j) p = wire-boards (w .net) (a .0) l (b .0) j
 made-boards w (Set a x) p = set-boards (w .net) (a .0) x
 made-boards w (Aim a c g v) p = aim-boards (w .net) (a .0) c g v
@@ -55,7 +58,7 @@ call-boards w c = attempted (λ (z : World). z .net .nodes ≡ w .net .nodes) (r
 -- .. on a state that has the invariant
 module _ (w : World) (k : Kept w) where
   made-kept : (c : Call) → Passes (rows w c) → Kept (made w c .next)
-  made-kept (Fresh n) p = keep-fresh w n p
+  made-kept (Begin s n) p = keep-start w s n p
   made-kept (Wire a l b j) p = keep-wire w k (a .0) l (b .0) j (p .1)
   made-kept (Set a x) p = keep-set-made w k (a .0) x (p .1)
   made-kept (Aim a c g v) p = keep-aimed w k (a .0) c g v (p .1)
@@ -72,12 +75,12 @@ module _ (w : World) (k : Kept w) where
   sure : not (sound w) ≡ true → ⊥
   sure e = clash (sym (rw (kept-sound w k .0) at e))
 
-  -- Unsound, for a Fresh of another number of boards, and for no other call
+  -- Unsound, for a start of another number of boards, and for no other call
   pub call-unsound : (c : Call) → NeverUnsound (w .net .nodes) c (apply w c .answer)
   call-unsound c e = given c (exactly w c Unsound .sure (eq-eqb (numberOf (apply w c .answer)) (number Unsound) (ap numberOf e)))
     where
       given : (c : Call) → Exactly (rows w c) Unsound → OtherBoards (w .net .nodes) c
-      given (Fresh n) h = λ same. other n same (h .1)
+      given (Begin s n) h = λ same. other n same (h .1)
         where
           other : (n : ℕ) → n ≡ w .net .nodes → not (shaped w && eqb (w .net .nodes) n) ≡ true → ⊥
           other n same x = clash (sym (rw (k .shape, eq-eqb (w .net .nodes) n (sym same)) at x))
@@ -102,43 +105,45 @@ pub run-unsound : (cs : List Call) (w : World) → Kept w → Throughout (NeverU
 run-unsound [] w k = tt
 run-unsound (c ∷ cs) w k = (call-unsound w k c, rw (call-boards w c) at (run-unsound cs (apply w c .next) (call-keeps w k c)))
 
--- .. from Fresh
-pub boards : (n : ℕ) (cs : List Call) → run (freshWorld n) cs .last .net .nodes ≡ n
-boards n cs = run-boards cs (freshWorld n)
+-- .. from either start
+pub boards : (s : Start) (n : ℕ) (cs : List Call) → run (startOf s n) cs .last .net .nodes ≡ n
+boards s n cs = run-boards cs (startOf s n)
 
-module _ (n : ℕ) (some : 1 ≤ n) (few : n ≤ nodes) where
-  pub fresh-keeps : Kept (freshWorld n)
-  fresh-keeps = sound-kept (freshWorld n) (fresh-sound n some few) (fresh-tight n some few)
+module _ (s : Start) (n : ℕ) (some : 1 ≤ n) (few : n ≤ nodes) where
+  pub always-sound : (cs : List Call) → (sound (run (startOf s n) cs .last) ≡ true) × (tight (run (startOf s n) cs .last) ≡ true)
+  always-sound cs = kept-sound (run (startOf s n) cs .last) (run-keeps cs (startOf s n) (start-kept s n some few))
 
-  pub always-sound : (cs : List Call) → (sound (run (freshWorld n) cs .last) ≡ true) × (tight (run (freshWorld n) cs .last) ≡ true)
-  always-sound cs = kept-sound (run (freshWorld n) cs .last) (run-keeps cs (freshWorld n) fresh-keeps)
+  pub never-unsound : (cs : List Call) → Throughout (NeverUnsound n) cs (run (startOf s n) cs .answers)
+  never-unsound cs = run-unsound cs (startOf s n) (start-kept s n some few)
 
-  pub never-unsound : (cs : List Call) → Throughout (NeverUnsound n) cs (run (freshWorld n) cs .answers)
-  never-unsound cs = run-unsound cs (freshWorld n) fresh-keeps
+-- .. whatever the two memories held before, where that start was not refused
+pub since-start : (w : World) (s : Start) (n : ℕ) → numberOf (apply w (Begin s n) .answer) ≡ passes → (cs : List Call)
+    → Throughout (NeverUnsound n) cs (run (apply w (Begin s n) .next) cs .answers)
+since-start w s n ok cs =
+    let p = accepted w (Begin s n) .sure (eq-eqb (numberOf (apply w (Begin s n) .answer)) passes ok) in
+    rw (started w s n ok) (run-unsound cs (startOf s n) (keep-start w s n p))
 
--- .. whatever the two memories held before, where that Fresh was not refused
-pub since-fresh : (w : World) (n : ℕ) → numberOf (apply w (Fresh n) .answer) ≡ passes → (cs : List Call)
-    → Throughout (NeverUnsound n) cs (run (apply w (Fresh n) .next) cs .answers)
-since-fresh w n ok cs =
-    let p = accepted w (Fresh n) .sure (eq-eqb (numberOf (apply w (Fresh n) .answer)) passes ok) in
-    rw (started w n ok) (run-unsound cs (freshWorld n) (keep-fresh w n p))
-
--- WHAT HOLDS ALWAYS: of every link of every state of every run from Fresh
-module _ (n : ℕ) (some : 1 ≤ n) (few : n ≤ nodes) (cs : List Call) where
+-- WHAT HOLDS ALWAYS: of every link of every state of every run from a start
+module _ (s : Start) (n : ℕ) (some : 1 ≤ n) (few : n ≤ nodes) (cs : List Call) where
   abbrev last : World
-  last = run (freshWorld n) cs .last
+  last = run (startOf s n) cs .last
 
   last-kept : Kept last
-  last-kept = run-keeps cs (freshWorld n) (fresh-keeps n some few)
+  last-kept = run-keeps cs (startOf s n) (start-kept s n some few)
 
   module _ (m l : ℕ) (there : m < n) (hl : l < links) where
     hm : m < last .net .nodes
-    hm = rw (boards n cs) there
+    hm = rw (boards s n cs) there
 
     -- "credit plus tokens held at the far end at most 64"
     pub always-room : (b : Slot) (j : ℕ) → farOf (last .net .links .cables m l) ≡ At b j
         → last .net .links .flows m l .credit + last .net .ports .counters (b .0) j .held ≤ capacity
     always-room = room-left last last-kept m l hm hl
+
+    -- "a circuit that leaves by an unwired link has its whole header at its port's front": three tokens, or one
+    pub always-unsent : (last .net .links .cables m l .wired ≡ 1 → ⊥) → (p : ℕ) → p < ports → hop (last .net) m p ≡ Out l
+        → (threes (queue last m p) ≡ 3) ⊎ (beginsOne (queue last m p) ≡ true)
+    always-unsent = whole-header last last-kept m l hm hl
 
     module _ (off : last .net .links .setups m l .enabled ≡ 1 → ⊥) where
       -- "A disabled link's credit is 0 and ungreeted."

@@ -16,4 +16,5 @@ pub mod Lists
 pub mod Computed
 pub mod Example
 pub mod Runs
+pub mod Unsent
 pub mod Published

@@ -16,14 +16,16 @@ use Rattle.answers.specs.Out.{out}
 use Rattle.answers.specs.declared.Answer.{Answer}
 use Rattle.answers.specs.declared.Answer.the-variants.{No, Done}
 use Rattle.cells.specs.World.{World}
-use Rattle.cells.specs.Fresh.{freshWorld}
+use Rattle.fresh.specs.Fresh.{startOf}
+use Rattle.fresh.specs.declared.Start.{Start}
+use Rattle.kept.proofs.Calls.{start-kept}
 use Rattle.sound.specs.Sound.{sound}
 use Rattle.kept.specs.Kept.{Kept}
 use Rattle.bench.specs.declared.StepRecord.{StepRecord}
-use Rattle.bench.specs.Calls.{Call, Fresh, Wire, Set, Aim, Output, Input, Step, Steps, stepBy, stepped, results, apply}
+use Rattle.bench.specs.Calls.{Call, Begin, Wire, Set, Aim, Output, Input, Step, Steps, stepBy, stepped, results, apply}
 use Rattle.bench.specs.Runs.{run, stepOf, stepsOf, singly, flat}
 use Rattle.bench.proofs.Bounded.{Bounded, bounded}
-use Rattle.bench.proofs.Lasts.{call-keeps, call-unsound, run-keeps, fresh-keeps}
+use Rattle.bench.proofs.Lasts.{call-keeps, call-unsound, run-keeps}
 
 -- ONE RECORD is the single call
 pub by-call : (w : World) (x : StepRecord) → stepBy w x ≡ apply w (stepOf x)
@@ -70,11 +72,11 @@ unfolding apply
 results-sure [] w k = tt
 results-sure (x ∷ xs) w k = (call-unsound w k (stepOf x), results-sure xs (stepBy w x .next) (call-keeps w k (stepOf x)))
 
--- .. so of no list of any run from Fresh, whatever calls were made before it
-pub never-unsound-results : (n : ℕ) → 1 ≤ n → n ≤ nodes → (cs : List Call) (xs : List StepRecord)
-    → Each (λ (a : Answer). a ≡ No (number Unsound) → ⊥) (results (run (freshWorld n) cs .last) xs)
-never-unsound-results n some few cs xs =
-    results-sure xs (run (freshWorld n) cs .last) (run-keeps cs (freshWorld n) (fresh-keeps n some few))
+-- .. so of no list of any run from a start, whatever calls were made before it
+pub never-unsound-results : (s : Start) (n : ℕ) → 1 ≤ n → n ≤ nodes → (cs : List Call) (xs : List StepRecord)
+    → Each (λ (a : Answer). a ≡ No (number Unsound) → ⊥) (results (run (startOf s n) cs .last) xs)
+never-unsound-results s n some few cs xs =
+    results-sure xs (run (startOf s n) cs .last) (run-keeps cs (startOf s n) (start-kept s n some few))
 
 -- each result is within the bounds of answers, so that its number tells it (`one-answer` in host/proofs/Told.antt)
 pub results-bounded : (xs : List StepRecord) (w : World) → Each Bounded (results w xs)
@@ -89,7 +91,7 @@ run-append (c ∷ cs) ds w = run-append cs ds (apply w c .next)
 
 pub singly-left : (w : World) (c : Call) → run w (singly c) .last ≡ apply w c .next
 unfolding apply
-singly-left w (Fresh n) = refl
+singly-left w (Begin s n) = refl
 singly-left w (Wire a l b k) = refl
 singly-left w (Set a x) = refl
 singly-left w (Aim a c g v) = refl

@@ -19,7 +19,8 @@ use Rattle.answers.specs.Answer.{numberOf}
 use Rattle.answers.specs.Rows.{Row, Exactly}
 use Rattle.cells.specs.World.{World}
 use Rattle.fresh.specs.Fresh.{counted, fits}
-use Rattle.settings.specs.Wire.{linkAt, endTaken}
+use Rattle.fresh.specs.declared.Start.{Start}
+use Rattle.settings.specs.Wire.{linkAt, endWired}
 use Rattle.settings.specs.Set.{linkThere, inRange, setBusy}
 use Rattle.settings.specs.declared.Setting.{Setting}
 use Rattle.switch.specs.Step.{portAt}
@@ -37,7 +38,7 @@ use Rattle.ends.specs.declared.Token.{Token}
 use Rattle.ends.specs.declared.Wanted.{Wanted}
 use Rattle.ends.specs.declared.aim.Goal.{Goal}
 use Rattle.bench.specs.declared.StepRecord.{StepRecord}
-use Rattle.bench.specs.Calls.{Call, Fresh, Wire, Set, Aim, Output, Input, Step, Steps, rows, apply}
+use Rattle.bench.specs.Calls.{Call, Begin, Wire, Set, Aim, Output, Input, Step, Steps, rows, apply}
 use Rattle.bench.proofs.Applied.{exactly}
 
 -- no row of a call before that of number k refuses
@@ -79,11 +80,11 @@ instead : (w : World) (c : Call) (k : Names.No) {a b : Bool} → (NoEarlier (row
 instead w c k same m = same-as (λ z. (z .0, sym (same (z .0)) ∙ z .1)) (λ z. (z .0, same (z .0) ∙ z .1)) m
 
 module _ (w : World) where
-  pub fresh-no-such : (n : ℕ) → Refused w (Fresh n) Names.NoSuch (not (counted n) ≡ true)
-  fresh-no-such n = refused w (Fresh n) Names.NoSuch
+  pub start-no-such : (s : Start) (n : ℕ) → Refused w (Begin s n) Names.NoSuch (not (counted n) ≡ true)
+  start-no-such s n = refused w (Begin s n) Names.NoSuch
 
-  pub fresh-unsound : (n : ℕ) → Refused w (Fresh n) Names.Unsound (not (fits w n) ≡ true)
-  fresh-unsound n = refused w (Fresh n) Names.Unsound
+  pub start-unsound : (s : Start) (n : ℕ) → Refused w (Begin s n) Names.Unsound (not (fits w n) ≡ true)
+  start-unsound s n = refused w (Begin s n) Names.Unsound
 
   module _ (a : Slot) (l : ℕ) (b : Slot) (k : ℕ) where
     pub wire-unsound : Refused w (Wire a l b k) Names.Unsound (not (sound w) ≡ true)
@@ -95,7 +96,7 @@ module _ (w : World) where
     pub wire-value : Refused w (Wire a l b k) Names.Value ((eqb (a .0) (b .0) && eqb l k) ≡ true)
     wire-value = refused w (Wire a l b k) Names.Value
 
-    pub wire-busy : Refused w (Wire a l b k) Names.Busy ((endTaken (w .net) (a .0) l || endTaken (w .net) (b .0) k) ≡ true)
+    pub wire-busy : Refused w (Wire a l b k) Names.Busy ((endWired (w .net) (a .0) l || endWired (w .net) (b .0) k) ≡ true)
     wire-busy = refused w (Wire a l b k) Names.Busy
 
   module _ (a : Slot) (x : Setting) where

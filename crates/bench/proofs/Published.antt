@@ -6,7 +6,9 @@
 -- THE STATEMENTS' WORDS
 -- a world is the state as tables and the token memory; `world` reads it off two lent slices
 pub use Rattle.cells.specs.World.{World, world}
-pub use Rattle.cells.specs.Fresh.{freshWorld}
+-- Fresh or blank, and what each leaves
+pub use Rattle.fresh.specs.Fresh.{leavesOn, startOf}
+pub use Rattle.fresh.specs.declared.Start.{Start}
 -- calls with their arguments; when each is refused, what it makes, and both together; a list of calls, each on what the one before left
 pub use Rattle.bench.specs.Calls.{Call, rows, made, apply}
 pub use Rattle.bench.specs.Runs.{Ran, run}
@@ -21,10 +23,11 @@ pub use Rattle.names.specs.No.{No, number, passes}
 pub use Rattle.sound.specs.Sound.{sound, tight, quiet}
 pub use Rattle.kept.specs.Kept.{Kept}
 pub use Rattle.kept.proofs.Parts.{sound-kept, kept-sound}
+pub use Rattle.kept.proofs.Calls.{start-kept}
 -- OVER EVERY CALL
 -- two results that meet a call's statement are equal, word for word
 pub use Rattle.bench.proofs.Applied.{one-result}
--- the number is that of the first row that holds; each is given exactly under its condition; the rows rise, Fresh's two excepted
+-- the number is that of the first row that holds; each is given exactly under its condition; the rows rise, a start's two excepted
 pub use Rattle.bench.proofs.Applied.{numbered, exactly, accepted, in-order}
 -- "A refused call returns its number and changes nothing"
 pub use Rattle.bench.proofs.Applied.{refused-changes-nothing, refused-words}
@@ -32,7 +35,7 @@ pub use Rattle.bench.proofs.Applied.{refused-changes-nothing, refused-w
 pub use Rattle.bench.proofs.Bounded.{bounded, small-value}
 -- "A Waiting or Idle step changes nothing either."
 pub use Rattle.bench.proofs.Waits.{waits-change-nothing}
--- what a Fresh leaves that is not refused
+-- what a start leaves that is not refused
 pub use Rattle.bench.proofs.Started.{started, started-sound, started-tight, started-quiet}
 -- END and PAUSE free what the hop held; a circuit stays as it was opened, and its tokens go the way that it was opened
 pub use Rattle.bench.specs.Frees.{tookOne, Freed, Closed}
@@ -40,7 +43,7 @@ pub use Rattle.bench.proofs.Frees.{step-frees}
 pub use Rattle.bench.specs.Stays.{EndsCircuit}
 pub use Rattle.bench.proofs.Stays.{circuit-stays, goes-behind, goes-straight, behind-last, straight-last, circuit-ends}
 -- each number of each call: given exactly where no earlier row refuses and its own condition holds
-pub use Rattle.bench.proofs.Numbers.{NoEarlier, Refused, fresh-no-such, fresh-unsound}
+pub use Rattle.bench.proofs.Numbers.{NoEarlier, Refused, start-no-such, start-unsound}
 pub use Rattle.bench.proofs.Numbers.{wire-unsound, wire-no-such, wire-value, wire-busy}
 pub use Rattle.bench.proofs.Numbers.{set-unsound, set-no-such, set-value, set-busy, aim-unsound, aim-no-such, aim-value, aim-open}
 pub use Rattle.bench.proofs.Numbers.{output-unsound, output-no-such, output-unaimed, output-hardware, output-privileged}
@@ -53,15 +56,15 @@ pub use Rattle.bench.proofs.Written.{none-refused, writes-as-sets, call
 pub use Rattle.bench.proofs.Lists.{by-call, left-by-steps, results-by-steps, list-done, length-first}
 pub use Rattle.bench.proofs.Lists.{unsound-results, unsound-left, results-sure, results-bounded}
 -- OVER EVERY RUN
--- a run with lists in it leaves what its single calls leave; from Fresh on no record of a list is Unsound
+-- a run with lists in it leaves what its single calls leave; from a start on no record of a list is Unsound
 pub use Rattle.bench.proofs.Lists.{flat-left, never-unsound-results}
--- what is kept is kept; no call changes how many boards there are; from Fresh on no call is Unsound but a Fresh of another number
+-- what is kept is kept; no call changes how many boards there are; from a start on no call is Unsound but a start of another number
 pub use Rattle.bench.specs.Lasts.{OtherBoards, NeverUnsound, Throughout}
-pub use Rattle.bench.proofs.Lasts.{call-keeps, run-keeps, fresh-keeps, call-boards, run-boards, boards}
-pub use Rattle.bench.proofs.Lasts.{always-sound, never-unsound, since-fresh}
+pub use Rattle.bench.proofs.Lasts.{call-keeps, run-keeps, call-boards, run-boards, boards}
+pub use Rattle.bench.proofs.Lasts.{always-sound, never-unsound, since-start}
 pub use Rattle.bench.proofs.Stays.{circuit-lasts}
 -- what holds of every link of every state: room, silence while disabled, nobody's while disabled, disabling once more
-pub use Rattle.bench.proofs.Lasts.{always-room, always-silent, always-unused, always-disabled}
+pub use Rattle.bench.proofs.Lasts.{always-room, always-unsent, always-silent, always-unused, always-disabled}
 -- THE LOOKS: what may be read of a state, each a contract of its own for any words (`at` of each kind of record in `cells`; `looks`,
 -- `sound`)
 -- a node, link, port, tile link, channel-end and control unit by slot and place; how many nodes there are

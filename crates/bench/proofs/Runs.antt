@@ -1,20 +1,21 @@
--- Three runs of calls on two boards, computed: an update during which circuits are open, and the two examples of document 01, "Both sides
--- of the line", that need a network. What an observer has then written down is in streams/proofs/Runs.antt. Assumes nothing.
+-- Runs of calls on two boards, computed: an update during which circuits are open; the two examples of document 01, "Both sides of the
+-- line", that need a network; boards as the boot ROM leaves them (document 02, Ask 7), and the same from blank. What an observer has then written down is in streams/proofs/Runs.antt. Assumes nothing.
 use Prim.Native.Nat.{ℕ}
 use mathlib.Core.Path.{_≡_, refl}
 use mathlib.Core.List.{List, [], _∷_, _++_, map}
 use lib.ListN.{replicate}
 use Rattle.names.specs.declared.Slot.{Slot}
-use Rattle.circuits.specs.declared.Cause.the-variants.{Split}
+use Rattle.circuits.specs.declared.Cause.the-variants.{NoRoute, Split}
 use Rattle.answers.specs.declared.Answer.{Answer}
 use Rattle.answers.specs.declared.Answer.the-variants.{No, Done, Granted, Idle, Moved, OpenedLink, OpenedChannel}
-use Rattle.answers.specs.declared.Answer.the-variants.{OpenedUnit, Refused, Dropped}
+use Rattle.answers.specs.declared.Answer.the-variants.{OpenedUnit, Refused, Dropped, Waiting}
 use Rattle.answers.specs.declared.Answer.the-variants as Answers
-use Rattle.settings.specs.declared.Setting.the-variants.{Number, Width, Enable, Hello}
+use Rattle.settings.specs.declared.Setting.the-variants.{Number, Width, Network, Enable, Hello}
 use Rattle.ends.specs.declared.Token.{Token}
 use Rattle.ends.specs.declared.Token.the-variants.{Data, Control}
 use Rattle.ends.specs.declared.Wanted.the-variants as Wanted
 use Rattle.ends.specs.declared.aim.Goal.the-variants.{Channel, Unit}
+use Rattle.fresh.specs.declared.Start.the-variants.{Fresh, Blank}
 use Rattle.kept.proofs.Computes.{computes}
 use Rattle.bench.specs.Calls.{Call, Wire, Set, Aim, Output, Input, Step, Steps}
 use Rattle.bench.specs.Runs.{flat}
@@ -157,15 +158,58 @@ halfwayByLists =
 pub by-lists : flat halfwayByLists ≡ calls halfway
 by-lists = refl
 
+-- AS THE BOOT ROM LEAVES THEM: a circuit for a number of another board
+abbrev early : Script
+early = ((Set lane (Number 1), Done) ∷ (Aim hub 0 (Channel 1 5) 0, Done) ∷ []) ++ outputs hub 0 (Data 7 ∷ Control 1 ∷ [])
+
+-- from Fresh it opens to link E, which leads nowhere, and waits there
+abbrev pub booted : Script
+booted =
+    early
+    ++ ((Step hub 8, OpenedLink 4) ∷ (Step hub 8, Waiting) ∷ [])
+    -- Busy: the network of an enabled link
+    ++ ((Set hub (Network 4 1), No 4) ∷ [])
+    -- a cable between two enabled ends, one of them in use; once it is greeted the circuit goes on, and arrives whole
+    ++ ((Wire hub 4 lane 5, Done) ∷ (Step hub 8, Waiting) ∷ (Set hub (Hello 4), Granted 64) ∷ [])
+    ++ steps 5 hub 8 Moved
+    ++ ((Step lane 5, OpenedChannel) ∷ [])
+    ++ steps 2 lane 5 Moved
+    ++ inputs lane 5 (Data 7 ∷ Control 1 ∷ [])
+    -- the other way: to link E, the lowest, which leads nowhere, until that is disabled; then to link F
+    ++ ((Set lane (Hello 5), Granted 64) ∷ (Set lane (Enable 4 0), Done) ∷ (Aim lane 0 (Channel 0 6) 0, Done) ∷ [])
+    ++ outputs lane 0 (Control 1 ∷ [])
+    ++ ((Step lane 8, OpenedLink 5) ∷ [])
+    ++ steps 4 lane 8 Moved
+    ++ ((Step hub 4, OpenedChannel) ∷ (Step hub 4, Moved) ∷ [])
+    ++ inputs hub 6 (Control 1 ∷ [])
+    -- Busy: a wired end. Disabled, the link changes its network
+    ++ ((Wire hub 4 lane 6, No 4) ∷ (Set hub (Enable 4 0), Done) ∷ (Set hub (Network 4 1), Done) ∷ [])
+
+-- from blank there is no way out
+abbrev pub blanked : Script
+blanked =
+    early
+    ++ ((Step hub 8, Refused NoRoute) ∷ [])
+    ++ steps 5 hub 8 (Dropped NoRoute)
+    ++ ((Set hub (Network 4 1), Done) ∷ (Set hub (Network 4 0), Done) ∷ [])
+
 -- THE ANSWERS, one by one
-pub update-answers : Runs 2 update
+pub update-answers : Runs Fresh 2 update
 unfolding computes
-update-answers = runs 2 update refl refl refl
+update-answers = runs Fresh 2 update refl refl refl
 
-pub halfway-answers : Runs 2 halfway
+pub halfway-answers : Runs Fresh 2 halfway
 unfolding computes
-halfway-answers = runs 2 halfway refl refl refl
+halfway-answers = runs Fresh 2 halfway refl refl refl
 
-pub narrowed-answers : Runs 2 narrowed
+pub narrowed-answers : Runs Fresh 2 narrowed
 unfolding computes
-narrowed-answers = runs 2 narrowed refl refl refl
+narrowed-answers = runs Fresh 2 narrowed refl refl refl
+
+pub booted-answers : Runs Fresh 2 booted
+unfolding computes
+booted-answers = runs Fresh 2 booted refl refl refl
+
+pub blanked-answers : Runs Blank 2 blanked
+unfolding computes
+blanked-answers = runs Blank 2 blanked refl refl refl

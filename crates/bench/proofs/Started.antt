@@ -1,4 +1,4 @@
--- What Fresh leaves is sound, tight and quiet. Assumes nothing.
+-- What a start leaves is sound, tight and quiet. Assumes nothing.
 use Prim.Native.Nat.{ℕ, _≤_}
 use mathlib.Core.Path.{_≡_, ap, sym, _∙_}
 use mathlib.Core.Bool.{true}
@@ -11,28 +11,29 @@ use Rattle.answers.specs.Rows.{refusal}
 use Rattle.answers.specs.Out.{Out, out}
 use Rattle.answers.specs.declared.Answer.the-variants.{Done}
 use Rattle.cells.specs.World.{World}
-use Rattle.cells.specs.Fresh.{freshWorld}
+use Rattle.fresh.specs.Fresh.{leavesOn, startOf}
+use Rattle.fresh.specs.declared.Start.{Start}
 use Rattle.sound.specs.Sound.{sound, tight, quiet}
-use Rattle.sound.proofs.Fresh.{fresh-sound, fresh-tight, fresh-quiet}
-use Rattle.bench.specs.Calls.{Fresh, rows, apply}
+use Rattle.sound.proofs.Start.{start-sound, start-tight, start-quiet}
+use Rattle.bench.specs.Calls.{Begin, rows, apply}
 use Rattle.bench.proofs.Applied.{numbered, accepted}
 
-module _ (w : World) (n : ℕ) (ok : numberOf (apply w (Fresh n) .answer) ≡ passes) where
+module _ (w : World) (s : Start) (n : ℕ) (ok : numberOf (apply w (Begin s n) .answer) ≡ passes) where
   -- the whole of both memories
-  pub started : apply w (Fresh n) ≡ out Done (freshWorld n)
+  pub started : apply w (Begin s n) ≡ out Done (startOf s n)
   unfolding apply
-  started = rw (eq-eqb (refusal (rows w (Fresh n))) passes (sym (numbered w (Fresh n)) ∙ ok))
+  started = rw (eq-eqb (refusal (rows w (Begin s n))) passes (sym (numbered w (Begin s n)) ∙ ok))
 
   ranged : (1 ≤ n) × (n ≤ nodes)
   ranged =
-      let p = accepted w (Fresh n) .sure (eq-eqb (numberOf (apply w (Fresh n) .answer)) passes ok) in
+      let p = accepted w (Begin s n) .sure (eq-eqb (numberOf (apply w (Begin s n) .answer)) passes ok) in
       also (at-most 1 n) (at-most n nodes) .sure (not-false _ (p .0))
 
-  pub started-sound : sound (apply w (Fresh n) .next) ≡ true
-  started-sound = ap (λ (o : Out World). sound (o .next)) started ∙ fresh-sound n (ranged .0) (ranged .1)
+  pub started-sound : sound (apply w (Begin s n) .next) ≡ true
+  started-sound = ap (λ (o : Out World). sound (o .next)) started ∙ start-sound (leavesOn s n) n (ranged .0) (ranged .1)
 
-  pub started-tight : tight (apply w (Fresh n) .next) ≡ true
-  started-tight = ap (λ (o : Out World). tight (o .next)) started ∙ fresh-tight n (ranged .0) (ranged .1)
+  pub started-tight : tight (apply w (Begin s n) .next) ≡ true
+  started-tight = ap (λ (o : Out World). tight (o .next)) started ∙ start-tight (leavesOn s n) n (ranged .0) (ranged .1)
 
-  pub started-quiet : quiet (apply w (Fresh n) .next) ≡ true
-  started-quiet = ap (λ (o : Out World). quiet (o .next)) started ∙ fresh-quiet n (ranged .0) (ranged .1)
+  pub started-quiet : quiet (apply w (Begin s n) .next) ≡ true
+  started-quiet = ap (λ (o : Out World). quiet (o .next)) started ∙ start-quiet (leavesOn s n) n (ranged .0) (ranged .1)

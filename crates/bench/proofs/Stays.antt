@@ -1,5 +1,5 @@
 -- A circuit stays as it was opened: while a channel-end has one, no call changes where it goes but its own Output of END or PAUSE, and
--- Fresh. Whatever the settings have become, each token in between goes behind the others in the port that the circuit has taken, or
+-- a start. Whatever the settings have become, each token in between goes behind the others in the port that the circuit has taken, or
 -- straight to the channel that it was opened to. For every state and every call. Assumes nothing.
 use Prim.{tt}
 use Prim.Native.Nat.{ℕ, _≤_}
@@ -48,7 +48,7 @@ use Rattle.plans.specs.declared.Plan.{Plan}
 use Rattle.plans.specs.declared.Plan.the-variants.{Idle, Wait, OpenOut, OpenChannel, OpenUnit, Refuse, MoveOut, Hand, Hear, Drop}
 use Rattle.moves.specs.Moves.{took, opensChannel, opensUnit, closesOut, closesUnit}
 use Rattle.switch.specs.Step.{stepPerformed}
-use Rattle.bench.specs.Calls.{Call, Fresh, Wire, Set, Aim, Output, Input, Step, Steps, rows, made, apply}
+use Rattle.bench.specs.Calls.{Call, Begin, Wire, Set, Aim, Output, Input, Step, Steps, rows, made, apply}
 use Rattle.bench.specs.Runs.{run}
 use Rattle.bench.specs.Stays.{EndsCircuit}
 use Rattle.bench.proofs.Applied.{numbered, accepted, refused-changes-nothing}
@@ -242,7 +242,7 @@ module _ (w : World) (n e : ℕ) (going : isOpen (w .net) n e ≡ true) where
 
   done-stays : (c : Call) → (EndsCircuit n e c → numberOf (apply w c .answer) ≡ passes → ⊥) → numberOf (apply w c .answer) ≡ passes
       → Same c
-  done-stays (Fresh m) none ok = absurd (none tt ok)
+  done-stays (Begin s m) none ok = absurd (none tt ok)
   done-stays (Wire a l b k) none ok = as-made (Wire a l b k) ok refl
   done-stays (Set a x) none ok =
       as-made (Set a x) ok (ap (λ (t : EndTables). t .sendings n e) (setting-leaves (w .net) (a .0) x .ends))

@@ -13,8 +13,8 @@ use Rattle.answers.specs.declared.Answer.{Answer}
 use Rattle.answers.specs.declared.Answer.the-variants.{Done}
 use Rattle.answers.specs.declared.Answer.the-variants as Answers
 use Rattle.cells.specs.World.{World}
-use Rattle.cells.specs.Fresh.{freshWorld}
-use Rattle.fresh.specs.Fresh.{freshRows}
+use Rattle.fresh.specs.Fresh.{startRows, startOf}
+use Rattle.fresh.specs.declared.Start.{Start}
 use Rattle.settings.specs.Wire.{wireRows, wired}
 use Rattle.settings.specs.Set.{setRows, setAnswer, setMade}
 use Rattle.settings.specs.declared.Setting.{Setting}
@@ -31,8 +31,8 @@ use Rattle.bench.specs.declared.StepRecord.{StepRecord}
 
 -- the calls, with arguments of any size
 pub data Call : Type 0 where
-  -- so many nodes
-  Fresh : ℕ → Call
+  -- Fresh or blank (document 02, Ask 7), of so many nodes
+  Begin : Start → ℕ → Call
   -- slot and link of one end and of the other
   Wire : Slot → ℕ → Slot → ℕ → Call
   Set : Slot → Setting → Call
@@ -45,7 +45,7 @@ pub data Call : Type 0 where
   -- how many results there is room for, and the list's records
   Steps : ℕ → List StepRecord → Call
 
--- "1 Unsound: memory of the wrong length, or (not Fresh) state that fails the list"
+-- "1 Unsound: memory of the wrong length, or (not Fresh) state that fails the list"; "Fresh" is either start
 abbrev pub unsound : World → Row
 unsound w = refusedIf (not (sound w)) Unsound
 
@@ -63,10 +63,10 @@ abbrev pub results : World → List StepRecord → List Answer
 results w [] = []
 results w (x ∷ xs) = stepBy w x .answer ∷ results (stepBy w x .next) xs
 
--- when a call is refused, in the order of "Numbers for no" (Fresh has its own). A list, for its results' length alone: "first, a results
+-- when a call is refused, in the order of "Numbers for no" (a start has its own). A list, for its results' length alone: "first, a results
 -- buffer of another length than the list is NoSuch, and nothing is done"
 abbrev pub rows : World → Call → List Row
-rows w (Fresh n) = freshRows w n
+rows w (Begin s n) = startRows w n
 rows w (Wire a l b k) = unsound w ∷ wireRows (w .net) (a .0) l (b .0) k
 rows w (Set a x) = unsound w ∷ setRows (w .net) (a .0) x
 rows w (Aim a c g v) = unsound w ∷ aimRows (w .net) (a .0) c g v
@@ -77,7 +77,7 @@ rows w (Steps n xs) = refusedIf (not (eqb n (length xs))) NoSuch ∷ []
 
 -- what a call makes that is not refused
 abbrev pub made : World → Call → Out World
-made w (Fresh n) = out Done (freshWorld n)
+made w (Begin s n) = out Done (startOf s n)
 made w (Wire a l b k) = out Done (withNet w (wired (w .net) (a .0) l (b .0) k))
 made w (Set a x) = out (setAnswer (w .net) (a .0) x) (withNet w (setMade (w .net) (a .0) x))
 made w (Aim a c g v) = out Done (withNet w (aimMade (w .net) (a .0) c g v))

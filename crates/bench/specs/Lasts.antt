@@ -1,4 +1,4 @@
--- What it is that a run from Fresh is never refused as (document 01, "Numbers for no": "1 Unsound: memory of the wrong length, or (not
+-- What it is that a run from a start is never refused as (document 01, "Numbers for no": "1 Unsound: memory of the wrong length, or (not
 -- Fresh) state that fails the list").
 use Prim.{Unit}
 use Prim.Native.Nat.{ℕ}
@@ -7,11 +7,11 @@ use mathlib.Core.List.{List, [], _∷_}
 use Rattle.names.specs.No.{number, Unsound}
 use Rattle.answers.specs.declared.Answer.{Answer}
 use Rattle.answers.specs.declared.Answer.the-variants.{No}
-use Rattle.bench.specs.Calls.{Call, Fresh, Wire, Set, Aim, Output, Input, Step, Steps}
+use Rattle.bench.specs.Calls.{Call, Begin, Wire, Set, Aim, Output, Input, Step, Steps}
 
--- a Fresh of another number of boards than the memory has, n
+-- a start of another number of boards than the memory has, n
 abbrev pub OtherBoards : ℕ → Call → Type 0
-OtherBoards n (Fresh m) = m ≡ n → ⊥
+OtherBoards n (Begin s m) = m ≡ n → ⊥
 OtherBoards n (Wire a l b k) = ⊥
 OtherBoards n (Set a x) = ⊥
 OtherBoards n (Aim a c g v) = ⊥
@@ -20,7 +20,7 @@ OtherBoards n (Input a c k) = ⊥
 OtherBoards n (Step a p) = ⊥
 OtherBoards n (Steps m xs) = ⊥
 
--- a call that answers Unsound is such a Fresh
+-- a call that answers Unsound is such a start
 abbrev pub NeverUnsound : ℕ → Call → Answer → Type 0
 NeverUnsound n c a = a ≡ No (number Unsound) → OtherBoards n c
 

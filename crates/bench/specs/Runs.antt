@@ -6,7 +6,7 @@ use Rattle.laws.specs.Pick.{pick}
 use Rattle.answers.specs.declared.Answer.{Answer}
 use Rattle.cells.specs.World.{World}
 use Rattle.bench.specs.declared.StepRecord.{StepRecord}
-use Rattle.bench.specs.Calls.{Call, Fresh, Wire, Set, Aim, Output, Input, Step, Steps, apply}
+use Rattle.bench.specs.Calls.{Call, Begin, Wire, Set, Aim, Output, Input, Step, Steps, apply}
 
 -- the answers in order, and what is left
 pub record Ran : Type 0 where
@@ -26,7 +26,7 @@ stepsOf [] = []
 stepsOf (x ∷ xs) = stepOf x ∷ stepsOf xs
 
 abbrev pub singly : Call → List Call
-singly (Fresh n) = Fresh n ∷ []
+singly (Begin s n) = Begin s n ∷ []
 singly (Wire a l b k) = Wire a l b k ∷ []
 singly (Set a x) = Set a x ∷ []
 singly (Aim a c g v) = Aim a c g v ∷ []

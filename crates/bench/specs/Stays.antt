@@ -4,11 +4,11 @@ use mathlib.Core.Path.{_≡_}
 use mathlib.Core.Bool.{true}
 use Rattle.tokens.specs.Word.{closes}
 use Rattle.ends.specs.Output.{wordOf}
-use Rattle.bench.specs.Calls.{Call, Fresh, Wire, Set, Aim, Output, Input, Step, Steps}
+use Rattle.bench.specs.Calls.{Call, Begin, Wire, Set, Aim, Output, Input, Step, Steps}
 
 -- channel-end e of node n puts out END or PAUSE; or all begins anew
 abbrev pub EndsCircuit : ℕ → ℕ → Call → Type 0
-EndsCircuit n e (Fresh m) = Prim.Unit
+EndsCircuit n e (Begin s m) = Prim.Unit
 EndsCircuit n e (Wire a l b k) = ⊥
 EndsCircuit n e (Set a x) = ⊥
 EndsCircuit n e (Aim a c g v) = ⊥

@@ -5,6 +5,8 @@ use answers::Answer;
 use ends::Token;
 use ends::Wanted;
 use ends::aim::Goal;
+use fresh::Start;
+use fresh::begin;
 use names::Slot;
 use names::no::UNSOUND;
 use settings::Setting;
@@ -12,7 +14,8 @@ use sound::is_sound;
 ghost use mathlib.Core.Path.{_≡_};
 ghost use Rattle.answers.specs.Out.{out};
 ghost use Rattle.cells.specs.World.{world};
-ghost use Rattle.bench.specs.Calls.{apply, Fresh, Wire, Set, Aim, Output, Input, Step};
+ghost use Rattle.fresh.specs.declared.Start.the-variants.{Fresh, Blank};
+ghost use Rattle.bench.specs.Calls.{apply, Begin, Wire, Set, Aim, Output, Input, Step};
 
 // A record of a list of steps, as a host lends it: the list's own call is crate host's, and what it means
 // is `Steps` in specs/Calls.antt.
@@ -22,11 +25,18 @@ pub struct StepRecord {
     pub port: usize,
 }
 
-// A network of so many nodes, whatever the memories held.
+// A network of so many nodes as the boot ROM leaves them, links E to H enabled, whatever the memories held.
 pub fn fresh(st: &mut [u32], mem: &mut [u16], nodes: usize) -> Answer
-    ensures { λ r. ⌜ out r (world (now (st .exit)) (now (mem .exit))) ≡ apply (world (now (st .entry)) (now (mem .entry))) (Fresh nodes) ⌝ }
+    ensures { λ r. ⌜ out r (world (now (st .exit)) (now (mem .exit))) ≡ apply (world (now (st .entry)) (now (mem .entry))) (Begin Fresh nodes) ⌝ }
 {
-    fresh::fresh(st, mem, nodes)
+    begin(st, mem, Start::Fresh, nodes)
+}
+
+// The same with every link disabled.
+pub fn blank(st: &mut [u32], mem: &mut [u16], nodes: usize) -> Answer
+    ensures { λ r. ⌜ out r (world (now (st .exit)) (now (mem .exit))) ≡ apply (world (now (st .entry)) (now (mem .entry))) (Begin Blank nodes) ⌝ }
+{
+    begin(st, mem, Start::Blank, nodes)
 }
 
 // A cable between link l of slot a and link k of slot b.

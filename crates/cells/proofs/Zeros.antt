@@ -13,7 +13,7 @@ use Rattle.laws.proofs.Row.{row-long, row-at}
 use Rattle.cells.specs.Layout.{stride, Within, begins, nodesIn, table, inside, node, link, port, tile, end, unit}
 use Rattle.cells.specs.Records.{toNode, toLink, toPort, toTile, toEnd, toUnit}
 use Rattle.cells.specs.View.{view}
-use Rattle.cells.specs.Fresh.{freshTo}
+use Rattle.cells.specs.Start.{startTo, noneOn}
 use Rattle.cells.specs.declared.layout.Kind.{Kind}
 use Rattle.cells.proofs.Tables.{in-state, is-inside}
 
@@ -52,10 +52,10 @@ module _ (n : ℕ) where
       ap (λ (l : ℕ). drop l (zeros (n * stride))) (ap (λ (m : ℕ). m * stride) zero-nodes ∙ sym (zeros-long (n * stride)))
       ∙ drop-length (zeros (n * stride))
 
-  zero-own : (m i : ℕ) → table node toNode (zeros (n * stride)) m i ≡ freshTo 0 n .own m i
+  zero-own : (m i : ℕ) → table node toNode (zeros (n * stride)) m i ≡ startTo 0 noneOn n .own m i
   zero-own m i = rw (le-ltb m 0 (omega arith)) (zero-table node (lit≤ tt) toNode refl m i)
 
-  pub zero-view : view (zeros (n * stride)) ≡ freshTo 0 n
+  pub zero-view : view (zeros (n * stride)) ≡ startTo 0 noneOn n
   unfolding view
   zero-view = λ j. record {
     nodes = zero-nodes j;

@@ -4,4 +4,4 @@ pub mod Records
 pub mod View
 pub mod Changes
 pub mod World
-pub mod Fresh
+pub mod Start

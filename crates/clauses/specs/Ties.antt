@@ -1,4 +1,5 @@
--- Tight: the five ties that make soundness last. They are no part of the Sound list.
+-- Tight: six ties that last with the Sound list and are no part of it. The list lasts by them; `idle` alone is leant on by no call, and is
+-- kept for what it says.
 use Prim.Native.Nat.{ℕ}
 use mathlib.Core.Bool.{Bool, true, _||_}
 use lib.Dec.{eqb}
@@ -30,6 +31,11 @@ fed w n l = onFar (farOf (w .net .links .cables n l)) true (fedTo w n l)
 -- unfed: an unwired link's port ends with a circuit's end
 abbrev pub unfed : World → ℕ → ℕ → Bool
 unfed w n l = eqb (w .net .links .cables n l .wired) 1 || sameStage (back w n l) Fresh
+
+-- unsent: of what leaves by an unwired link nothing has left yet, so that its whole header is at its port's front
+abbrev pub unsent : World → ℕ → ℕ → Bool
+unsent w n l =
+    eqb (w .net .links .cables n l .wired) 1 || sameStage (carriedFor w n (peerOf (w .net .links .users n l))) Fresh
 
 -- idle: a disabled link is used by nobody
 abbrev pub idle : Net → ℕ → ℕ → Bool

@@ -1,4 +1,4 @@
-// The five ties that make soundness last. They are no part of the Sound list.
+// Six ties that last with the Sound list and are no part of it.
 use crate::contents::back;
 use crate::contents::front;
 use crate::pairs::link_user;
@@ -15,7 +15,7 @@ use names::size::REPLY_PORT;
 ghost use mathlib.Core.Path.{_≡_};
 ghost use Rattle.cells.specs.View.{view};
 ghost use Rattle.cells.specs.World.{world};
-ghost use Rattle.clauses.specs.Ties.{carriedFor, fedTo, fed, unfed, idle, inBody, sends, replied};
+ghost use Rattle.clauses.specs.Ties.{carriedFor, fedTo, fed, unfed, unsent, idle, inBody, sends, replied};
 
 // What a link has carried: as much as has left the port that uses it, or nothing unfinished.
 fn carried_for(st: &[u32], mem: &[u16], slot: Slot, x: Peer) -> Stage
@@ -49,8 +49,21 @@ pub fn fed(st: &[u32], mem: &[u16], slot: Slot, l: usize) -> bool
 pub fn unfed(st: &[u32], mem: &[u16], slot: Slot, l: usize) -> bool
     ensures { λ r. ⌜ r ≡ unfed (world (now (st .entry)) (now (mem .entry))) (slot .0) l ⌝ }
 {
-    let k = link::at(st, slot, l);
-    (k.cable.wired == 1) | is_same(back(st, mem, slot, l), Stage::Fresh)
+    if link::at(st, slot, l).cable.wired == 1 {
+        return true;
+    }
+    is_same(back(st, mem, slot, l), Stage::Fresh)
+}
+
+// Of what leaves by an unwired link nothing has left yet.
+pub fn unsent(st: &[u32], mem: &[u16], slot: Slot, l: usize) -> bool
+    ensures { λ r. ⌜ r ≡ unsent (world (now (st .entry)) (now (mem .entry))) (slot .0) l ⌝ }
+{
+    if link::at(st, slot, l).cable.wired == 1 {
+        return true;
+    }
+    let carried = carried_for(st, mem, slot, link_user(st, slot, l));
+    is_same(carried, Stage::Fresh)
 }
 
 // A disabled link is used by nobody.

@@ -8,7 +8,7 @@ use ports::Counters;
 use states::say::report;
 use states::write::TOKENS;
 use states::write::WORDS;
-use states::write::fresh;
+use states::write::blank;
 use states::write::set_claim;
 use states::write::set_credit;
 use states::write::set_heard;
@@ -24,7 +24,7 @@ use states::write::set_word;
 fn lengths() {
     let mut st = [0u32; WORDS];
     let mem = [0u16; TOKENS + 1];
-    fresh(&mut st);
+    blank(&mut st);
     report(b"1 a memory one word too long", &st, &mem);
     report(b"1 a memory of the right length", &st, &mem[..TOKENS]);
 }
@@ -32,7 +32,7 @@ fn lengths() {
 fn node_counts() {
     let mut st = [0u32; WORDS];
     let mem = [0u16; TOKENS];
-    fresh(&mut st);
+    blank(&mut st);
     set_width(&mut st, 1, 2);
     report(b"2 width two", &st, &mem);
     set_width(&mut st, 1, 1);
@@ -42,7 +42,7 @@ fn node_counts() {
 fn link_counts() {
     let mut st = [0u32; WORDS];
     let mem = [0u16; TOKENS];
-    fresh(&mut st);
+    blank(&mut st);
     set_credit(&mut st, 1, 7, 2, 0, 0);
     report(b"2 a link neither enabled nor disabled", &st, &mem);
     set_credit(&mut st, 1, 7, 1, 0, 0);
@@ -52,7 +52,7 @@ fn link_counts() {
 fn port_counts() {
     let mut st = [0u32; WORDS];
     let mem = [0u16; TOKENS];
-    fresh(&mut st);
+    blank(&mut st);
     set_hop(&mut st, 1, REPLY_PORT, 6, 0, 0);
     report(b"2 a circuit of no kind", &st, &mem);
     set_hop(&mut st, 1, REPLY_PORT, 5, 0, 0);
@@ -62,7 +62,7 @@ fn port_counts() {
 fn tile_counts() {
     let mut st = [0u32; WORDS];
     let mem = [0u16; TOKENS];
-    fresh(&mut st);
+    blank(&mut st);
     set_tile_user(&mut st, 0, 3, 2, 0);
     report(b"2 a tile link used by a channel-end", &st, &mem);
     set_tile_user(&mut st, 0, 3, 0, 0);
@@ -72,7 +72,7 @@ fn tile_counts() {
 fn end_counts() {
     let mut st = [0u32; WORDS];
     let mem = [0u16; TOKENS];
-    fresh(&mut st);
+    blank(&mut st);
     set_sending(&mut st, 1, 31, 3, 0, 0);
     report(b"2 an aim of no kind", &st, &mem);
     set_sending(&mut st, 1, 31, 2, 0, 0);
@@ -82,7 +82,7 @@ fn end_counts() {
 fn unit_counts() {
     let mut st = [0u32; WORDS];
     let mem = [0u16; TOKENS];
-    fresh(&mut st);
+    blank(&mut st);
     set_hop(&mut st, 1, 0, 3, 0, 0);
     set_serves(&mut st, 1, 1, 0);
     set_heard(&mut st, 1, UNIT_BUFFER + 1, 0x01C1);
@@ -102,7 +102,7 @@ fn join(st: &mut [u32], greeted: u32, credit: u32) {
 fn credit() {
     let mut st = [0u32; WORDS];
     let mem = [0u16; TOKENS];
-    fresh(&mut st);
+    blank(&mut st);
     join(&mut st, 0, 8);
     report(b"3 credit on an ungreeted link", &st, &mem);
     join(&mut st, 1, 8);
@@ -112,7 +112,7 @@ fn credit() {
 fn greeting() {
     let mut st = [0u32; WORDS];
     let mem = [0u16; TOKENS];
-    fresh(&mut st);
+    blank(&mut st);
     join(&mut st, 1, 0);
     set_credit(&mut st, 1, 3, 0, 0, 0);
     report(b"4 greeted, the far end disabled", &st, &mem);
@@ -123,7 +123,7 @@ fn greeting() {
 fn room() {
     let mut st = [0u32; WORDS];
     let mut mem = [0u16; TOKENS];
-    fresh(&mut st);
+    blank(&mut st);
     join(&mut st, 1, Counters::CAPACITY);
     set_word(&mut st, &mut mem, 1, 3, 1, 0x0227);
     report(b"5 credit 64, one token held at the far end", &st, &mem);
@@ -134,7 +134,7 @@ fn room() {
 fn cables() {
     let mut st = [0u32; WORDS];
     let mem = [0u16; TOKENS];
-    fresh(&mut st);
+    blank(&mut st);
     set_wired(&mut st, 0, 0, 1, 3);
     report(b"6 a cable known at one end", &st, &mem);
     set_wired(&mut st, 1, 3, 0, 0);
@@ -144,7 +144,7 @@ fn cables() {
 fn held() {
     let mut st = [0u32; WORDS];
     let mem = [0u16; TOKENS];
-    fresh(&mut st);
+    blank(&mut st);
     set_held(&mut st, 1, 31, 1, 0x0102);
     report(b"8 PAUSE in a channel-end", &st, &mem);
     set_held(&mut st, 1, 31, 1, 0x0101);
@@ -154,7 +154,7 @@ fn held() {
 fn heard() {
     let mut st = [0u32; WORDS];
     let mem = [0u16; TOKENS];
-    fresh(&mut st);
+    blank(&mut st);
     set_hop(&mut st, 1, 0, 3, 0, 0);
     set_serves(&mut st, 1, 1, 0);
     set_heard(&mut st, 1, 1, 0x0101);
@@ -166,7 +166,7 @@ fn heard() {
 fn claims() {
     let mut st = [0u32; WORDS];
     let mem = [0u16; TOKENS];
-    fresh(&mut st);
+    blank(&mut st);
     set_claim(&mut st, 1, 5, 1, 0);
     report(b"10 a claim by a port with no circuit", &st, &mem);
     set_hop(&mut st, 1, 0, 2, 5, 1);
@@ -181,7 +181,7 @@ fn claims() {
 fn replies() {
     let mut st = [0u32; WORDS];
     let mut mem = [0u16; TOKENS];
-    fresh(&mut st);
+    blank(&mut st);
     set_hop(&mut st, 1, 0, 3, 0, 0);
     set_serves(&mut st, 1, 1, 0);
     set_word(&mut st, &mut mem, 1, REPLY_PORT, 1, 0x0227);

@@ -3,7 +3,7 @@
 use states::say::report;
 use states::write::TOKENS;
 use states::write::WORDS;
-use states::write::fresh;
+use states::write::blank;
 use states::write::set_sender;
 use states::write::set_sending;
 use states::write::set_word;
@@ -19,7 +19,7 @@ fn open_by(st: &mut [u32], mem: &mut [u16], p: u32) {
 fn port_of_an_end() {
     let mut st = [0u32; WORDS];
     let mut mem = [0u16; TOKENS];
-    fresh(&mut st);
+    blank(&mut st);
     open_by(&mut st, &mut mem, 9);
     set_sender(&mut st, 1, 9, 0, 0);
     report(
@@ -34,7 +34,7 @@ fn port_of_an_end() {
 fn two_ends_of_a_port() {
     let mut st = [0u32; WORDS];
     let mut mem = [0u16; TOKENS];
-    fresh(&mut st);
+    blank(&mut st);
     open_by(&mut st, &mut mem, 9);
     set_sending(&mut st, 1, 5, 2, 1, 9);
     report(b"11 two open channel-ends and one port", &st, &mem);
@@ -45,7 +45,7 @@ fn two_ends_of_a_port() {
 fn end_of_a_port() {
     let mut st = [0u32; WORDS];
     let mut mem = [0u16; TOKENS];
-    fresh(&mut st);
+    blank(&mut st);
     open_by(&mut st, &mut mem, 9);
     set_sending(&mut st, 1, 4, 2, 0, 0);
     report(
@@ -64,7 +64,7 @@ fn end_of_a_port() {
 fn aimed_by_a_port() {
     let mut st = [0u32; WORDS];
     let mut mem = [0u16; TOKENS];
-    fresh(&mut st);
+    blank(&mut st);
     open_by(&mut st, &mut mem, 9);
     set_sending(&mut st, 1, 4, 0, 1, 9);
     report(b"11 open by a port and not aimed", &st, &mem);
@@ -75,7 +75,7 @@ fn aimed_by_a_port() {
 fn aimed_straight() {
     let mut st = [0u32; WORDS];
     let mem = [0u16; TOKENS];
-    fresh(&mut st);
+    blank(&mut st);
     set_sending(&mut st, 1, 4, 0, 2, 255);
     report(b"11 open straight to the sink and not aimed", &st, &mem);
     set_sending(&mut st, 1, 4, 2, 2, 255);
@@ -86,7 +86,7 @@ fn aimed_straight() {
 fn past_the_links() {
     let mut st = [0u32; WORDS];
     let mut mem = [0u16; TOKENS];
-    fresh(&mut st);
+    blank(&mut st);
     open_by(&mut st, &mut mem, 7);
     report(b"11 open by port 7", &st, &mem);
     set_sender(&mut st, 1, 7, 0, 0);
@@ -97,7 +97,7 @@ fn past_the_links() {
 fn before_the_replies() {
     let mut st = [0u32; WORDS];
     let mut mem = [0u16; TOKENS];
-    fresh(&mut st);
+    blank(&mut st);
     open_by(&mut st, &mut mem, 12);
     report(b"11 open by port 12", &st, &mem);
     set_sender(&mut st, 1, 12, 0, 0);
@@ -109,7 +109,7 @@ fn before_the_replies() {
 fn taken() {
     let mut st = [0u32; WORDS];
     let mut mem = [0u16; TOKENS];
-    fresh(&mut st);
+    blank(&mut st);
     set_sender(&mut st, 1, 9, 2, 4);
     set_sending(&mut st, 1, 4, 2, 1, 9);
     report(b"11 open by a port that nothing has taken", &st, &mem);

@@ -2,7 +2,7 @@
 use states::say::report;
 use states::write::TOKENS;
 use states::write::WORDS;
-use states::write::fresh;
+use states::write::blank;
 use states::write::set_hop;
 use states::write::set_serves;
 use states::write::set_tile_user;
@@ -11,7 +11,7 @@ use states::write::set_user;
 fn link_of_a_port() {
     let mut st = [0u32; WORDS];
     let mem = [0u16; TOKENS];
-    fresh(&mut st);
+    blank(&mut st);
     set_hop(&mut st, 1, 8, 1, 2, 0);
     report(b"9 a hop outward by a link that nobody uses", &st, &mem);
     set_user(&mut st, 1, 2, 1, 8);
@@ -21,7 +21,7 @@ fn link_of_a_port() {
 fn two_ports_of_a_link() {
     let mut st = [0u32; WORDS];
     let mem = [0u16; TOKENS];
-    fresh(&mut st);
+    blank(&mut st);
     set_hop(&mut st, 1, 8, 1, 2, 0);
     set_user(&mut st, 1, 2, 1, 8);
     set_hop(&mut st, 1, 9, 1, 2, 0);
@@ -34,7 +34,7 @@ fn two_ports_of_a_link() {
 fn port_of_a_link() {
     let mut st = [0u32; WORDS];
     let mem = [0u16; TOKENS];
-    fresh(&mut st);
+    blank(&mut st);
     set_user(&mut st, 1, 2, 1, 8);
     report(b"9 a link that names a port with no circuit", &st, &mem);
     set_hop(&mut st, 1, 8, 1, 2, 0);
@@ -44,7 +44,7 @@ fn port_of_a_link() {
 fn two_links_of_a_port() {
     let mut st = [0u32; WORDS];
     let mem = [0u16; TOKENS];
-    fresh(&mut st);
+    blank(&mut st);
     set_hop(&mut st, 1, 8, 1, 2, 0);
     set_user(&mut st, 1, 2, 1, 8);
     set_user(&mut st, 1, 3, 1, 8);
@@ -56,7 +56,7 @@ fn two_links_of_a_port() {
 fn tile_link_of_a_port() {
     let mut st = [0u32; WORDS];
     let mem = [0u16; TOKENS];
-    fresh(&mut st);
+    blank(&mut st);
     set_hop(&mut st, 1, 0, 2, 255, 1);
     report(b"9 a hop by a tile link that nobody uses", &st, &mem);
     set_tile_user(&mut st, 1, 1, 1, 0);
@@ -66,7 +66,7 @@ fn tile_link_of_a_port() {
 fn two_ports_of_a_tile_link() {
     let mut st = [0u32; WORDS];
     let mem = [0u16; TOKENS];
-    fresh(&mut st);
+    blank(&mut st);
     set_hop(&mut st, 1, 0, 2, 255, 1);
     set_tile_user(&mut st, 1, 1, 1, 0);
     set_hop(&mut st, 1, 3, 2, 255, 1);
@@ -79,7 +79,7 @@ fn two_ports_of_a_tile_link() {
 fn port_of_a_tile_link() {
     let mut st = [0u32; WORDS];
     let mem = [0u16; TOKENS];
-    fresh(&mut st);
+    blank(&mut st);
     set_tile_user(&mut st, 1, 1, 1, 0);
     report(
         b"9 a tile link that names a port with no circuit",
@@ -97,7 +97,7 @@ fn port_of_a_tile_link() {
 fn two_tile_links_of_a_port() {
     let mut st = [0u32; WORDS];
     let mem = [0u16; TOKENS];
-    fresh(&mut st);
+    blank(&mut st);
     set_hop(&mut st, 1, 0, 2, 255, 1);
     set_tile_user(&mut st, 1, 1, 1, 0);
     set_tile_user(&mut st, 1, 2, 1, 0);
@@ -109,7 +109,7 @@ fn two_tile_links_of_a_port() {
 fn unit_of_a_port() {
     let mut st = [0u32; WORDS];
     let mem = [0u16; TOKENS];
-    fresh(&mut st);
+    blank(&mut st);
     set_hop(&mut st, 1, 0, 3, 0, 0);
     report(b"9 a hop to a control unit that serves nobody", &st, &mem);
     set_serves(&mut st, 1, 1, 0);
@@ -119,7 +119,7 @@ fn unit_of_a_port() {
 fn two_ports_of_a_unit() {
     let mut st = [0u32; WORDS];
     let mem = [0u16; TOKENS];
-    fresh(&mut st);
+    blank(&mut st);
     set_hop(&mut st, 1, 0, 3, 0, 0);
     set_serves(&mut st, 1, 1, 0);
     set_hop(&mut st, 1, 3, 3, 0, 0);
@@ -131,7 +131,7 @@ fn two_ports_of_a_unit() {
 fn port_of_a_unit() {
     let mut st = [0u32; WORDS];
     let mem = [0u16; TOKENS];
-    fresh(&mut st);
+    blank(&mut st);
     set_serves(&mut st, 1, 1, 0);
     report(
         b"9 a control unit that serves a port with no circuit",

@@ -4,7 +4,7 @@ use names::size::REPLY_PORT;
 use states::say::report;
 use states::write::TOKENS;
 use states::write::WORDS;
-use states::write::fresh;
+use states::write::blank;
 use states::write::set_hop;
 use states::write::set_serves;
 use states::write::set_tile_user;
@@ -30,7 +30,7 @@ const PAUSE: u16 = 0x0102;
 fn tokens() {
     let mut st = [0u32; WORDS];
     let mut mem = [0u16; TOKENS];
-    fresh(&mut st);
+    blank(&mut st);
     set_words(&mut st, &mut mem, REPLY_PORT, 2, ONE, 0x01C2, 0);
     report(b"7 tokens: control 0xC2 behind a header", &st, &mem);
     set_words(&mut st, &mut mem, REPLY_PORT, 2, ONE, 0x01C1, 0);
@@ -41,7 +41,7 @@ fn tokens() {
 fn channels() {
     let mut st = [0u32; WORDS];
     let mut mem = [0u16; TOKENS];
-    fresh(&mut st);
+    blank(&mut st);
     set_words(&mut st, &mut mem, REPLY_PORT, 3, HIGH, LOW, 0x0620);
     report(b"7 headers: channel 32", &st, &mem);
     set_words(&mut st, &mut mem, REPLY_PORT, 3, HIGH, LOW, 0x061F);
@@ -51,7 +51,7 @@ fn channels() {
 fn widths() {
     let mut st = [0u32; WORDS];
     let mut mem = [0u16; TOKENS];
-    fresh(&mut st);
+    blank(&mut st);
     set_words(&mut st, &mut mem, REPLY_PORT, 3, HIGH, LOW, ONE);
     report(b"7 headers: two widths in one header", &st, &mem);
     set_words(&mut st, &mut mem, REPLY_PORT, 3, HIGH, LOW, 0x07C3);
@@ -62,7 +62,7 @@ fn widths() {
 fn starts() {
     let mut st = [0u32; WORDS];
     let mut mem = [0u16; TOKENS];
-    fresh(&mut st);
+    blank(&mut st);
     set_words(&mut st, &mut mem, REPLY_PORT, 1, DATA, 0, 0);
     report(b"7 starts: data where a header must stand", &st, &mem);
     set_words(&mut st, &mut mem, REPLY_PORT, 1, ONE, 0, 0);
@@ -73,7 +73,7 @@ fn starts() {
 fn behind_end() {
     let mut st = [0u32; WORDS];
     let mut mem = [0u16; TOKENS];
-    fresh(&mut st);
+    blank(&mut st);
     set_words(&mut st, &mut mem, REPLY_PORT, 3, ONE, END, DATA);
     report(b"7 follows: data behind END", &st, &mem);
     set_words(&mut st, &mut mem, REPLY_PORT, 3, ONE, END, ONE);
@@ -83,7 +83,7 @@ fn behind_end() {
 fn behind_pause() {
     let mut st = [0u32; WORDS];
     let mut mem = [0u16; TOKENS];
-    fresh(&mut st);
+    blank(&mut st);
     set_words(&mut st, &mut mem, REPLY_PORT, 3, ONE, PAUSE, DATA);
     report(b"7 follows: data behind PAUSE", &st, &mem);
     set_words(&mut st, &mut mem, REPLY_PORT, 3, ONE, PAUSE, ONE);
@@ -94,7 +94,7 @@ fn behind_pause() {
 fn shorts() {
     let mut st = [0u32; WORDS];
     let mut mem = [0u16; TOKENS];
-    fresh(&mut st);
+    blank(&mut st);
     set_words(&mut st, &mut mem, REPLY_PORT, 3, HIGH, LOW, DATA);
     report(b"7 short: data behind two tokens of a header", &st, &mem);
     set_words(&mut st, &mut mem, REPLY_PORT, 2, HIGH, LOW, DATA);
@@ -105,7 +105,7 @@ fn shorts() {
 fn elsewhere() {
     let mut st = [0u32; WORDS];
     let mut mem = [0u16; TOKENS];
-    fresh(&mut st);
+    blank(&mut st);
     set_words(&mut st, &mut mem, REPLY_PORT, 3, ONE, DATA, ONE);
     report(b"7 elsewhere: a header behind data", &st, &mem);
     set_words(&mut st, &mut mem, REPLY_PORT, 3, ONE, DATA, DATA);
@@ -116,7 +116,7 @@ fn elsewhere() {
 fn towards_a_channel() {
     let mut st = [0u32; WORDS];
     let mut mem = [0u16; TOKENS];
-    fresh(&mut st);
+    blank(&mut st);
     set_words(&mut st, &mut mem, 0, 2, CHANNEL, DATA, 0);
     set_hop(&mut st, 1, 0, 2, 255, 1);
     set_tile_user(&mut st, 1, 1, 1, 0);
@@ -129,7 +129,7 @@ fn towards_a_channel() {
 fn towards_the_unit() {
     let mut st = [0u32; WORDS];
     let mut mem = [0u16; TOKENS];
-    fresh(&mut st);
+    blank(&mut st);
     set_words(&mut st, &mut mem, 0, 2, CHANNEL, DATA, 0);
     set_hop(&mut st, 1, 0, 3, 0, 0);
     set_serves(&mut st, 1, 1, 0);
@@ -142,7 +142,7 @@ fn towards_the_unit() {
 fn behind_the_front() {
     let mut st = [0u32; WORDS];
     let mut mem = [0u16; TOKENS];
-    fresh(&mut st);
+    blank(&mut st);
     set_hop(&mut st, 1, 0, 1, 2, 0);
     set_user(&mut st, 1, 2, 1, 0);
     set_words(&mut st, &mut mem, 0, 2, DATA, CHANNEL, 0);

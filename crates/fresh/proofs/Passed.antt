@@ -1,4 +1,4 @@
--- What a Fresh that is not refused has, and what it then comes to. Assumes nothing.
+-- What a start that is not refused has, and what it then comes to. Assumes nothing.
 use Prim.Native.Nat.{ℕ, _*_}
 use mathlib.Core.Path.{_≡_, refl, sym, _∙_}
 use mathlib.Core.Bool.{true}
@@ -16,14 +16,15 @@ use Rattle.answers.specs.declared.Answer.the-variants.{No, Done}
 use Rattle.answers.proofs.Refusals.{passed, refuses, goes-on}
 use Rattle.cells.specs.View.{Net}
 use Rattle.cells.specs.World.{World, shaped, isEmpty}
-use Rattle.cells.specs.Fresh.{freshNet, freshWorld}
-use Rattle.fresh.specs.Fresh.{freshRows, fresh}
+use Rattle.cells.specs.Start.{startNet}
+use Rattle.fresh.specs.Fresh.{startRows, leavesOn, startOf, begin}
+use Rattle.fresh.specs.declared.Start.{Start}
 
 is-empty : (l : List ℕ) → isEmpty l ≡ true → l ≡ []
 is-empty [] e = refl
 is-empty (x ∷ l) e = clash (sym e)
 
-module _ (w : World) (n k : ℕ) (e : k ≡ refusal (freshRows w n)) where
+module _ (w : World) (n k : ℕ) (e : k ≡ refusal (startRows w n)) where
   -- both lengths are those of n nodes
   pub record Fitting : Type 0 where
     pub rest : w .net .rest ≡ []
@@ -33,18 +34,20 @@ module _ (w : World) (n k : ℕ) (e : k ≡ refusal (freshRows w n)) where
   pub fitting : k ≡ passes → Fitting
   unfolding shaped
   fitting h =
-      let p = passed (freshRows w n) .sure (eq-eqb (refusal (freshRows w n)) passes (sym e ∙ h)) .1 .0 in
+      let p = passed (startRows w n) .sure (eq-eqb (refusal (startRows w n)) passes (sym e ∙ h)) .1 .0 in
       let z = also (also (as-is (isEmpty (w .net .rest))) (also (at-most 1 (w .net .nodes)) (also (at-most (w .net .nodes) nodes) (equal (length (w .memory)) (w .net .nodes * (ports * capacity)))))) (equal (w .net .nodes) n) .sure (not-false _ p) in
       record { rest = is-empty (w .net .rest) (z .0 .0); counted = z .1; memory = rw (← z .1) (z .0 .1 .1 .1) }
 
-  pub fresh-refuses : (k ≡ passes → ⊥) → out (No k) w ≡ fresh w n
-  unfolding fresh
-  fresh-refuses h = refuses (freshRows w n) w (out Done (freshWorld n)) k e h
+  module _ (x : Start) where
+    pub start-refuses : (k ≡ passes → ⊥) → out (No k) w ≡ begin w x n
+    unfolding begin
+    start-refuses h = refuses (startRows w n) w (out Done (startOf x n)) k e h
 
-  -- both memories written
-  pub fresh-goes-on : (s : Net) (m : List ℕ) → k ≡ passes → s ≡ freshNet (w .net .nodes) → m ≡ replicate (length (w .memory)) 0
-      → out Done (record { net = s; memory = m }) ≡ fresh w n
-  unfolding fresh
-  fresh-goes-on s m h a b =
-      let f = fitting h in
-      goes-on (freshRows w n) w (out Done (freshWorld n)) k e h (rw (a, b, f .counted, f .memory))
+    -- both memories written
+    pub start-goes-on : (s : Net) (m : List ℕ) → k ≡ passes → s ≡ startNet (leavesOn x (w .net .nodes)) (w .net .nodes)
+        → m ≡ replicate (length (w .memory)) 0
+        → out Done (record { net = s; memory = m }) ≡ begin w x n
+    unfolding begin
+    start-goes-on s m h a b =
+        let f = fitting h in
+        goes-on (startRows w n) w (out Done (startOf x n)) k e h (rw (a, b, f .counted, f .memory))

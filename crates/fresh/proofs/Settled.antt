@@ -15,13 +15,13 @@ use Rattle.laws.proofs.Table.{upd-hit, upd-miss, place}
 use Rattle.cells.specs.Layout.{stride, nodesIn}
 use Rattle.cells.specs.Records.{toNode}
 use Rattle.cells.specs.View.{view, withNode, Net}
-use Rattle.cells.specs.Fresh.{freshNode, freshTo, freshNet}
+use Rattle.cells.specs.Start.{startNode, startTo, startNet, noneOn}
 use Rattle.cells.specs.declared.node.Node.{Node}
 use Rattle.cells.proofs.Zeros.{zero-view}
 
 -- the settings of node m of which the first k nodes have theirs
 abbrev settings : ℕ → ℕ → ℕ → Node
-settings k m i = pick (ltb m k && ltb i 1) freshNode (toNode [])
+settings k m i = pick (ltb m k && ltb i 1) startNode (toNode [])
 
 as-before : (k m i : ℕ) → Off k 0 m i → settings k m i ≡ settings (k + 1) m i
 as-before k m i o =
@@ -36,31 +36,32 @@ as-before k m i o =
     past : {k m : ℕ} → (m ≡ k → ⊥) → k ≤ m → k + 1 ≤ m
     past ne nl = omega arith
 
-one-more : (k m i : ℕ) → upd (settings k) k 0 freshNode m i ≡ settings (k + 1) m i
+one-more : (k m i : ℕ) → upd (settings k) k 0 startNode m i ≡ settings (k + 1) m i
 one-more k m i =
     place k 0 m i
-    (λ d e. upd-hit (settings k) k 0 freshNode m i d e ∙ rw (lt-ltb m (k + 1) (omega arith), lt-ltb i 1 (omega arith)))
-    (λ o. upd-miss (settings k) k 0 freshNode m i o ∙ as-before k m i o)
+    (λ d e. upd-hit (settings k) k 0 startNode m i d e ∙ rw (lt-ltb m (k + 1) (omega arith), lt-ltb i 1 (omega arith)))
+    (λ o. upd-miss (settings k) k 0 startNode m i o ∙ as-before k m i o)
 
-pub settle-next : (k n : ℕ) → withNode (freshTo k n) k freshNode ≡ freshTo (k + 1) n
+pub settle-next : (k n : ℕ) → withNode (startTo k noneOn n) k startNode ≡ startTo (k + 1) noneOn n
 settle-next k n =
     λ j. record {
       nodes = n;
       own = λ m i. one-more k m i j;
-      links = freshTo k n .links;
-      ports = freshTo k n .ports;
-      tiles = freshTo k n .tiles;
-      ends = freshTo k n .ends;
-      units = freshTo k n .units;
-      rest = freshTo k n .rest;
+      links = startTo k noneOn n .links;
+      ports = startTo k noneOn n .ports;
+      tiles = startTo k noneOn n .tiles;
+      ends = startTo k noneOn n .ends;
+      units = startTo k noneOn n .units;
+      rest = startTo k noneOn n .rest;
     }
 
-pub settle-all : (s : Net) (k e n : ℕ) → e ≡ n → k ≤ e → e ≤ k → s ≡ freshTo k e → s ≡ freshNet n
-settle-all s k e n q h g z =
-    let d : k ≡ e = omega arith in z ∙ ap (λ (m : ℕ). freshTo m e) d ∙ ap freshNet q
+-- past the last of e nodes: what is so of the first k of them is so of all n
+pub past-last : (f : ℕ → ℕ → Net) (s : Net) (k e n : ℕ) → e ≡ n → k ≤ e → e ≤ k → s ≡ f k e → s ≡ f n n
+past-last f s k e n q h g z =
+    let d : k ≡ e = omega arith in z ∙ ap (λ (m : ℕ). f m e) d ∙ ap (λ (m : ℕ). f m m) q
 
 -- a state of which nothing is left over after its last node, cleared
-cleared-view : (ws : List ℕ) → view ws .rest ≡ [] → view (replicate (length ws) 0) ≡ freshTo 0 (view ws .nodes)
+cleared-view : (ws : List ℕ) → view ws .rest ≡ [] → view (replicate (length ws) 0) ≡ startTo 0 noneOn (view ws .nodes)
 unfolding view
 cleared-view ws h =
     let r : length ws - nodesIn ws * stride ≡ 0 = sym (length-drop (nodesIn ws * stride) ws) ∙ ap length h in
@@ -68,11 +69,22 @@ cleared-view ws h =
     ap (λ (l : ℕ). view (replicate l 0)) e ∙ zero-view (nodesIn ws)
 
 module _ (ws zs : List ℕ) (h : view ws .rest ≡ []) (e : zs ≡ replicate (length ws) 0) where
-  zeroed : view zs ≡ freshTo 0 (view ws .nodes)
+  zeroed : view zs ≡ startTo 0 noneOn (view ws .nodes)
   zeroed = ap view e ∙ cleared-view ws h
 
-  pub nodes-kept : view zs .nodes ≡ view ws .nodes
+  nodes-kept : view zs .nodes ≡ view ws .nodes
   nodes-kept = ap (λ (s : Net). s .nodes) zeroed
 
-  pub ready : view zs ≡ freshTo 0 (view zs .nodes)
-  ready = zeroed ∙ ap (freshTo 0) (sym nodes-kept)
+  pub ready : view zs ≡ startTo 0 noneOn (view zs .nodes)
+  ready = zeroed ∙ ap (startTo 0 noneOn) (sym nodes-kept)
+
+  -- .. and with its settings
+  module _ (t : Net) (z : t ≡ startNet noneOn (view zs .nodes)) where
+    pub settled : t ≡ startNet noneOn (view ws .nodes)
+    settled = z ∙ ap (startNet noneOn) nodes-kept
+
+    pub settled-nodes : t .nodes ≡ view ws .nodes
+    settled-nodes = ap (λ (s : Net). s .nodes) settled
+
+    pub settled-ready : t ≡ startNet noneOn (t .nodes)
+    settled-ready = settled ∙ ap (startNet noneOn) (sym settled-nodes)

@@ -1,2 +1,3 @@
--- The definition that the contract of Fresh cites.
+-- The definitions that the contracts of the starts cite.
 pub mod Fresh
+pub mod Needs

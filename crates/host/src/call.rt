@@ -1,6 +1,7 @@
 // The calls. Each answers one number, and leaves both memories as the call of crate bench does.
 use answers::answer_number;
 use bench::aim;
+use bench::blank;
 use bench::fresh;
 use bench::input;
 use bench::output;
@@ -18,14 +19,22 @@ ghost use Rattle.ends.specs.declared.aim.Goal.the-variants as Goals;
 ghost use Rattle.ends.specs.declared.Token.the-variants as Tokens;
 ghost use Rattle.ends.specs.declared.Wanted.the-variants as Wants;
 ghost use Rattle.cells.specs.World.{world};
-ghost use Rattle.bench.specs.Calls.{apply, Fresh, Wire, Set, Aim, Output, Input, Step};
+ghost use Rattle.fresh.specs.declared.Start.the-variants.{Fresh, Blank};
+ghost use Rattle.bench.specs.Calls.{apply, Begin, Wire, Set, Aim, Output, Input, Step};
 ghost use Rattle.host.specs.Crossed.{crossing, crossed, slot};
 
 #[no_mangle]
 pub extern "C" fn tarvelgyo_fresh(st: &mut [u32], mem: &mut [u16], nodes: usize) -> u64
-    ensures { λ r. ⌜ crossing r (world (now (st .exit)) (now (mem .exit))) ≡ crossed (apply (world (now (st .entry)) (now (mem .entry))) (Fresh nodes)) ⌝ }
+    ensures { λ r. ⌜ crossing r (world (now (st .exit)) (now (mem .exit))) ≡ crossed (apply (world (now (st .entry)) (now (mem .entry))) (Begin Fresh nodes)) ⌝ }
 {
     answer_number(fresh(st, mem, nodes))
+}
+
+#[no_mangle]
+pub extern "C" fn tarvelgyo_blank(st: &mut [u32], mem: &mut [u16], nodes: usize) -> u64
+    ensures { λ r. ⌜ crossing r (world (now (st .exit)) (now (mem .exit))) ≡ crossed (apply (world (now (st .entry)) (now (mem .entry))) (Begin Blank nodes)) ⌝ }
+{
+    answer_number(blank(st, mem, nodes))
 }
 
 // A cable between link l of slot a and link k of slot b.

@@ -1,8 +1,7 @@
 -- What each call makes that is not refused keeps all that is kept. Assumes nothing.
-use Prim.Native.Nat.{ℕ, _<_}
+use Prim.Native.Nat.{ℕ, _<_, _≤_}
 use mathlib.Core.Path.{_≡_, refl, sym}
 use mathlib.Core.Bool.{Bool, true, false, _||_}
-use lib.Dec.{eqb}
 use borrow.Author.Tests.{eqb-false, eq-eqb, not-false}
 use Rattle.laws.specs.Table.{Off}
 use Rattle.laws.proofs.All.{also, as-is, at-most, below}
@@ -10,10 +9,10 @@ use Rattle.laws.proofs.Order.{clash}
 use Rattle.names.specs.Size.{nodes, links, ports, ends, networks}
 use Rattle.answers.specs.Rows.{Passes}
 use Rattle.cells.specs.World.{World}
-use Rattle.cells.specs.Fresh.{freshWorld}
 use Rattle.acts.specs.Acts.{withNet}
-use Rattle.fresh.specs.Fresh.{freshRows}
-use Rattle.settings.specs.Wire.{endTaken, wireRows, wired}
+use Rattle.fresh.specs.Fresh.{startRows, leavesOn, startOf}
+use Rattle.fresh.specs.declared.Start.{Start}
+use Rattle.settings.specs.Wire.{endWired, wireRows, wired}
 use Rattle.settings.specs.Set.{linkThere, setRows, setMade}
 use Rattle.settings.specs.declared.Setting.{Setting}
 use Rattle.ends.specs.Aim.{goalRanged, aimRows, aimMade}
@@ -24,7 +23,7 @@ use Rattle.ends.specs.declared.Token.{Token}
 use Rattle.ends.specs.declared.Wanted.{Wanted}
 use Rattle.ends.specs.declared.aim.Goal.{Goal}
 use Rattle.switch.specs.Step.{stepRows, stepMade}
-use Rattle.sound.proofs.Fresh.{fresh-sound, fresh-tight}
+use Rattle.sound.proofs.Start.{start-sound, start-tight}
 use Rattle.kept.specs.Kept.{Kept}
 use Rattle.kept.proofs.Parts.{sound-kept}
 use Rattle.kept.proofs.Wires.{Loose, keep-wired}
@@ -37,27 +36,27 @@ either-not : (a b : Bool) → (a || b) ≡ false → (a ≡ false) × (b ≡ fal
 either-not true b e = clash e
 either-not false b e = (refl, e)
 
--- FRESH
-pub keep-fresh : (w : World) (n : ℕ) → Passes (freshRows w n) → Kept (freshWorld n)
-keep-fresh w n p =
-    let counted = also (at-most 1 n) (at-most n nodes) .sure (not-false _ (p .0)) in
-    sound-kept (freshWorld n) (fresh-sound n (counted .0) (counted .1)) (fresh-tight n (counted .0) (counted .1))
+-- FRESH AND BLANK
+pub start-kept : (s : Start) (n : ℕ) → 1 ≤ n → n ≤ nodes → Kept (startOf s n)
+start-kept s n some few = sound-kept (startOf s n) (start-sound (leavesOn s n) n some few) (start-tight (leavesOn s n) n some few)
+
+pub keep-start : (w : World) (s : Start) (n : ℕ) → Passes (startRows w n) → Kept (startOf s n)
+keep-start w s n p =
+    let counted = also (at-most 1 n) (at-most n nodes) .sure (not-false _ (p .0)) in start-kept s n (counted .0) (counted .1)
 
 -- WIRE
 pub wire-ends : (w : World) (n l m k : ℕ) → Passes (wireRows (w .net) n l m k) → Loose w n l × Loose w m k × Off n l m k
 wire-ends w n l m k p =
     let ends = also (also (below n (w .net .nodes)) (below l links)) (also (below m (w .net .nodes)) (below k links)) in
     let there = ends .sure (not-false _ (p .0)) in
-    let free = either-not (endTaken (w .net) n l) (endTaken (w .net) m k) (p .1 .1 .0) in (
+    let free = either-not (endWired (w .net) n l) (endWired (w .net) m k) (p .1 .1 .0) in (
       loose n l (there .0) (free .0),
       loose m k (there .1) (free .1),
       λ e d. clash (rw (eq-eqb n m (sym e), eq-eqb l k (sym d)) at (p .1 .0)),
     )
   where
-    loose : (a j : ℕ) → (a < w .net .nodes) × (j < links) → endTaken (w .net) a j ≡ false → Loose w a j
-    loose a j h e =
-        let z = either-not (eqb (w .net .links .cables a j .wired) 1) (eqb (w .net .links .setups a j .enabled) 1) e in
-        record { node = h .0; link = h .1; unwired = eqb-false _ 1 (z .0); disabled = eqb-false _ 1 (z .1) }
+    loose : (a j : ℕ) → (a < w .net .nodes) × (j < links) → endWired (w .net) a j ≡ false → Loose w a j
+    loose a j h e = record { node = h .0; link = h .1; unwired = eqb-false _ 1 e }
 
 pub keep-wire : (w : World) → Kept w → (n l m k : ℕ) → Passes (wireRows (w .net) n l m k) → Kept (withNet w (wired (w .net) n l m k))
 keep-wire w kept n l m k p = let (a, b, off) = wire-ends w n l m k p in keep-wired w kept n l m k a b off

@@ -98,7 +98,7 @@ keep-ends w x k z =
       silent = k .silent;
       backs = record { walks = k .backs .walks; unfed = k .backs .unfed; sends = z .sends; replied = k .backs .replied };
       idle = k .idle;
-      fed = k .fed;
+      carries = k .carries;
     }
 
 -- AIM

@@ -31,7 +31,7 @@ use Rattle.acts.specs.Needs.{Holds, Keeps, Given}
 use Rattle.moves.specs.Moves.{took, hands}
 use Rattle.kept.specs.Kept.{All, PortOk, PeerOk, BufferOk, Pair, legClaim, portIn, endIn, claimIn, Kept}
 use Rattle.kept.proofs.Tables.{all-upd, keeps-none, pair-second, pair-leave}
-use Rattle.kept.proofs.Stages.{fed-away}
+use Rattle.kept.proofs.Stages.{carries-away}
 use Rattle.kept.proofs.Walks.{past-small}
 use Rattle.kept.proofs.Ends.{buffer-after}
 use Rattle.kept.proofs.Leaves.{tokenTaken, taken-is, shutIf, shut-if, left, Left, pair-left, leaves}
@@ -124,7 +124,7 @@ module _ (w : World) (k : Kept w) (n p c t : ℕ) (r : Holds w n p 1) (e : hop (
         silent = lf .silent;
         backs = lf .backs;
         idle = k .idle;
-        fed = fed-away n p (k .portLink) (named linkOf Nothing refl) (lf .off) (lf .back) (k .cabled) (k .fed);
+        carries = carries-away n p (k .portLink) (named linkOf Nothing refl) (lf .off) (lf .back) (k .cabled) (k .carries);
       }
 
   -- to the sink, which takes and forgets

@@ -33,7 +33,7 @@ use Rattle.moves.specs.Moves.{took, closesUnit}
 use Rattle.switch.specs.Step.{hears}
 use Rattle.kept.specs.Kept.{All, PortOk, HearingOk, Silent, Pair, legUnit, portIn, Kept}
 use Rattle.kept.proofs.Tables.{all-upd, all-at, pair-first, pair-leave}
-use Rattle.kept.proofs.Stages.{fed-away}
+use Rattle.kept.proofs.Stages.{carries-away}
 use Rattle.kept.proofs.Words.{words-more}
 use Rattle.kept.proofs.Walks.{past-small}
 use Rattle.kept.proofs.Leaves.{tokenTaken, taken-is, shut-if, left, Left, pair-left, leaves}
@@ -117,7 +117,7 @@ module _ (w : World) (k : Kept w) (n p : ℕ) (r : Holds w n p 1) (e : hop (w .n
         silent = silent;
         backs = lf .backs;
         idle = k .idle;
-        fed = fed-away n p (k .portLink) (named linkOf Nothing refl) (lf .off) (lf .back) (k .cabled) (k .fed);
+        carries = carries-away n p (k .portLink) (named linkOf Nothing refl) (lf .off) (lf .back) (k .cabled) (k .carries);
       }
 
   -- heard, and the message goes on

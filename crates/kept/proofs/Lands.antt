@@ -43,7 +43,7 @@ use Rattle.kept.specs.Kept.{frontAt, backAt, legTile, legUnit, legClaim,
 use Rattle.kept.proofs.Money.{withFlows, money-fewer, up-leaves, money-up, greeted-up}
 use Rattle.kept.proofs.Queues.{shape-as}
 use Rattle.kept.proofs.Empties.{Emptied, emptied-stripped}
-use Rattle.kept.proofs.Stages.{read-off, same-ends, fed-away}
+use Rattle.kept.proofs.Stages.{read-off, same-ends, carries-away}
 use Rattle.kept.proofs.Tables.{all-upd, pair-first, pair-second, pair-link}
 use Rattle.kept.proofs.Headers.{landed}
 use Rattle.kept.proofs.Rooms.{kept-holds, queue-long}
@@ -220,7 +220,7 @@ module _ (w : World) (k : Kept w) (n p : ℕ) (z : Headed w n p) (x : Width) (si
         silent = silent-after;
         backs = same-ends back-same (k .goes) (k .backs);
         idle = k .idle;
-        fed = fed-away n p (k .portLink) (ap linkOf (z .shut)) front-off back-same (k .cabled) (k .fed);
+        carries = carries-away n p (k .portLink) (ap linkOf (z .shut)) front-off back-same (k .cabled) (k .carries);
       }
 
   keep-landed : Kept last

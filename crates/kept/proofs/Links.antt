@@ -25,7 +25,7 @@ use Rattle.cells.specs.declared.link.Far.the-variants.{Nowhere, At}
 use Rattle.clauses.specs.Cables.{onFar, enabled, farEnabled}
 use Rattle.acts.specs.Acts.{withNet}
 use Rattle.grants.specs.Grants.{considered, greeting, greets, helloed, silenced, farSilenced, disabled}
-use Rattle.kept.specs.Kept.{All, NodeOk, Cabled, Hears, Greeted, Money, SetupOk, Unfed, Idle, Fed, frontAt, reachedAt, Kept}
+use Rattle.kept.specs.Kept.{All, NodeOk, Cabled, Hears, Greeted, Money, SetupOk, Unfed, Idle, Carries, frontAt, reachedAt, Kept}
 use Rattle.kept.proofs.Tables.{all-at, all-upd}
 use Rattle.kept.proofs.Money.{money-less, money-considered, greeted-considered}
 
@@ -53,7 +53,7 @@ pub record Settled (w : World) (o : ℕ → ℕ → Node) (c : ℕ → ℕ → C
   pub money : Money (w .net .nodes) c f (w .net .ports .counters)
   pub unfed : Unfed (w .net .nodes) c (reachedAt w)
   pub idle : Idle (w .net .nodes) s (w .net .links .users)
-  pub fed : Fed (w .net .nodes) c (w .net .links .users) (frontAt w) (reachedAt w)
+  pub carries : Carries (w .net .nodes) c (w .net .links .users) (frontAt w) (reachedAt w)
 
 pub resettled : (w : World) (o : ℕ → ℕ → Node) (c : ℕ → ℕ → Cable) (s : ℕ → ℕ → Setup) (f : ℕ → ℕ → Flow) → Kept w
     → Settled w o c s f
@@ -90,7 +90,7 @@ resettled w o c s f k z =
       silent = k .silent;
       backs = record { walks = k .backs .walks; unfed = z .unfed; sends = k .backs .sends; replied = k .backs .replied };
       idle = z .idle;
-      fed = z .fed;
+      carries = z .carries;
     }
 
 -- a node's own settings alone, other flows alone, or other settings of links alone
@@ -107,7 +107,7 @@ module _ (w : World) (k : Kept w) where
         money = k .money;
         unfed = k .backs .unfed;
         idle = k .idle;
-        fed = k .fed;
+        carries = k .carries;
       })
 
   flowed : (f : ℕ → ℕ → Flow)
@@ -124,7 +124,7 @@ module _ (w : World) (k : Kept w) where
         money = m;
         unfed = k .backs .unfed;
         idle = k .idle;
-        fed = k .fed;
+        carries = k .carries;
       })
 
   setup : (s : ℕ → ℕ → Setup)
@@ -142,7 +142,7 @@ module _ (w : World) (k : Kept w) where
         money = k .money;
         unfed = k .backs .unfed;
         idle = i;
-        fed = k .fed;
+        carries = k .carries;
       })
 
 -- A GRANT

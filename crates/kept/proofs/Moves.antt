@@ -43,7 +43,7 @@ use Rattle.kept.proofs.Money.{money-cross, greeted-credit, up-more}
 use Rattle.kept.proofs.Fills.{Filled, filled-one}
 use Rattle.kept.proofs.Links.{keep-considered}
 use Rattle.kept.proofs.Rooms.{reaches}
-use Rattle.kept.proofs.Stages.{tile-there, carried-same, fed-away, used-by, names-port}
+use Rattle.kept.proofs.Stages.{tile-there, carried-same, carries-away, used-by, names-port}
 use Rattle.kept.proofs.Walks.{Put, put, closes-fresh, crossed-next, crossed-after}
 use Rattle.kept.proofs.Leaves.{taken-is, shutIf, left, left-is, Left, pair-left, leaves}
 
@@ -82,7 +82,7 @@ keep-drops w k n p c r e =
       silent = gone .silent;
       backs = gone .backs;
       idle = k .idle;
-      fed = fed-away n p (k .portLink) (ap linkOf e) (gone .off) (gone .back) (k .cabled) (k .fed);
+      carries = carries-away n p (k .portLink) (ap linkOf e) (gone .off) (gone .back) (k .cabled) (k .carries);
     })
 
 -- A TOKEN PUT BEHIND: ports begin where they did, and the one that it is put into ends where it leads
@@ -211,7 +211,7 @@ module _ (w : World) (k : Kept w) (n p l : ℕ) (m : Slot) (j : ℕ) (r : Holds 
       -- where the far port ended, and where the token takes it
       let front = frontAt w n p in
       let was : backAt y (m .0) j ≡ crossed front =
-      gone .back (m .0) j (joined .node) (omega arith) ∙ k .fed n l hn hl m j leads ∙ rw by-port in
+      gone .back (m .0) j (joined .node) (omega arith) ∙ k .carries .fed n l hn hl m j leads ∙ rw by-port in
       let next : nextStage (backAt y (m .0) j) c ≡ nextStage front c =
       ap (λ (s : Stage). nextStage s c) was ∙ crossed-next front c (gone .good) in
       let good : isBad (nextStage (backAt y (m .0) j) c) ≡ false = ap isBad next ∙ gone .good in
@@ -224,6 +224,16 @@ module _ (w : World) (k : Kept w) (n p l : ℕ) (m : Slot) (j : ℕ) (r : Holds 
       ∙ carried-if b (t .users n l) (frontAt v n) p (nextStage front c) by-port (λ e. closes-fresh front x (gone .good) e .1)
       (sym (ap crossed (put-front f good n p (r .port) ∙ gone .front) ∙ crossed-after front c))
       ∙ sym (ap (λ (q : Circuit). carried (peerOf q) (frontAt v n)) (upd-same (t .users) n l user)) in
+      -- .. and every other one
+      let elsewhere : (a i : ℕ) → a < w .net .nodes → i < links → Off n l a i
+      → carried (peerOf (upd (t .users) n l user a i)) (frontAt v a) ≡ carried (peerOf (t .users a i)) (frontAt w a) = λ a i ha hi o.
+      ap (λ (z : Circuit). carried (peerOf z) (frontAt v a)) (upd-miss (t .users) n l user a i o)
+      ∙ carried-same (peerOf (t .users a i)) (frontAt w a) (frontAt v a)
+      (λ s d.
+      let (hs, names) = k .portLink .back a i ha hi s (used-by (peerOf (t .users a i)) s d) in
+      put-front f good a s hs
+      ∙ gone .off a s ha hs
+      (λ ea es. let both : One i ≡ One l = sym (rw (ea, es) at names) ∙ named in let link : i ≡ l = cc in o ea link)) in
       record {
         shape = f .shape ∙ gone .shape;
         nodes = k .nodes;
@@ -275,29 +285,28 @@ module _ (w : World) (k : Kept w) (n p l : ℕ) (m : Slot) (j : ℕ) (r : Holds 
         idle =
             all-at (t .users) n l user (λ a i q. (t .setups a i .enabled ≡ 1) ⊎ (q .kind ≡ 0)) (k .idle)
             (⊎-elim inl (λ none. inr (nobody-if b (t .users n l) none)) (k .idle n l hn hl));
-        fed = λ a i ha hi q h e. place n l a i
-            (λ ea ei.
-            let same : At m j ≡ At q h = sym leads ∙ (rw (ea, ei) at e) in
-            let slot : m ≡ q = cc in
-            let link : j ≡ h = cc in
-            rw (sym slot, sym link, ea, ei) here)
-            (λ o.
-            let there = k .cabled .agree a i ha hi q h e in
-            let off : Off (m .0) j (q .0) h = λ eq eh.
-            let both : At (record { 0 = n }) l ≡ At (record { 0 = a }) i = sym (joined .back) ∙ (rw (eq, eh) at (there .back)) in
-            let slot : _≡_ {A = Slot} (record { 0 = n }) (record { 0 = a }) = cc in
-            let link : l ≡ i = cc in
-            o (ap (λ (z : Slot). z .0) (sym slot)) (sym link) in
-            put-off f good (q .0) h (omega (arith, there .link)) off
-            ∙ gone .back (q .0) h (there .node) (omega (arith, there .link))
-            ∙ k .fed a i ha hi q h e
-            ∙ sym (ap (λ (z : Circuit). carried (peerOf z) (frontAt v a)) (upd-miss (t .users) n l user a i o)
-            ∙ carried-same (peerOf (t .users a i)) (frontAt w a) (frontAt v a)
-            (λ s d.
-            let (hs, names) = k .portLink .back a i ha hi s (used-by (peerOf (t .users a i)) s d) in
-            put-front f good a s hs
-            ∙ gone .off a s ha hs
-            (λ ea es. let both : One i ≡ One l = sym (rw (ea, es) at names) ∙ named in let link : i ≡ l = cc in o ea link))));
+        carries = record {
+          fed = λ a i ha hi q h e. place n l a i
+              (λ ea ei.
+              let same : At m j ≡ At q h = sym leads ∙ (rw (ea, ei) at e) in
+              let slot : m ≡ q = cc in
+              let link : j ≡ h = cc in
+              rw (sym slot, sym link, ea, ei) here)
+              (λ o.
+              let there = k .cabled .agree a i ha hi q h e in
+              let off : Off (m .0) j (q .0) h = λ eq eh.
+              let both : At (record { 0 = n }) l ≡ At (record { 0 = a }) i = sym (joined .back) ∙ (rw (eq, eh) at (there .back)) in
+              let slot : _≡_ {A = Slot} (record { 0 = n }) (record { 0 = a }) = cc in
+              let link : l ≡ i = cc in
+              o (ap (λ (z : Slot). z .0) (sym slot)) (sym link) in
+              put-off f good (q .0) h (omega (arith, there .link)) off
+              ∙ gone .back (q .0) h (there .node) (omega (arith, there .link))
+              ∙ k .carries .fed a i ha hi q h e
+              ∙ sym (elsewhere a i ha hi o));
+          unsent = λ a i ha hi. place n l a i
+              (λ ea ei. inl (rw (ea, ei) (leads-wired (t .cables n l) m j leads)))
+              (λ o. ⊎-elim inl (λ e. inr (elsewhere a i ha hi o ∙ e)) (k .carries .unsent a i ha hi));
+        };
       }
 
   pub keep-movesOut : Kept (movesOut w n p l)

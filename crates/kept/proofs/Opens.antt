@@ -36,9 +36,9 @@ use Rattle.acts.proofs.Queues.{popped-queue}
 use Rattle.plans.specs.Plan.{markedWidth, sizeOf}
 use Rattle.plans.proofs.Held.{size-some}
 use Rattle.moves.specs.Moves.{opensOut}
-use Rattle.kept.specs.Kept.{All, LegOk, PortOk, NetworkOk, Pair, Idle, Fed, Kept, frontAt, backAt, carried, legLink, portIn}
+use Rattle.kept.specs.Kept.{All, LegOk, PortOk, NetworkOk, Pair, Idle, Carries, Kept, frontAt, backAt, carried, legLink, portIn}
 use Rattle.kept.proofs.Rooms.{kept-holds, queue-long}
-use Rattle.kept.proofs.Stages.{hopAt, read-off, same-ends, fed-away}
+use Rattle.kept.proofs.Stages.{hopAt, read-off, same-ends, carries-still, carries-away}
 use Rattle.kept.proofs.Tables.{all-at, all-upd, pair-first, pair-link}
 use Rattle.kept.proofs.Headers.{Whole, opened}
 
@@ -134,27 +134,29 @@ module _ (w : World) (k : Kept w) (n p : ℕ) (z : Headed w n p) (h : Hop) (on :
   begins-fresh : crossed (frontAt after n p) ≡ Fresh
   begins-fresh = ap crossed front-here ∙ opening .0
 
-  fed-still : Fed (w .net .nodes) (w .net .links .cables) (w .net .links .users) (frontAt after) (backAt after)
-  fed-still = fed-away n p (k .portLink) (ap linkOf (z .shut)) front-off back-same (k .cabled) (k .fed)
+  as-before : Carries (w .net .nodes) (w .net .links .cables) (w .net .links .users) (frontAt after) (backAt after)
+  as-before = carries-away n p (k .portLink) (ap linkOf (z .shut)) front-off back-same (k .cabled) (k .carries)
 
   -- .. by a link that nobody used
-  fed-out : (l : ℕ) → w .net .links .users n l .kind ≡ 0
-      → Fed (w .net .nodes) (w .net .links .cables) (upd (w .net .links .users) n l (ofPeer (Port p))) (frontAt after) (backAt after)
-  fed-out l free a j ha hj m i e =
+  carries-out : (l : ℕ) → w .net .links .users n l .kind ≡ 0
+      → Carries (w .net .nodes) (w .net .links .cables) (upd (w .net .links .users) n l (ofPeer (Port p))) (frontAt after) (backAt after)
+  carries-out l free =
       let users = w .net .links .users in
-      fed-still a j ha hj m i e
-      ∙ upd-all (λ a j x. carried (peerOf (users a j)) (frontAt after a) ≡ carried (peerOf x) (frontAt after a)) users n l _ a j
-      (λ ea ej. rw (ea, ej, free) (sym begins-fresh))
-      (λ o. refl)
+      carries-still (k .cabled) (λ m i hm hi. refl)
+      (λ a j ha hj.
+      upd-all (λ a j x. carried (peerOf x) (frontAt after a) ≡ carried (peerOf (users a j)) (frontAt after a)) users n l _ a j
+      (λ ea ej. rw (ea, ej, free) begins-fresh)
+      (λ o. refl))
+      as-before
 
   keep-onward : (users : ℕ → ℕ → Circuit)
       → All (w .net .nodes) links (λ m j. PortOk (users m j))
       → Pair (w .net .nodes) ports links legLink portIn (upd old n p (legOf h)) users
       → Idle (w .net .nodes) (w .net .links .setups) users
-      → Fed (w .net .nodes) (w .net .links .cables) users (frontAt after) (backAt after)
+      → Carries (w .net .nodes) (w .net .links .cables) users (frontAt after) (backAt after)
       → Kept (withNet w (withUsers (hopped (w .net) n p h) users))
   unfolding shaped
-  keep-onward users kinds link idle fed =
+  keep-onward users kinds link idle carries =
       record {
         shape = k .shape;
         nodes = k .nodes;
@@ -187,7 +189,7 @@ module _ (w : World) (k : Kept w) (n p : ℕ) (z : Headed w n p) (h : Hop) (on :
         silent = k .silent;
         backs = same-ends back-same (k .goes) (k .backs);
         idle = idle;
-        fed = fed;
+        carries = carries;
       }
 
 -- OUTWARD
@@ -202,7 +204,7 @@ keep-opensOut w k n p l z hl free on =
     (all-upd users n l user PortOk (k .users) (omega arith))
     (pair-link (k .portLink) n p l (legOf (Out l)) user (z .port) hl (ap linkOf (z .shut)) (rw free) refl refl)
     (all-at users n l user (λ m j x. (w .net .links .setups m j .enabled ≡ 1) ⊎ (x .kind ≡ 0)) (k .idle) (inl on))
-    (fed-out w k n p z (Out l) way l free)
+    (carries-out w k n p z (Out l) way l free)
 
 -- "Refused circuits: Dropped, with the cause."
 pub keep-refused : (w : World) → Kept w → (n p : ℕ) (x : Cause) → Headed w n p → Kept (withNet w (hopped (w .net) n p (Dropped x)))
@@ -211,4 +213,4 @@ keep-refused w k n p x z =
     keep-onward w k n p z (Dropped x) way (w .net .links .users) (k .users)
     (pair-first (k .portLink) n p (legOf (Dropped x)) (names-still w n p z linkOf (Dropped x) refl))
     (k .idle)
-    (fed-still w k n p z (Dropped x) way)
+    (as-before w k n p z (Dropped x) way)

@@ -57,7 +57,7 @@ use Rattle.kept.proofs.Headers.{header-walk, header-size, past-header, 
 use Rattle.kept.proofs.Tables.{all-upd, pair-first}
 use Rattle.kept.proofs.Money.{money-free}
 use Rattle.kept.proofs.Fills.{Filled, filled-one, filled-then, filled-all, filled-room}
-use Rattle.kept.proofs.Stages.{tile-there, carried-same, names-port}
+use Rattle.kept.proofs.Stages.{tile-there, carried-same, carries-still, names-port}
 use Rattle.kept.proofs.Ends.{Sender, until, pair-until, sending-ok, sending-aimed, sending-goes}
 
 -- A PORT THAT NO CABLE LEADS TO IS FILLED
@@ -154,14 +154,13 @@ module _ (w : World) (n p : ℕ) (c : Counters) {m ts : List ℕ} (f : Filled w 
               (λ o. back-away a replyPort (omega arith) o ∙ k .backs .replied a ha);
         };
         idle = k .idle;
-        fed = λ a l ha hl b j e.
-            let joined = k .cabled .agree a l ha hl b j e in
-            back-away (b .0) j (omega (arith, joined .link)) (λ eb ej. omega (arith, joined .link))
-            ∙ k .fed a l ha hl b j e
-            ∙ sym (carried-same (peerOf (w .net .links .users a l)) (frontAt w a) (frontAt (after w n p c m) a)
+        carries =
+            carries-still (k .cabled) (λ b j hb hj. back-away b j (omega arith) (λ eb ej. omega arith))
+            (λ a l ha hl. carried-same (peerOf (w .net .links .users a l)) (frontAt w a) (frontAt (after w n p c m) a)
             (λ q d. place n p a q
             (λ ea eq. rw (ea, eq) (x .front))
-            (λ o. front-away a q (k .portLink .back a l ha hl q (ap portOf d) .0) o)));
+            (λ o. front-away a q (k .portLink .back a l ha hl q (ap portOf d) .0) o)))
+            (k .carries);
       }
 
 -- A TOKEN BY A PORT, which the channel-end's circuit goes by until END or PAUSE

@@ -32,7 +32,7 @@ use Rattle.clauses.specs.Counts.{tilePort, portCounts}
 use Rattle.clauses.specs.Cables.{onFar}
 use Rattle.clauses.specs.Contents.{ready, back, filled}
 use Rattle.clauses.specs.Pairs.{portOf, namedBy, backward, players, taken, openBy, openEnd}
-use Rattle.clauses.specs.Ties.{carriedFor, fedTo, fed, inBody}
+use Rattle.clauses.specs.Ties.{carriedFor, fedTo, fed, unsent, inBody}
 use Rattle.clauses.specs.declared.pairs.Named.the-variants.{One}
 use Rattle.clauses.specs.declared.pairs.Role.{Role}
 use Rattle.clauses.specs.declared.pairs.Role.the-variants as Roles
@@ -49,7 +49,7 @@ use Rattle.sound.proofs.Sounds.{sound-shaped, sound-says, sound-from}
 use Rattle.sound.proofs.Facts.{node-facts, link-facts, tile-facts, end-facts, unit-facts, credit-facts, greeting-facts, room-facts}
 use Rattle.sound.proofs.Facts.{cable-facts, contents-facts, held-facts, open-facts, pair-facts, silent-facts}
 use Rattle.kept.specs.Kept.{All, EndOk, LegOk, TilePort, NetworkOk, Cabled, Half, legLink, portIn, endIn, GoesBy, frontAt, backAt}
-use Rattle.kept.specs.Kept.{reachedAt, carried, Fed, Unfed, Idle, Sends, Replied, Kept}
+use Rattle.kept.specs.Kept.{reachedAt, carried, Fed, Unfed, Unsent, Idle, Sends, Replied, Kept}
 
 -- the only place of a table that has one a node
 only : (i : ℕ) → i < 1 → i ≡ 0
@@ -140,10 +140,11 @@ on-far (At a b) f z =
       back = λ h. z a b refl .back (h a b refl);
     }
 
--- the five ties
+-- the six ties
 record Ties (w : World) : Type 0 where
   fed : Fed (w .net .nodes) (w .net .links .cables) (w .net .links .users) (frontAt w) (reachedAt w)
   unfed : Unfed (w .net .nodes) (w .net .links .cables) (reachedAt w)
+  unsent : Unsent (w .net .nodes) (w .net .links .cables) (w .net .links .users) (frontAt w)
   idle : Idle (w .net .nodes) (w .net .links .setups) (w .net .links .users)
   sends : Sends (w .net .nodes) (w .net .ends .sendings) (backAt w)
   replied : Replied (w .net .nodes) (backAt w)
@@ -163,6 +164,9 @@ FedAt w n l =
 
 abbrev UnfedAt : World → ℕ → ℕ → Type 0
 UnfedAt w n l = (w .net .links .cables n l .wired ≡ 1) ⊎ (reachedAt w n l ≡ Fresh)
+
+abbrev UnsentAt : World → ℕ → ℕ → Type 0
+UnsentAt w n l = (w .net .links .cables n l .wired ≡ 1) ⊎ (carried (peerOf (w .net .links .users n l)) (frontAt w n) ≡ Fresh)
 
 abbrev IdleAt : World → ℕ → ℕ → Type 0
 IdleAt w n l = (w .net .links .setups n l .enabled ≡ 1) ⊎ (w .net .links .users n l .kind ≡ 0)
@@ -186,6 +190,11 @@ module _ (w : World) (g : Ground w) where
       let j = g .cabled .agree n l hn hl m k e in
       rw (carried-is n u hn (λ p z. g .users n l hn hl p z .0)) (ends-in (m .0) k (carried u (frontAt w n)) (j .node) (omega arith)))
 
+  unsent-means : (n l : ℕ) → n < w .net .nodes → l < links → Means (unsent w n l) (UnsentAt w n l)
+  unsent-means n l hn hl =
+      let u = peerOf (w .net .links .users n l) in
+      rw (carried-is n u hn (λ p z. g .users n l hn hl p z .0)) (either (equal _ 1) (same-stage (carried u (frontAt w n)) Fresh))
+
   in-body : (n : ℕ) (u : Peer) → n < w .net .nodes → ((p : ℕ) → portOf u ≡ One p → p < ports)
       → Means (inBody w n u) ((p : ℕ) → u ≡ Peers.Port p → backAt w n p ≡ Body)
   in-body n Peers.Nobody hn h = record { sure = λ z p e. never (cc); back = λ z. refl }
@@ -196,21 +205,23 @@ module _ (w : World) (g : Ground w) where
   tight-means : Means (tight w) (Ties w)
   unfolding tight
   tight-means =
-      let linked = asks {P = λ n l. FedAt w n l × (UnfedAt w n l × IdleAt w n l)} Questions.Tied w (λ n l hn hl.
+      let linked = asks {P = λ n l. FedAt w n l × (UnfedAt w n l × (UnsentAt w n l × IdleAt w n l))} Questions.Tied w (λ n l hn hl.
       also (fed-means n l hn hl)
-      (also (either (equal _ _) (ends-in n l Fresh hn (omega arith))) (either (equal _ _) (equal _ _)))) in
+      (also (either (equal _ _) (ends-in n l Fresh hn (omega arith)))
+      (also (unsent-means n l hn hl) (either (equal _ _) (equal _ _))))) in
       let opened = asks Questions.Sends w (λ n e hn he. in-body n _ hn (λ p z. g .sendings n e hn he p z .0)) in
       let last = asks Questions.Replied w (λ n i hn hi. ends-in n replyPort Fresh hn (lit≤ tt)) in
       same-as
       (λ z. record {
         fed = λ n l hn hl. z .0 n l hn hl .0;
         unfed = λ n l hn hl. z .0 n l hn hl .1 .0;
-        idle = λ n l hn hl. z .0 n l hn hl .1 .1;
+        unsent = λ n l hn hl. z .0 n l hn hl .1 .1 .0;
+        idle = λ n l hn hl. z .0 n l hn hl .1 .1 .1;
         sends = z .1 .0;
         replied = λ n hn. z .1 .1 n 0 hn (lit≤ tt);
       })
       (λ t. (
-        λ n l hn hl. (t .fed n l hn hl, (t .unfed n l hn hl, t .idle n l hn hl)),
+        λ n l hn hl. (t .fed n l hn hl, (t .unfed n l hn hl, (t .unsent n l hn hl, t .idle n l hn hl))),
         (t .sends, λ n i hn hi. t .replied n hn),
       ))
       (also linked (also opened last))
@@ -327,7 +338,7 @@ sound-kept w s t =
         replied = ties .replied;
       };
       idle = ties .idle;
-      fed = ties .fed;
+      carries = record { fed = ties .fed; unsent = ties .unsent };
     }
 
 -- KEPT, SO SOUND AND TIGHT
@@ -412,8 +423,9 @@ pub kept-sound : (w : World) → Kept w → (sound w ≡ true) × (tight w ≡ t
 kept-sound w k = (
   sound-from w (k .shape) (kept-says w k),
   tight-means w (kept-ground w k) .back (record {
-    fed = k .fed;
+    fed = k .carries .fed;
     unfed = k .backs .unfed;
+    unsent = k .carries .unsent;
     idle = k .idle;
     sends = k .backs .sends;
     replied = k .backs .replied;

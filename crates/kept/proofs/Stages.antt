@@ -19,7 +19,7 @@ use Rattle.cells.specs.declared.link.Cable.{Cable}
 use Rattle.cells.specs.declared.port.Leg.{Leg}
 use Rattle.clauses.specs.Pairs.{portOf}
 use Rattle.clauses.specs.declared.pairs.Named.the-variants.{Nothing, One}
-use Rattle.kept.specs.Kept.{All, Cabled, Pair, Ends, Fed, GoesBy, TilePort, carried, legLink, portIn}
+use Rattle.kept.specs.Kept.{All, Cabled, Pair, Ends, Carries, GoesBy, TilePort, carried, legLink, portIn}
 
 -- a port's circuit by its leg
 abbrev pub hopAt : (ℕ → ℕ → Leg) → ℕ → ℕ → Hop
@@ -72,20 +72,34 @@ names-port Nobody p e = never (cc)
 names-port (Port q) p e = let d : q ≡ p = cc in ap Port d
 names-port (End c) p e = never (cc)
 
+-- links have carried what they had, and the ports behind cables end where they did
+pub carries-still : {N : ℕ} {cables : ℕ → ℕ → Cable} {users users′ : ℕ → ℕ → Circuit} {f f′ b b′ : ℕ → ℕ → Stage}
+    → Cabled N cables
+    → All N links (λ m j. b′ m j ≡ b m j)
+    → All N links (λ a l. carried (peerOf (users′ a l)) (f′ a) ≡ carried (peerOf (users a l)) (f a))
+    → Carries N cables users f b
+    → Carries N cables users′ f′ b′
+carries-still cabled same still z =
+    record {
+      fed = λ a l ha hl m k e.
+          let joined = cabled .agree a l ha hl m k e in
+          same (m .0) k (joined .node) (joined .link) ∙ z .fed a l ha hl m k e ∙ sym (still a l ha hl);
+      unsent = λ a l ha hl. ⊎-elim inl (λ e. inr (still a l ha hl ∙ e)) (z .unsent a l ha hl);
+    }
+
 -- port p of node n sends over no link, and ports end where they did
-pub fed-away : {N : ℕ} {cables : ℕ → ℕ → Cable} {legs : ℕ → ℕ → Leg} {users : ℕ → ℕ → Circuit} {f f′ b b′ : ℕ → ℕ → Stage} (n p : ℕ)
+pub carries-away : {N : ℕ} {cables : ℕ → ℕ → Cable} {legs : ℕ → ℕ → Leg} {users : ℕ → ℕ → Circuit} {f f′ b b′ : ℕ → ℕ → Stage} (n p : ℕ)
     → Pair N ports links legLink portIn legs users
     → legLink (legs n p) ≡ Nothing
     → All N ports (λ m j. Off n p m j → f′ m j ≡ f m j)
     → All N ports (λ m j. b′ m j ≡ b m j)
     → Cabled N cables
-    → Fed N cables users f b
-    → Fed N cables users f′ b′
-fed-away {legs = legs} {users = users} {f = f} {f′ = f′} n p pair none off same cabled z a l ha hl m k e =
-    let joined = cabled .agree a l ha hl m k e in
-    same (m .0) k (joined .node) (omega (arith, joined .link))
-    ∙ z a l ha hl m k e
-    ∙ sym (carried-same (peerOf (users a l)) (f a) (f′ a)
+    → Carries N cables users f b
+    → Carries N cables users f′ b′
+carries-away {legs = legs} {users = users} {f = f} {f′ = f′} n p pair none off same cabled z =
+    carries-still cabled (λ m j hm hj. same m j hm (omega arith))
+    (λ a l ha hl. carried-same (peerOf (users a l)) (f a) (f′ a)
     (λ q d.
     let back = pair .back a l ha hl q (used-by (peerOf (users a l)) q d) in
     off a q ha (back .0) (λ ea eq. never (let x : legLink (legs a q) ≡ Nothing = rw (ea, eq) none in let y = back .1 in cc))))
+    z

@@ -1,5 +1,5 @@
--- Wire keeps all that is kept: both ends were unwired and disabled, so neither has credit, nobody uses them, and what their ports hold
--- ends with a circuit's end. Assumes nothing.
+-- Wire keeps all that is kept: both ends were unwired, so neither has credit, nothing has gone out by them, and what their ports hold ends
+-- with a circuit's end. Assumes nothing.
 use Prim.Native.Nat.{ℕ, _<_, _≤_}
 use mathlib.Core.Path.{_≡_, sym, ap, _∙_}
 use mathlib.Core.Logic.{_⊎_, inl, ⊎-elim}
@@ -11,7 +11,6 @@ use Rattle.laws.proofs.Order.{never}
 use Rattle.names.specs.Size.{links, ports}
 use Rattle.names.specs.declared.Slot.{Slot}
 use Rattle.circuits.specs.Circuit.{peerOf}
-use Rattle.circuits.specs.declared.Peer.the-variants.{Nobody}
 use Rattle.ports.specs.Queue.{capacity}
 use Rattle.grammar.specs.declared.stage.Stage.the-variants.{Fresh}
 use Rattle.cells.specs.World.{World, farOf}
@@ -19,7 +18,7 @@ use Rattle.cells.specs.declared.link.Cable.{Cable}
 use Rattle.cells.specs.declared.link.Far.the-variants.{Nowhere, At}
 use Rattle.acts.specs.Acts.{withNet}
 use Rattle.settings.specs.Wire.{cableTo, wired}
-use Rattle.kept.specs.Kept.{reachedAt, Kept}
+use Rattle.kept.specs.Kept.{frontAt, reachedAt, carried, Kept}
 use Rattle.kept.proofs.Links.{resettled}
 
 abbrev slotOf : ℕ → Slot
@@ -40,25 +39,26 @@ end c n l m k a j =
     (λ ea ej. one ea ej (upd-miss first m k (cableTo n l) a j o ∙ upd-hit c n l (cableTo m k) a j ea ej))
     (λ o′. elsewhere o′ o (upd-miss first m k (cableTo n l) a j o ∙ upd-miss c n l (cableTo m k) a j o′)))
 
--- an end that leads nowhere and is disabled
+-- an end that leads nowhere
 pub record Loose (w : World) (n l : ℕ) : Type 0 where
   pub node : n < w .net .nodes
   pub link : l < links
   pub unwired : w .net .links .cables n l .wired ≡ 1 → ⊥
-  pub disabled : w .net .links .setups n l .enabled ≡ 1 → ⊥
 
 module _ (w : World) (k : Kept w) (n l : ℕ) (z : Loose w n l) where
   pub nowhere : farOf (w .net .links .cables n l) ≡ Nowhere
   nowhere = rw (ne-eqb (w .net .links .cables n l .wired) 1 (z .unwired))
 
   not-greeted : w .net .links .flows n l .greeted ≡ 1 → ⊥
-  not-greeted g = z .disabled (k .greeted n l (z .node) (z .link) g .0)
+  not-greeted g =
+      let far = k .greeted n l (z .node) (z .link) g .1 in
+      never (let e : Nowhere ≡ At (far .slot) (far .link) = sym nowhere ∙ far .leads in cc)
 
   no-credit : w .net .links .flows n l .credit ≡ 0
   no-credit = ⊎-elim (λ e. e) (λ g. absurd (not-greeted g)) (k .money .credits n l (z .node) (z .link))
 
-  pub unused : peerOf (w .net .links .users n l) ≡ Nobody
-  unused = ⊎-elim (λ e. absurd (z .disabled e)) (λ e. rw e) (k .idle n l (z .node) (z .link))
+  unsent : carried (peerOf (w .net .links .users n l)) (frontAt w n) ≡ Fresh
+  unsent = ⊎-elim (λ e. absurd (z .unwired e)) (λ e. e) (k .carries .unsent n l (z .node) (z .link))
 
   ended : reachedAt w n l ≡ Fresh
   ended = ⊎-elim (λ e. absurd (z .unwired e)) (λ e. e) (k .backs .unfed n l (z .node) (z .link))
@@ -127,8 +127,8 @@ keep-wired w iv n l m k zn zm off =
           let y = iv .greeted a j ha hj g in (
             y .0,
             elim (at a j) [
-              | one ea ej d ↦ absurd (zn .disabled (rw (ea, ej) at (y .0)))
-              | other ea ej d ↦ absurd (zm .disabled (rw (ea, ej) at (y .0)))
+              | one ea ej d ↦ absurd (not-greeted w iv n l zn (rw (ea, ej) at g))
+              | other ea ej d ↦ absurd (not-greeted w iv m k zm (rw (ea, ej) at g))
               | elsewhere o o′ d ↦ rw d (y .1)
             ],
           );
@@ -149,11 +149,18 @@ keep-wired w iv n l m k zn zm off =
         | elsewhere o o′ d ↦ rw d (iv .backs .unfed a j ha hj)
       ];
       idle = iv .idle;
-      fed = λ a j ha hj q i e. elim (at a j) [
-        | one ea ej d ↦ let (eq, ei) = same a j (c′ a j) q i m k d e in
-            rw (ea, ej, eq, ei, unused w iv n l zn) (ended w iv m k zm)
-        | other ea ej d ↦ let (eq, ei) = same a j (c′ a j) q i n l d e in
-            rw (ea, ej, eq, ei, unused w iv m k zm) (ended w iv n l zn)
-        | elsewhere o o′ d ↦ iv .fed a j ha hj q i (sym (ap farOf d) ∙ e)
-      ];
+      carries = record {
+        fed = λ a j ha hj q i e. elim (at a j) [
+          | one ea ej d ↦ let (eq, ei) = same a j (c′ a j) q i m k d e in
+              rw (ea, ej, eq, ei, unsent w iv n l zn) (ended w iv m k zm)
+          | other ea ej d ↦ let (eq, ei) = same a j (c′ a j) q i n l d e in
+              rw (ea, ej, eq, ei, unsent w iv m k zm) (ended w iv n l zn)
+          | elsewhere o o′ d ↦ iv .carries .fed a j ha hj q i (sym (ap farOf d) ∙ e)
+        ];
+        unsent = λ a j ha hj. elim (at a j) [
+          | one ea ej d ↦ inl (rw d)
+          | other ea ej d ↦ inl (rw d)
+          | elsewhere o o′ d ↦ rw d (iv .carries .unsent a j ha hj)
+        ];
+      };
     })

@@ -17,7 +17,6 @@ use Rattle.credits.specs.Grant.{grantOf}
 use Rattle.cells.specs.View.{Net, withFlow}
 use Rattle.cells.specs.World.{World}
 use Rattle.cells.specs.Changes.{creditAs}
-use Rattle.cells.specs.Fresh.{freshWorld}
 use Rattle.clauses.specs.Counts.{tilePort}
 use Rattle.clauses.specs.declared.pairs.Role.the-variants.{LinkPort, ClaimPort}
 use Rattle.acts.specs.Acts.{withNet, firstAt, shut, tiledTo, handed}
@@ -27,6 +26,8 @@ use Rattle.settings.specs.Wire.{wired}
 use Rattle.settings.specs.Set.{setMade}
 use Rattle.settings.specs.declared.Setting.{Setting}
 use Rattle.settings.specs.declared.Setting.the-variants.{Number, Enable, Hello}
+use Rattle.fresh.specs.Fresh.{startOf}
+use Rattle.fresh.specs.declared.Start.the-variants.{Fresh}
 use Rattle.ends.specs.Aim.{aimMade}
 use Rattle.ends.specs.Plan.{targetOf, freePort, lowestFree}
 use Rattle.ends.specs.Output.{wordOf, opensBy, outputMade}
@@ -41,7 +42,7 @@ use Rattle.sound.specs.declared.tests.Test.the-variants.{Room, Contents, Agrees
 use Rattle.sound.proofs.Sounds.{sound-says}
 use Rattle.kept.specs.Kept.{Kept}
 use Rattle.kept.proofs.Parts.{kept-sound}
-use Rattle.kept.proofs.Calls.{keep-fresh, keep-wire, keep-set-made, keep-aimed, keep-output, keep-stepped}
+use Rattle.kept.proofs.Calls.{keep-start, keep-wire, keep-set-made, keep-aimed, keep-output, keep-stepped}
 use Rattle.kept.proofs.Computes.{computes}
 
 -- A BROKEN RULE: `act` is an act by any such rule, `made` what the call makes, t a test of the Sound list at place i of node n
@@ -83,7 +84,7 @@ abbrev stepped : World → ℕ → ℕ → World
 stepped w n p = stepMade w n p .next
 
 abbrev joined : World
-joined = withNet (freshWorld 2) (wired (freshWorld 2 .net) 0 0 1 0)
+joined = withNet (startOf Fresh 2) (wired (startOf Fresh 2 .net) 0 0 1 0)
 
 abbrev enabled : World
 enabled = setTo (setTo joined 0 (Enable 0 1)) 1 (Enable 0 1)
@@ -97,8 +98,8 @@ aimed = aimedTo greeted 0 5
 aimed-kept : Kept aimed
 unfolding computes
 aimed-kept =
-    let fresh = keep-fresh (freshWorld 2) 2 (refl, (refl, tt)) in
-    let wire = keep-wire (freshWorld 2) fresh 0 0 1 0 (refl, (refl, (refl, tt))) in
+    let fresh = keep-start (startOf Fresh 2) Fresh 2 (refl, (refl, tt)) in
+    let wire = keep-wire (startOf Fresh 2) fresh 0 0 1 0 (refl, (refl, (refl, tt))) in
     let near = keep-set-made joined wire 0 (Enable 0 1) (refl, (refl, (refl, tt))) in
     let far = keep-set-made (setTo joined 0 (Enable 0 1)) near 1 (Enable 0 1) (refl, (refl, (refl, tt))) in
     let hello = keep-set-made enabled far 0 (Hello 0) (refl, (refl, (refl, tt))) in

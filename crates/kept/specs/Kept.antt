@@ -1,4 +1,4 @@
--- What every call keeps: Sound (document 01) and the five ties that make it last, by parts. A part is said over the tables that it reads
+-- What every call keeps: Sound (document 01) and the six ties by which it lasts, by parts. A part is said over the tables that it reads
 -- and no others, so that a call that writes another table keeps it as it was. `kept-sound` and `sound-kept` in proofs/Parts.antt: the
 -- parts together are `sound` and `tight`.
 use Prim.{Unit}
@@ -209,6 +209,15 @@ Fed N cables users front reached =
 abbrev pub Unfed : ℕ → (ℕ → ℕ → Cable) → (ℕ → ℕ → Stage) → Type 0
 Unfed N cables reached = All N links (λ n l. (cables n l .wired ≡ 1) ⊎ (reached n l ≡ Fresh))
 
+-- unsent: of what leaves by an unwired link nothing has left yet
+abbrev pub Unsent : ℕ → (ℕ → ℕ → Cable) → (ℕ → ℕ → Circuit) → (ℕ → ℕ → Stage) → Type 0
+Unsent N cables users front = All N links (λ n l. (cables n l .wired ≡ 1) ⊎ (carried (peerOf (users n l)) (front n) ≡ Fresh))
+
+-- what hangs on how much links have carried, over a cable or with none
+pub record Carries (N : ℕ) (cables : ℕ → ℕ → Cable) (users : ℕ → ℕ → Circuit) (front reached : ℕ → ℕ → Stage) : Type 0 where
+  pub fed : Fed N cables users front reached
+  pub unsent : Unsent N cables users front
+
 -- idle: a disabled link is used by nobody
 abbrev pub Idle : ℕ → (ℕ → ℕ → Setup) → (ℕ → ℕ → Circuit) → Type 0
 Idle N setups users = All N links (λ n l. (setups n l .enabled ≡ 1) ⊎ (users n l .kind ≡ 0))
@@ -261,4 +270,4 @@ pub record Kept (w : World) : Type 0 where
   pub silent : Silent (w .net .nodes) (w .net .units .serving) (w .net .ports .counters)
   pub backs : Ends (w .net .nodes) (w .net .links .cables) (w .net .ends .sendings) (backAt w) (reachedAt w)
   pub idle : Idle (w .net .nodes) (w .net .links .setups) (w .net .links .users)
-  pub fed : Fed (w .net .nodes) (w .net .links .cables) (w .net .links .users) (frontAt w) (reachedAt w)
+  pub carries : Carries (w .net .nodes) (w .net .links .cables) (w .net .links .users) (frontAt w) (reachedAt w)

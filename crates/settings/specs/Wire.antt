@@ -1,4 +1,5 @@
--- "Wire: join two different link ends, both unwired and disabled." (document 01, "Calls")
+-- "Wire: join two different link ends, both unwired .." (document 01, "Calls"), enabled or not (document 02, Ask 7: "Wire is Busy only for a
+-- wired end, no longer for an enabled one")
 use Prim.Native.Nat.{ℕ}
 use mathlib.Core.Bool.{Bool, not, _&&_, _||_}
 use mathlib.Core.List.{List, [], _∷_}
@@ -15,16 +16,16 @@ use Rattle.cells.specs.declared.link.Cable.{Cable}
 abbrev pub linkAt : Net → ℕ → ℕ → Bool
 linkAt s n l = ltb n (s .nodes) && ltb l links
 
--- "a wired or enabled end"
-abbrev pub endTaken : Net → ℕ → ℕ → Bool
-endTaken s n l = eqb (s .links .cables n l .wired) 1 || eqb (s .links .setups n l .enabled) 1
+-- "a wired end"
+abbrev pub endWired : Net → ℕ → ℕ → Bool
+endWired s n l = eqb (s .links .cables n l .wired) 1
 
--- "NoSuch: slot, link not present; Value: a link joined to itself; Busy: Wire on a wired or enabled end"
+-- "NoSuch: slot, link not present; Value: a link joined to itself; Busy: Wire on a wired .. end"
 abbrev pub wireRows : Net → ℕ → ℕ → ℕ → ℕ → List Row
 wireRows s n l m k =
     refusedIf (not (linkAt s n l && linkAt s m k)) NoSuch
     ∷ refusedIf (eqb n m && eqb l k) Value
-    ∷ refusedIf (endTaken s n l || endTaken s m k) Busy
+    ∷ refusedIf (endWired s n l || endWired s m k) Busy
     ∷ []
 
 abbrev pub cableTo : ℕ → ℕ → Cable

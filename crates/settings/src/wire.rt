@@ -1,4 +1,4 @@
-// Wire (document 01, "Calls"): join two different link ends, both unwired and disabled.
+// Wire (document 01, "Calls"; document 02, Ask 7): join two different link ends, both unwired.
 use answers::Answer;
 use cells::link;
 use cells::link::Cable;
@@ -14,7 +14,7 @@ ghost use Rattle.names.specs.Size.{links, nodes};
 ghost use Rattle.answers.specs.Rows.{refusal};
 ghost use Rattle.answers.specs.Out.{out};
 ghost use Rattle.cells.specs.View.{view};
-ghost use Rattle.settings.specs.Wire.{linkAt, endTaken, wireRows, cableTo, wired, wire};
+ghost use Rattle.settings.specs.Wire.{linkAt, endWired, wireRows, cableTo, wired, wire};
 
 fn link_at(st: &[u32], slot: Slot, l: usize) -> bool
     ensures { λ r. ⌜ r ≡ linkAt (view (now (st .entry))) (slot .0) l ⌝ }
@@ -22,11 +22,11 @@ fn link_at(st: &[u32], slot: Slot, l: usize) -> bool
     (slot.0 < node::count(st)) & (l < LINKS)
 }
 
-fn end_taken(st: &[u32], slot: Slot, l: usize) -> bool
-    ensures { λ r. ⌜ r ≡ endTaken (view (now (st .entry))) (slot .0) l ⌝ }
+fn end_wired(st: &[u32], slot: Slot, l: usize) -> bool
+    ensures { λ r. ⌜ r ≡ endWired (view (now (st .entry))) (slot .0) l ⌝ }
 {
     let k = link::at(st, slot, l);
-    (k.cable.wired == 1) | (k.setup.enabled == 1)
+    k.cable.wired == 1
 }
 
 // The number by which Wire is refused, 0 for none.
@@ -41,8 +41,8 @@ fn wire_no(st: &[u32], a: Slot, l: usize, b: Slot, k: usize) -> u8
     if itself {
         return VALUE;
     }
-    let taken = end_taken(st, a, l) | end_taken(st, b, k);
-    if taken {
+    let wired = end_wired(st, a, l) | end_wired(st, b, k);
+    if wired {
         return BUSY;
     }
     0

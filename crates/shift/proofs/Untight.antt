@@ -16,7 +16,7 @@ use Rattle.ports.specs.Memory.{place}
 use Rattle.answers.specs.declared.Answer.the-variants as Answers
 use Rattle.cells.specs.View.{Net, withCounters, withLeg, withSender, withAim, withSending}
 use Rattle.cells.specs.World.{World}
-use Rattle.cells.specs.Fresh.{freshNet, freshWorld}
+use Rattle.cells.specs.Start.{startNet, startWorld, noneOn}
 use Rattle.sound.specs.Tests.{holds}
 use Rattle.sound.specs.Questions.{everywhere}
 use Rattle.sound.specs.Sound.{sound, tight}
@@ -27,7 +27,7 @@ use Rattle.bench.specs.Calls.{results}
 -- one board. Channel-end 0 has a circuit open by port 8; the port drops that circuit, and holds its END already
 abbrev board : Net
 board =
-    withSending (withAim (withSender (withLeg (withCounters (freshNet 1)
+    withSending (withAim (withSender (withLeg (withCounters (startNet noneOn 1)
     0 8 (record { head = 0; held = 1 }))
     0 8 (record { circuit = ofHop (Dropped NoRoute); tile = 0 }))
     0 8 (ofPeer (End 0)))
@@ -35,7 +35,7 @@ board =
     0 0 (ofPeer (Port 8))
 
 abbrev untight : World
-untight = record { net = board; memory = set (freshWorld 1 .memory) (place 0 8) (controlWord end) }
+untight = record { net = board; memory = set (startWorld noneOn 1 .memory) (place 0 8) (controlWord end) }
 
 pub passes : sound untight ≡ true
 unfolding computes sound holds every all

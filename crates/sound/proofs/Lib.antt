@@ -2,6 +2,6 @@
 pub mod Sounds
 pub mod OnePass
 pub mod Facts
-pub mod Fresh
+pub mod Start
 pub mod Alone
 pub mod Spelled

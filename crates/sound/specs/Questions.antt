@@ -6,7 +6,7 @@ use Rattle.laws.specs.All.{every}
 use Rattle.names.specs.Size.{links, ports, tileLinks, ends}
 use Rattle.cells.specs.View.{Net}
 use Rattle.cells.specs.World.{World}
-use Rattle.clauses.specs.Ties.{fed, unfed, idle, sends, replied}
+use Rattle.clauses.specs.Ties.{fed, unfed, unsent, idle, sends, replied}
 use Rattle.sound.specs.Tests.{holdsAt, places}
 use Rattle.sound.specs.Clauses.{soundClauses, asked}
 use Rattle.sound.specs.declared.questions.Question.{Question}
@@ -15,7 +15,7 @@ use Rattle.sound.specs.declared.questions.Question.the-variants.{Tied, S
 
 -- all that the ties ask of a link
 abbrev pub tied : World → ℕ → ℕ → Bool
-tied w n l = fed w n l && (unfed w n l && idle (w .net) n l)
+tied w n l = fed w n l && (unfed w n l && (unsent w n l && idle (w .net) n l))
 
 -- "no token, no claim, no open circuit anywhere"
 abbrev pub quietPort : Net → ℕ → ℕ → Bool

@@ -16,7 +16,7 @@ sound w = shaped w && allHold soundClauses w
 unfoldable pub unsoundClause : World → ℕ
 unsoundClause w = pick (shaped w) (askAll 0 0 soundClauses w) 1
 
--- Tight: the five ties, which make soundness last: fed, unfed and idle at links, sends at channel-ends, replied at port 12
+-- Tight: the six ties, by which soundness lasts: fed, unfed, unsent and idle at links, sends at channel-ends, replied at port 12
 unfoldable pub tight : World → Bool
 tight w = everywhere Tied w && (everywhere Sends w && everywhere Replied w)
 

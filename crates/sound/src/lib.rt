@@ -127,7 +127,7 @@ pub fn is_sound(st: &[u32], mem: &[u16]) -> bool
     everywhere(st, mem, Question::OfNode) & (everywhere(st, mem, Question::OfLink) & inside)
 }
 
-// The five ties hold.
+// The six ties hold.
 pub fn is_tight(st: &[u32], mem: &[u16]) -> bool
     ensures { λ r. ⌜ r ≡ tight (world (now (st .entry)) (now (mem .entry))) ⌝ }
 {

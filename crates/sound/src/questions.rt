@@ -16,6 +16,7 @@ use clauses::ties::idle;
 use clauses::ties::replied;
 use clauses::ties::sends;
 use clauses::ties::unfed;
+use clauses::ties::unsent;
 use names::Slot;
 use names::size::ENDS;
 use names::size::LINKS;
@@ -51,7 +52,8 @@ pub enum Question {
 fn tied(st: &[u32], mem: &[u16], slot: Slot, l: usize) -> bool
     ensures { λ r. ⌜ r ≡ tied (world (now (st .entry)) (now (mem .entry))) (slot .0) l ⌝ }
 {
-    fed(st, mem, slot, l) & (unfed(st, mem, slot, l) & idle(st, slot, l))
+    fed(st, mem, slot, l)
+        & (unfed(st, mem, slot, l) & (unsent(st, mem, slot, l) & idle(st, slot, l)))
 }
 
 fn quiet_port(st: &[u32], slot: Slot, p: usize) -> bool

@@ -1,4 +1,4 @@
-// A fresh network of two nodes, and what is changed in it.
+// A blank network of two nodes, and what is changed in it.
 use cells::end;
 use cells::end::Buffer;
 use cells::end::End;
@@ -185,7 +185,7 @@ pub fn set_word(st: &mut [u32], mem: &mut [u16], n: usize, p: usize, held: u32, 
     set_memory(mem, n, p, 0, word);
 }
 
-pub fn fresh(st: &mut [u32]) {
+pub fn blank(st: &mut [u32]) {
     set_width(st, 0, 3);
     set_width(st, 1, 3);
 }

@@ -42,7 +42,7 @@ use Rattle.ends.specs.Plan.{targetOf}
 use Rattle.ends.specs.Output.{wordOf, isNarrowPlan, isFullPlan}
 use Rattle.ends.specs.declared.plan.Plan as Sents
 use Rattle.switch.specs.Step.{stepPerformed}
-use Rattle.bench.specs.Calls.{Call, Fresh, Wire, Set, Aim, Output, Input, Step, Steps, rows, made, apply}
+use Rattle.bench.specs.Calls.{Call, Begin, Wire, Set, Aim, Output, Input, Step, Steps, rows, made, apply}
 use Rattle.bench.specs.Writes.{hopClosed}
 use Rattle.kept.specs.Kept.{Kept}
 use Rattle.kept.proofs.Found.{Ours, Going, Found, idle, waits, splits, unrouted, routes, landsChannel, landsUnit, step-found}
@@ -175,7 +175,7 @@ module _ (w : World) (k : Kept w) (g : Ghost) (iv : Inv isLink (moving w) g) (o 
   made-agrees : (c : Call) → Passes (rows w c) → noEvent c ≡ false
       → write o w c (made w c .answer) (booksOf g) ≡ booksOf (notes (madeEvents w c) g)
   unfolding note
-  made-agrees (Fresh n) p e = clash e
+  made-agrees (Begin s n) p e = clash e
   made-agrees (Wire a l b j) p e = refl
   made-agrees (Set a x) p e = refl
   made-agrees (Aim a c v y) p e = refl
@@ -191,7 +191,7 @@ module _ (w : World) (k : Kept w) (g : Ghost) (iv : Inv isLink (moving w) g) (o 
   made-agrees (Steps n xs) p e = clash e
 
   refused-agrees : (c : Call) (r : ℕ) → write o w c (Answers.No r) (booksOf g) ≡ booksOf g
-  refused-agrees (Fresh n) r = refl
+  refused-agrees (Begin s n) r = refl
   refused-agrees (Wire a l b j) r = refl
   refused-agrees (Set a x) r = refl
   refused-agrees (Aim a c v y) r = refl

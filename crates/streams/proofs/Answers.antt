@@ -21,7 +21,8 @@ use Rattle.answers.specs.declared.Answer.{Answer}
 use Rattle.answers.specs.declared.Answer.the-variants.{Token, Refused}
 use Rattle.answers.proofs.Refusals.{passed}
 use Rattle.cells.specs.World.{World}
-use Rattle.cells.specs.Fresh.{freshWorld}
+use Rattle.fresh.specs.Fresh.{startOf}
+use Rattle.fresh.specs.declared.Start.{Start}
 use Rattle.acts.specs.Acts.{withNet, widthAt, firstAt}
 use Rattle.plans.specs.declared.Plan.{Plan}
 use Rattle.messages.specs.Register.{fieldsOf, readOf}
@@ -39,8 +40,9 @@ use Rattle.switch.specs.Step.{portAt, stepPerformed}
 use Rattle.bench.specs.Calls.{Call, Input, Step, rows, apply}
 use Rattle.bench.specs.Writes.{hopClosed}
 use Rattle.bench.specs.Runs.{run}
-use Rattle.bench.proofs.Lasts.{boards, run-keeps, fresh-keeps}
+use Rattle.bench.proofs.Lasts.{boards, run-keeps}
 use Rattle.kept.specs.Kept.{Kept}
+use Rattle.kept.proofs.Calls.{start-kept}
 use Rattle.kept.proofs.Parts.{kept-sound}
 use Rattle.kept.proofs.Calls.{step-there}
 use Rattle.kept.proofs.Found.{Found, idle, waits, splits, unrouted, routes, landsChannel, landsUnit, moves, hands, hears, drops, step-found}
@@ -139,25 +141,25 @@ input-answers w k a c =
     (λ t. rw t (λ e. never (cc)))
 
 -- of every state of every run
-module _ (n : ℕ) (some : 1 ≤ n) (few : n ≤ nodes) (cs : List Call) where
-  kept : Kept (run (freshWorld n) cs .last)
-  kept = run-keeps cs (freshWorld n) (fresh-keeps n some few)
+module _ (s : Start) (n : ℕ) (some : 1 ≤ n) (few : n ≤ nodes) (cs : List Call) where
+  kept : Kept (run (startOf s n) cs .last)
+  kept = run-keeps cs (startOf s n) (start-kept s n some few)
 
   -- "no Input of any run answers control 2"
-  pub never-pause : (a : Slot) (c : ℕ) → apply (run (freshWorld n) cs .last) (Input a c Control) .answer ≡ Token pause → ⊥
-  never-pause = input-answers (run (freshWorld n) cs .last) kept
+  pub never-pause : (a : Slot) (c : ℕ) → apply (run (startOf s n) cs .last) (Input a c Control) .answer ≡ Token pause → ⊥
+  never-pause = input-answers (run (startOf s n) cs .last) kept
 
   -- "PAUSE is never stored in a channel-end"
   pub never-held : (m e i : ℕ) → m < n → e < ends
-      → i < run (freshWorld n) cs .last .net .ends .buffers m e .held
-      → getD (run (freshWorld n) cs .last .net .ends .buffers m e .tokens) i 0 ≡ controlWord pause
+      → i < run (startOf s n) cs .last .net .ends .buffers m e .held
+      → getD (run (startOf s n) cs .last .net .ends .buffers m e .tokens) i 0 ≡ controlWord pause
       → ⊥
   never-held m e i hm he l z =
-      let w = run (freshWorld n) cs .last in
-      let other = held-legal w kept m e (rw (boards n cs) hm) he i l .1 in
+      let w = run (startOf s n) cs .last in
+      let other = held-legal w kept m e (rw (boards s n cs) hm) he i l .1 in
       clash (sym (eq-eqb (getD (w .net .ends .buffers m e .tokens) i 0) (controlWord pause) z) ∙ other)
 
   pub always-splits : (a : Slot) (p : ℕ)
-      → (apply (run (freshWorld n) cs .last) (Step a p) .answer ≡ Refused Split → misread (run (freshWorld n) cs .last) (a .0) p ≡ true)
-      × (misread (run (freshWorld n) cs .last) (a .0) p ≡ true → apply (run (freshWorld n) cs .last) (Step a p) .answer ≡ Refused Split)
-  always-splits = step-splits (run (freshWorld n) cs .last) kept
+      → (apply (run (startOf s n) cs .last) (Step a p) .answer ≡ Refused Split → misread (run (startOf s n) cs .last) (a .0) p ≡ true)
+      × (misread (run (startOf s n) cs .last) (a .0) p ≡ true → apply (run (startOf s n) cs .last) (Step a p) .answer ≡ Refused Split)
+  always-splits = step-splits (run (startOf s n) cs .last) kept

@@ -30,7 +30,8 @@ use Rattle.cells.specs.View as Cells
 use Rattle.cells.specs.World.{World, farOf, queue}
 use Rattle.cells.specs.declared.link.Far.{Far}
 use Rattle.cells.specs.declared.link.Far.the-variants.{Nowhere, At}
-use Rattle.cells.specs.Fresh.{freshWorld}
+use Rattle.fresh.specs.Fresh.{startOf}
+use Rattle.fresh.specs.declared.Start.{Start}
 use Rattle.acts.specs.Acts.{withNet, widthAt, numberAt, wordAt, firstAt}
 use Rattle.acts.specs.Needs.{Holds}
 use Rattle.plans.specs.Plan.{markedWidth, sizeOf, stepPlan}
@@ -56,7 +57,7 @@ use Rattle.ends.specs.Output.{wordOf, outputPerformed}
 use Rattle.ends.specs.declared.plan.Plan as SentPlans
 use Rattle.ends.specs.declared.plan.Plan.the-variants as Sent
 use Rattle.switch.specs.Step.{stepPerformed}
-use Rattle.bench.specs.Calls.{Call, Fresh, Wire, Set, Aim, Output, Input, Step, Steps, rows, made, apply}
+use Rattle.bench.specs.Calls.{Call, Begin, Wire, Set, Aim, Output, Input, Step, Steps, rows, made, apply}
 use Rattle.bench.specs.Writes.{hopClosed}
 use Rattle.kept.specs.Kept.{Kept}
 use Rattle.kept.proofs.Opens.{Headed}
@@ -67,7 +68,7 @@ use Rattle.kept.proofs.Stages.{tile-there}
 use Rattle.kept.proofs.Ends.{Sender}
 use Rattle.kept.proofs.Outputs.{port-free, aim-legal}
 use Rattle.kept.proofs.Chosen as Chosen
-use Rattle.kept.proofs.Wires.{Loose, nowhere, unused}
+use Rattle.kept.proofs.Wires.{Loose, nowhere}
 use Rattle.kept.proofs.Calls.{wire-ends, output-sender, step-there}
 use Rattle.kept.proofs.Hears.{keep-freed, ready-after}
 use Rattle.kept.proofs.Sets.{keep-written}
@@ -77,9 +78,9 @@ use Rattle.streams.specs.Model.{unitDoor, isLink, ToChannel, ToUnit, Mov
 use Rattle.streams.specs.Events.{Event, Opens, Puts, Starts, Tells, Takes, Lands, Refuses, Enters, Arrives, Hands, Loses, Wires}
 use Rattle.streams.specs.Events.{effect, empty}
 use Rattle.streams.specs.Observer.{anew}
-use Rattle.streams.specs.View.{moving, farEnd, useBy}
+use Rattle.streams.specs.View.{moving, farEnd}
 use Rattle.streams.proofs.Machine.{Leads, leads-append}
-use Rattle.streams.proofs.View.{net-as, cable-put, view-cable, view-user, Alike, alike, unseen}
+use Rattle.streams.proofs.View.{net-as, cable-put, view-cable, Alike, alike, unseen}
 use Rattle.streams.proofs.Acts.{Does, Both, does-opensOut, does-refused, does-drops, does-hands, does-listens, does-freed}
 use Rattle.streams.proofs.Acts.{does-movesOut}
 use Rattle.streams.proofs.Lands.{does-landsChannel, does-landsUnit}
@@ -256,8 +257,6 @@ module _ (w : World) (k : Kept w) (n l m j : ℕ) (a : Loose w n l) (b : Loose w
             is-link m j hj,
             view-cable w n l hl ∙ ap farEnd (nowhere w k n l a),
             view-cable w m j hj ∙ ap farEnd (nowhere w k m j b),
-            view-user w n l hl ∙ ap (useBy n) (unused w k n l a),
-            view-user w m j hj ∙ ap (useBy m) (unused w k m j b),
           ),
           tt,
         );
@@ -267,19 +266,19 @@ module _ (w : World) (k : Kept w) (n l m j : ℕ) (a : Loose w n l) (b : Loose w
 abbrev pub done : World → Call → Bool
 done w c = eqb (refusal (rows w c)) passes
 
-abbrev pub isFresh : Call → Bool
-isFresh (Fresh n) = true
-isFresh (Wire a l b j) = false
-isFresh (Set a x) = false
-isFresh (Aim a c g v) = false
-isFresh (Output a c x) = false
-isFresh (Input a c x) = false
-isFresh (Step a p) = false
-isFresh (Steps n xs) = false
+abbrev pub isStart : Call → Bool
+isStart (Begin s n) = true
+isStart (Wire a l b j) = false
+isStart (Set a x) = false
+isStart (Aim a c g v) = false
+isStart (Output a c x) = false
+isStart (Input a c x) = false
+isStart (Step a p) = false
+isStart (Steps n xs) = false
 
 -- a list of steps, which is its Steps and no event of its own
 abbrev pub isList : Call → Bool
-isList (Fresh n) = false
+isList (Begin s n) = false
 isList (Wire a l b j) = false
 isList (Set a x) = false
 isList (Aim a c g v) = false
@@ -288,12 +287,12 @@ isList (Input a c x) = false
 isList (Step a p) = false
 isList (Steps n xs) = true
 
--- what is no event: a Fresh opens new books
+-- what is no event: a start opens new books
 abbrev pub noEvent : Call → Bool
-noEvent c = isFresh c || isList c
+noEvent c = isStart c || isList c
 
 abbrev pub madeEvents : World → Call → List Event
-madeEvents w (Fresh n) = []
+madeEvents w (Begin s n) = []
 madeEvents w (Wire a l b j) = Wires (portNo (a .0) l) (portNo (b .0) j) ∷ []
 madeEvents w (Set a x) = []
 madeEvents w (Aim a c g v) = []
@@ -306,7 +305,7 @@ madeEvents w (Steps n xs) = []
 
 module _ (w : World) (k : Kept w) where
   made-leads : (c : Call) → Passes (rows w c) → noEvent c ≡ false → Leads isLink (madeEvents w c) (moving w) (moving (made w c .next))
-  made-leads (Fresh n) p e = clash e
+  made-leads (Begin s n) p e = clash e
   made-leads (Wire a l b j) p e =
       let (x, y, off) = wire-ends w (a .0) l (b .0) j (p .1) in
       wire-leads w k (a .0) l (b .0) j x y off
@@ -325,10 +324,10 @@ module _ (w : World) (k : Kept w) where
 abbrev pub eventsOf : World → Call → List Event
 eventsOf w c = pick (done w c) (madeEvents w c) []
 
--- new books are opened exactly by a Fresh that is not refused
-pub anew-done : (w : World) (c : Call) → anew w c ≡ (isFresh c && done w c)
+-- new books are opened exactly by a start that is not refused
+pub anew-done : (w : World) (c : Call) → anew w c ≡ (isStart c && done w c)
 unfolding apply
-anew-done w (Fresh n) = by-test (done w (Fresh n)) (λ t. rw t) (λ t. rw t)
+anew-done w (Begin s n) = by-test (done w (Begin s n)) (λ t. rw t) (λ t. rw t)
 anew-done w (Wire a l b j) = refl
 anew-done w (Set a x) = refl
 anew-done w (Aim a c g v) = refl
@@ -338,19 +337,19 @@ anew-done w (Step a p) = refl
 anew-done w (Steps n xs) = refl
 
 pub is-event : (w : World) (c : Call) → isList c ≡ false → done w c ≡ true → anew w c ≡ false → noEvent c ≡ false
-is-event w c l t e = go (isFresh c) (sym (anew-done w c) ∙ e)
+is-event w c l t e = go (isStart c) (sym (anew-done w c) ∙ e)
   where
     go : (b : Bool) → (b && done w c) ≡ false → (b || isList c) ≡ false
     go true f = clash (sym t ∙ f)
     go false f = l
 
 -- what a call leaves that opens new books
-pub anew-case : (P : World → Type 0) → ((n : ℕ) → P (freshWorld n)) → (w : World) (c : Call) → anew w c ≡ true → P (apply w c .next)
+pub anew-case : (P : World → Type 0) → ((s : Start) (n : ℕ) → P (startOf s n)) → (w : World) (c : Call) → anew w c ≡ true → P (apply w c .next)
 unfolding apply
 anew-case P h w c e = go c (sym (anew-done w c) ∙ e)
   where
-    go : (c : Call) → (isFresh c && done w c) ≡ true → P (apply w c .next)
-    go (Fresh n) f = rw f (h n)
+    go : (c : Call) → (isStart c && done w c) ≡ true → P (apply w c .next)
+    go (Begin s n) f = rw f (h s n)
     go (Wire a l b j) f = clash (sym f)
     go (Set a x) f = clash (sym f)
     go (Aim a c g v) f = clash (sym f)
@@ -371,12 +370,12 @@ either : {A : Type 0} (b : Bool) (x : A) → pick b x x ≡ x
 either true x = refl
 either false x = refl
 
-pub fresh-view : (n : ℕ) → moving (freshWorld n) ≡ empty
+pub start-view : (s : Start) (n : ℕ) → moving (startOf s n) ≡ empty
 unfolding empty
-fresh-view n =
-    net-as (fun-ext (λ j. nothing-held (freshWorld n) (j / ports) (j % ports) refl)) refl
+start-view s n =
+    net-as (fun-ext (λ j. nothing-held (startOf s n) (j / ports) (j % ports) refl)) refl
     (fun-ext (λ l. either (ltb (l % ports) links) Nobody)) (fun-ext (λ d. either (ltb (d % doorsEach) ends) Closed))
     (fun-ext (λ l. either (ltb (l % ports) links) Nobody)) refl
 
-pub fresh-seen : (w : World) (c : Call) → anew w c ≡ true → moving (apply w c .next) ≡ empty
-fresh-seen = anew-case (λ z. moving z ≡ empty) fresh-view
+pub start-seen : (w : World) (c : Call) → anew w c ≡ true → moving (apply w c .next) ≡ empty
+start-seen = anew-case (λ z. moving z ≡ empty) start-view

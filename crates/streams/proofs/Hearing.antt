@@ -43,7 +43,7 @@ use Rattle.ends.specs.Output.{wordOf, outputPerformed}
 use Rattle.ends.specs.declared.plan.Plan as Sents
 use Rattle.ends.specs.declared.plan.Plan.the-variants as Sent
 use Rattle.switch.specs.Step.{hears, stepPerformed}
-use Rattle.bench.specs.Calls.{Call, Fresh, Wire, Set, Aim, Output, Input, Step, Steps, rows, made}
+use Rattle.bench.specs.Calls.{Call, Begin, Wire, Set, Aim, Output, Input, Step, Steps, rows, made}
 use Rattle.bench.specs.Writes.{hopClosed}
 use Rattle.kept.specs.Kept.{Kept}
 use Rattle.kept.proofs.Found.{Going, Found, idle, waits, splits, unrouted, routes, step-found}
@@ -390,7 +390,7 @@ module _ (w : World) (k : Kept w) (g : Ghost) (iv : Inv isLink (moving w) g) whe
 
   -- EVERY CALL that is not refused
   pub made-heard : (c : Call) → Passes (rows w c) → noEvent c ≡ false → Listening (made w c .next) (madeEvents w c)
-  made-heard (Fresh n) p e = clash e
+  made-heard (Begin s n) p e = clash e
   made-heard (Wire a l b j) p e = all-stay _ _ refl (λ m q hq f. (tt, tt))
   made-heard (Set a x) p e = all-stay _ [] (setting-leaves (w .net) (a .0) x .units) (λ m q hq f. tt)
   made-heard (Aim a c g v) p e = all-stay _ [] refl (λ m q hq f. tt)

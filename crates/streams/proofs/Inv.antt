@@ -132,6 +132,8 @@ module _ (link : ℕ → Bool) where
     pub unlined : (l : ℕ) → n .cable l ≡ Nobody → (n .line l ≡ []) × (g .on l ≡ [])
     pub fed : (l : ℕ) → FedBy (n .out) (g .front) (g .tail l) l (n .user l)
     pub unfed : (m : ℕ) → link m ≡ true → n .cable m ≡ Nobody → g .back m ≡ Idle
+    -- by a link with no cable nothing has gone out: the port that uses it has the whole circuit still, from its first token
+    pub unsent : (l : ℕ) → n .cable l ≡ Nobody → g .tail l ≡ Idle
     -- a port from the tile and its sender, a link and its user determine each other
     pub tiles : (d : ℕ) → link d ≡ false → g .holder d ≡ Nobody → g .back d ≡ Idle
     pub doors : (d e : ℕ) → g .holder d ≡ By e → n .busy e ≡ Through d

@@ -16,11 +16,13 @@ use Rattle.answers.specs.Out.{Out, out}
 use Rattle.answers.specs.declared.Answer.{Answer}
 use Rattle.answers.specs.declared.Answer.the-variants.{No, Idle}
 use Rattle.cells.specs.World.{World}
-use Rattle.cells.specs.Fresh.{freshWorld}
-use Rattle.bench.specs.Calls.{Call, Fresh, Wire, Set, Aim, Output, Input, Step, Steps, apply}
+use Rattle.fresh.specs.Fresh.{startOf}
+use Rattle.fresh.specs.declared.Start.{Start}
+use Rattle.bench.specs.Calls.{Call, Begin, Wire, Set, Aim, Output, Input, Step, Steps, apply}
 use Rattle.bench.specs.Runs.{flat}
-use Rattle.bench.proofs.Lasts.{call-keeps, fresh-keeps}
+use Rattle.bench.proofs.Lasts.{call-keeps}
 use Rattle.kept.specs.Kept.{Kept}
+use Rattle.kept.proofs.Calls.{start-kept}
 use Rattle.streams.specs.Model.{isLink, Books, Notes}
 use Rattle.streams.specs.Demand.{Demand3}
 use Rattle.streams.specs.Watch.{Seen, unseen, seen}
@@ -29,9 +31,9 @@ use Rattle.streams.specs.View.{moving}
 use Rattle.streams.proofs.Machine.{Machine}
 use Rattle.streams.proofs.Splits.{Reading}
 use Rattle.streams.proofs.Seen.{Observer, demand-3}
-use Rattle.streams.proofs.Calls.{eventsOf, leads-none, call-leads, fresh-view, fresh-seen}
+use Rattle.streams.proofs.Calls.{eventsOf, leads-none, call-leads, start-view, start-seen}
 use Rattle.streams.proofs.Singly.{Lone, lones, flat-lone, seen-lone}
-use Rattle.streams.proofs.Ties.{Tied, tied-fresh, tied-anew, tied-call}
+use Rattle.streams.proofs.Ties.{Tied, tied-start, tied-anew, tied-call}
 use Rattle.streams.proofs.Agree.{call-agrees}
 use Rattle.streams.proofs.Misreads.{call-splits}
 
@@ -47,12 +49,12 @@ module _ (makes : Call → Bool) (say : Answer) where
   reads w c = pick (makes c) (misreads w c) false
 
   -- what an observer has written down of it
-  abbrev pub seenOf : ℕ → List Call → Seen
-  seenOf n cs =
-      seen (λ (w : World) (c : Call). lame w c .next) anews (λ w c. lame w c .answer) write jot reads portIn (freshWorld n) unseen
+  abbrev pub seenOf : Start → ℕ → List Call → Seen
+  seenOf x n cs =
+      seen (λ (w : World) (c : Call). lame w c .next) anews (λ w c. lame w c .answer) write jot reads portIn (startOf x n) unseen
       (flat cs)
 
-  module _ (n : ℕ) (some : 1 ≤ n) (few : n ≤ nodes) (unwritten : (o : Notes) (w : World) (c : Call) (k : Books) → makes c ≡ false
+  module _ (x : Start) (n : ℕ) (some : 1 ≤ n) (few : n ≤ nodes) (unwritten : (o : Notes) (w : World) (c : Call) (k : Books) → makes c ≡ false
       → write o w c say k ≡ k) (unnoted : (c : Call) (o : Notes) → makes c ≡ false → jot c say o ≡ o)
     where
       abbrev machine : Machine isLink
@@ -65,14 +67,14 @@ module _ (makes : Call → Bool) (say : Answer) where
             view = moving;
             Sane = Kept;
             anew = λ w c. anews w (c .call);
-            anew-view = λ w c k. by-test (makes (c .call)) (λ m. rw m (λ e. fresh-seen w (c .call) e)) (λ m. rw m (λ e. clash (sym e)));
+            anew-view = λ w c k. by-test (makes (c .call)) (λ m. rw m (λ e. start-seen w (c .call) e)) (λ m. rw m (λ e. clash (sym e)));
             law = λ w c k. by-test (makes (c .call))
                 (λ m. rw m (λ e. call-leads w k (c .call) (c .lone) e))
                 (λ m. rw m (λ e. leads-none (moving w)));
             stays-sane = λ w c k. by-test (makes (c .call)) (λ m. rw m (call-keeps w k (c .call))) (λ m. rw m k);
-            fresh = freshWorld n;
-            fresh-sane = fresh-keeps n some few;
-            fresh-view = fresh-view n;
+            first = startOf x n;
+            first-sane = start-kept x n some few;
+            first-view = start-view x n;
           }
 
       abbrev observer : Observer isLink machine
@@ -83,7 +85,7 @@ module _ (makes : Call → Bool) (say : Answer) where
             write = λ o w c. write o w (c .call);
             jot = λ c. jot (c .call);
             Tied = Tied;
-            tied-fresh = tied-fresh n;
+            tied-first = tied-start x n;
             tied-anew = λ w c. by-test (makes (c .call)) (λ m. rw m (λ e. tied-anew w (c .call) e)) (λ m. rw m (λ e. clash (sym e)));
             tied-call = λ w g c o k t. by-test (makes (c .call))
                 (λ m. rw m (λ e. tied-call w (k .sane) g (k .inv) o t (c .call) (c .lone) e))
@@ -101,24 +103,24 @@ module _ (makes : Call → Bool) (say : Answer) where
             answers = λ w c k e. by-test (makes (c .call)) (λ m. rw m (call-splits w k (c .call))) (λ m. rw m tt);
           }
 
-      pub let-by : (cs : List Call) → Demand3 (seenOf n cs .books) (seenOf n cs .misread)
+      pub let-by : (cs : List Call) → Demand3 (seenOf x n cs .books) (seenOf x n cs .misread)
       let-by cs =
           rw (
             sym (flat-lone cs),
             seen-lone (λ w c. lame w c .next) anews (λ w c. lame w c .answer) write jot reads portIn (lones cs)
-                (freshWorld n) unseen,
+                (startOf x n) unseen,
           ) (demand-3 isLink machine observer reading (lones cs))
 
 -- ONE THAT REFUSES ALL
 abbrev none : Call → Bool
 none c = false
 
-module _ (n : ℕ) (some : 1 ≤ n) (few : n ≤ nodes) where
-  pub refuses-all : (cs : List Call) → let s = seenOf none (No (number Unsound)) n cs in Demand3 (s .books) (s .misread)
-  refuses-all = let-by none (No (number Unsound)) n some few unwritten unnoted
+module _ (x : Start) (n : ℕ) (some : 1 ≤ n) (few : n ≤ nodes) where
+  pub refuses-all : (cs : List Call) → let s = seenOf none (No (number Unsound)) x n cs in Demand3 (s .books) (s .misread)
+  refuses-all = let-by none (No (number Unsound)) x n some few unwritten unnoted
     where
       unwritten : (o : Notes) (w : World) (c : Call) (k : Books) → none c ≡ false → write o w c (No (number Unsound)) k ≡ k
-      unwritten o w (Fresh m) k e = refl
+      unwritten o w (Begin s m) k e = refl
       unwritten o w (Wire a l b j) k e = refl
       unwritten o w (Set a x) k e = refl
       unwritten o w (Aim a c g v) k e = refl
@@ -128,7 +130,7 @@ module _ (n : ℕ) (some : 1 ≤ n) (few : n ≤ nodes) where
       unwritten o w (Steps m xs) k e = refl
 
       unnoted : (c : Call) (o : Notes) → none c ≡ false → jot c (No (number Unsound)) o ≡ o
-      unnoted (Fresh m) o e = refl
+      unnoted (Begin s m) o e = refl
       unnoted (Wire a l b j) o e = refl
       unnoted (Set a x) o e = refl
       unnoted (Aim a c g v) o e = refl
@@ -139,7 +141,7 @@ module _ (n : ℕ) (some : 1 ≤ n) (few : n ≤ nodes) where
 
 -- ONE THAT SAYS IDLE TO EVERY STEP
 abbrev noStep : Call → Bool
-noStep (Fresh m) = true
+noStep (Begin s m) = true
 noStep (Wire a l b j) = true
 noStep (Set a x) = true
 noStep (Aim a c g v) = true
@@ -148,12 +150,12 @@ noStep (Input a c x) = true
 noStep (Step a p) = false
 noStep (Steps m xs) = false
 
-module _ (n : ℕ) (some : 1 ≤ n) (few : n ≤ nodes) where
-  pub idles-always : (cs : List Call) → Demand3 (seenOf noStep Idle n cs .books) (seenOf noStep Idle n cs .misread)
-  idles-always = let-by noStep Idle n some few unwritten unnoted
+module _ (x : Start) (n : ℕ) (some : 1 ≤ n) (few : n ≤ nodes) where
+  pub idles-always : (cs : List Call) → Demand3 (seenOf noStep Idle x n cs .books) (seenOf noStep Idle x n cs .misread)
+  idles-always = let-by noStep Idle x n some few unwritten unnoted
     where
       unwritten : (o : Notes) (w : World) (c : Call) (k : Books) → noStep c ≡ false → write o w c Idle k ≡ k
-      unwritten o w (Fresh m) k e = clash e
+      unwritten o w (Begin s m) k e = clash e
       unwritten o w (Wire a l b j) k e = clash e
       unwritten o w (Set a x) k e = clash e
       unwritten o w (Aim a c g v) k e = clash e
@@ -163,7 +165,7 @@ module _ (n : ℕ) (some : 1 ≤ n) (few : n ≤ nodes) where
       unwritten o w (Steps m xs) k e = refl
 
       unnoted : (c : Call) (o : Notes) → noStep c ≡ false → jot c Idle o ≡ o
-      unnoted (Fresh m) o e = clash e
+      unnoted (Begin s m) o e = clash e
       unnoted (Wire a l b j) o e = clash e
       unnoted (Set a x) o e = clash e
       unnoted (Aim a c g v) o e = clash e

@@ -11,7 +11,7 @@ use Rattle.laws.specs.Pick.{pick}
 use Rattle.streams.specs.Model.{keeps, ToChannel, placeOf, nodeOfPort, nodeOfDoor, endAt, Moving, Fate, Flying, Lost, Landed, Here}
 use Rattle.streams.specs.Model.{Info, Given, alter, hd, pushAll, marks}
 use Rattle.streams.specs.Events.{Event, Opens, Puts, Starts, Tells, Takes, Lands, Refuses, Enters, Arrives, Hands, Loses, Wires}
-use Rattle.streams.specs.Events.{Ghost, effect, note, notes, blank, Ok, OkAll}
+use Rattle.streams.specs.Events.{Ghost, effect, note, notes, newGhost, Ok, OkAll}
 use Rattle.streams.specs.Demand.{of, share}
 use Rattle.streams.proofs.Basics.{alter-same, alter-miss}
 use Rattle.streams.proofs.Inv.{Local, Inv}
@@ -150,6 +150,6 @@ module _ (link : ℕ → Bool) where
   keep-logs (v ∷ vs) n g iv ok l =
       keep-logs vs (effect v n) (note v g) (keep link v n g iv (ok .0)) (ok .1) (keep-log v n g iv (ok .0) l)
 
-pub start-log : LoggedIn blank
-unfolding blank
+pub start-log : LoggedIn newGhost
+unfolding newGhost
 start-log c d = refl

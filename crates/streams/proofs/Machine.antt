@@ -7,7 +7,7 @@ use mathlib.Core.List.{List, [], _∷_, _++_}
 use Rattle.laws.specs.Pick.{pick}
 use Rattle.laws.proofs.Order.{by-test, never}
 use Rattle.streams.specs.Model.{Use, Nobody, By, Moving, Cell, Fate, Flying}
-use Rattle.streams.specs.Events.{Event, Ghost, booksOf, effect, note, effects, notes, empty, blank, OkAll}
+use Rattle.streams.specs.Events.{Event, Ghost, booksOf, effect, note, effects, notes, empty, newGhost, OkAll}
 use Rattle.streams.specs.Demand.{Faithful, tokensOf}
 use Rattle.streams.specs.Watch.{runAll, NoneAnew}
 use Rattle.streams.proofs.Inv.{Inv}
@@ -77,14 +77,14 @@ module _ (link : ℕ → Bool) where
     -- THE LAW, one for each call elsewhere
     pub law : (s : State) (c : Call) → Sane s → anew s c ≡ false → Leads (events s c) (view s) (view (apply s c))
     pub stays-sane : (s : State) (c : Call) → Sane s → Sane (apply s c)
-    pub fresh : State
-    pub fresh-sane : Sane fresh
-    pub fresh-view : view fresh ≡ empty
+    pub first : State
+    pub first-sane : Sane first
+    pub first-view : view first ≡ empty
 
 module _ (link : ℕ → Bool) (m : Machine link) where
   -- the observer of the proof, who begins again where a call is anew
   abbrev pub noted : m .State → m .Call → Ghost → Ghost
-  noted s c g = pick (m .anew s c) blank (notes (m .events s c) g)
+  noted s c g = pick (m .anew s c) newGhost (notes (m .events s c) g)
 
   abbrev pub watch : m .State → Ghost → List (m .Call) → Ghost
   watch s g [] = g
@@ -108,8 +108,8 @@ module _ (link : ℕ → Bool) (m : Machine link) where
   always [] s g k = k
   always (c ∷ cs) s g k = always cs (m .apply s c) (noted s c g) (call-keeps c s g k)
 
-  pub fresh-good : Good-state (m .fresh) blank
-  fresh-good = record { sane = m .fresh-sane; inv = rw (m .fresh-view) (start link) }
+  pub first-good : Good-state (m .first) newGhost
+  first-good = record { sane = m .first-sane; inv = rw (m .first-view) (start link) }
 
   -- RUNS
   pub logs-run : (cs : List (m .Call)) (s : m .State) (g : Ghost) → Good-state s g → LoggedIn g → LoggedIn (watch s g cs)
@@ -139,16 +139,16 @@ module _ (link : ℕ → Bool) (m : Machine link) where
   -- after any calls from the start
   module _ (cs : List (m .Call)) where
     abbrev pub reached : m .State
-    reached = runAll (m .apply) (m .fresh) cs
+    reached = runAll (m .apply) (m .first) cs
 
     abbrev pub watched : Ghost
-    watched = watch (m .fresh) blank cs
+    watched = watch (m .first) newGhost cs
 
     pub reached-inv : Inv link (m .view reached) watched
-    reached-inv = always cs (m .fresh) blank fresh-good .inv
+    reached-inv = always cs (m .first) newGhost first-good .inv
 
     pub circuits-true : (c : ℕ) → Faithful (booksOf watched) c
     circuits-true = faithful link (m .view reached) watched reached-inv
 
     pub logs-true : LoggedIn watched
-    logs-true = logs-run cs (m .fresh) blank fresh-good start-log
+    logs-true = logs-run cs (m .first) newGhost first-good start-log

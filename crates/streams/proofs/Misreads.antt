@@ -31,7 +31,7 @@ use Rattle.ends.specs.Output.{wordOf}
 use Rattle.ends.specs.declared.plan.Plan as Sents
 use Rattle.ends.specs.declared.plan.Plan.the-variants as Sent
 use Rattle.switch.specs.Step.{portAt}
-use Rattle.bench.specs.Calls.{Call, Fresh, Wire, Set, Aim, Output, Input, Step, Steps, rows}
+use Rattle.bench.specs.Calls.{Call, Begin, Wire, Set, Aim, Output, Input, Step, Steps, rows}
 use Rattle.bench.specs.Writes.{hopClosed}
 use Rattle.kept.specs.Kept.{Kept}
 use Rattle.kept.proofs.Parts.{kept-sound}
@@ -121,7 +121,7 @@ module _ (w : World) (n p : ℕ) where
 -- EVERY CALL
 module _ (w : World) (k : Kept w) where
   made-splits : (c : Call) → Passes (rows w c) → SplitBy (misreads w c) (portIn c) (madeEvents w c)
-  made-splits (Fresh n) p = tt
+  made-splits (Begin s n) p = tt
   made-splits (Wire a l b j) p = (tt, tt)
   made-splits (Set a x) p = tt
   made-splits (Aim a c g v) p = tt
@@ -136,7 +136,7 @@ module _ (w : World) (k : Kept w) where
 
   -- a Step that is refused reads nothing
   refused-splits : (c : Call) → done w c ≡ false → SplitBy (misreads w c) (portIn c) []
-  refused-splits (Fresh n) e = tt
+  refused-splits (Begin s n) e = tt
   refused-splits (Wire a l b j) e = tt
   refused-splits (Set a x) e = tt
   refused-splits (Aim a c g v) e = tt

@@ -49,7 +49,7 @@ use Rattle.ends.specs.declared.aim.Goal.{Goal}
 use Rattle.ends.specs.declared.aim.Goal.the-variants as Goals
 use Rattle.ends.specs.declared.plan.Plan as Sents
 use Rattle.switch.specs.Step.{stepPerformed}
-use Rattle.bench.specs.Calls.{Call, Fresh, Wire, Set, Aim, Output, Input, Step, Steps, rows, made}
+use Rattle.bench.specs.Calls.{Call, Begin, Wire, Set, Aim, Output, Input, Step, Steps, rows, made}
 use Rattle.bench.specs.Writes.{hopClosed}
 use Rattle.kept.specs.Kept.{Kept}
 use Rattle.kept.proofs.Found.{Found, idle, waits, splits, unrouted, routes, landsChannel, landsUnit, step-found}
@@ -393,7 +393,7 @@ module _ (w : World) (k : Kept w) (n c : ℕ) (y : Wanted) (o : Notes) (hn : n <
 module _ (w : World) (k : Kept w) (o : Notes) where
   pub made-told : (c : Call) → Passes (rows w c) → noEvent c ≡ false
       → Told w (made w c .next) (madeEvents w c) o (jot c (made w c .answer) o)
-  made-told (Fresh n) p e = clash e
+  made-told (Begin s n) p e = clash e
   made-told (Wire a l b j) p e =
       told-still w _ _ o (record { aims = refl; buffers = refl; units = refl }) (tt, tt) (λ d. refl) (λ d. refl)
   made-told (Set a x) p e = told-set (setAnswer (w .net) (a .0) x)

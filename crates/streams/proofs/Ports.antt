@@ -63,6 +63,7 @@ module _ (link : ℕ → Bool) (n : Moving) (g : Ghost) (iv : Inv link n g) wher
             (λ q z. let d : q ≡ p → ⊥ = λ m. ne (via-same (sym z ∙ ap (n .out) m ∙ eo)) in (alter-miss _ p _ q d, alter-miss _ p _ q d))
             (iv .fed l′)));
         unfed = iv .unfed;
+        unsent = at-or _ l (λ z. never (cc)) (λ l′ ne z. simp alter-miss (iv .unsent l′ z));
         tiles = iv .tiles;
         doors = iv .doors;
         used = λ q l′ z.
@@ -122,6 +123,7 @@ module _ (link : ℕ → Bool) (n : Moving) (g : Ghost) (iv : Inv link n g) wher
         unlined = at-or _ l (λ z. never (cc)) (λ l′ ne z. simp alter-miss (iv .unlined l′ z));
         fed = iv .fed;
         unfed = λ m′ lk cn. alter-miss _ _ _ _ (λ q. nobody-by (sym cn ∙ ap (n .cable) q ∙ cb .0)) ∙ iv .unfed m′ lk cn;
+        unsent = iv .unsent;
         tiles = λ d lk hn. alter-miss _ _ _ _ (λ q. clash (sym (cb .1) ∙ ap link (sym q) ∙ lk)) ∙ iv .tiles d lk hn;
         doors = iv .doors;
         used = iv .used;
@@ -161,6 +163,7 @@ module _ (link : ℕ → Bool) (n : Moving) (g : Ghost) (iv : Inv link n g) wher
         unlined = iv .unlined;
         fed = fed-away link n g iv p o (next y) away;
         unfed = iv .unfed;
+        unsent = iv .unsent;
         tiles = iv .tiles;
         doors = iv .doors;
         used = used-away link n g iv p o (next y) away (no-via (closes x) (Drops q) (λ l z. never (cc)));
@@ -220,6 +223,7 @@ module _ (link : ℕ → Bool) (n : Moving) (g : Ghost) (iv : Inv link n g) wher
         unlined = iv .unlined;
         fed = fed-away link n g iv p o (next y) away;
         unfed = iv .unfed;
+        unsent = iv .unsent;
         tiles = iv .tiles;
         doors = iv .doors;
         used = used-away link n g iv p o (next y) away (no-via (closes x) (Into a) (λ l z. never (cc)));
@@ -270,6 +274,7 @@ module _ (link : ℕ → Bool) (n : Moving) (g : Ghost) (iv : Inv link n g) wher
             (let b : g .tail l ≡ Idle = rw eu at (iv .fed l) in simp alter-same (refl, b))
             (λ l′ ne. rw (alter-miss (n .user) l (By p) l′ ne) (fed-away link n g iv p (Via l) (At c 0) (λ k z. never (cc)) l′));
         unfed = iv .unfed;
+        unsent = iv .unsent;
         tiles = iv .tiles;
         doors = iv .doors;
         used = λ q l′ z.
@@ -307,6 +312,7 @@ module _ (link : ℕ → Bool) (n : Moving) (g : Ghost) (iv : Inv link n g) wher
         unlined = iv .unlined;
         fed = fed-away link n g iv p (Drops q) (At c 0) away;
         unfed = iv .unfed;
+        unsent = iv .unsent;
         tiles = iv .tiles;
         doors = iv .doors;
         used = used-away link n g iv p (Drops q) (At c 0) away (λ l z. never (cc));
@@ -380,6 +386,7 @@ module _ (link : ℕ → Bool) (n : Moving) (g : Ghost) (iv : Inv link n g) wher
         unlined = iv .unlined;
         fed = fed-away link n g iv p (Into a) (At c size) away;
         unfed = iv .unfed;
+        unsent = iv .unsent;
         tiles = iv .tiles;
         doors = iv .doors;
         used = used-away link n g iv p (Into a) (At c size) away (λ l z. never (cc));

@@ -1,24 +1,26 @@
--- What an observer has written down of the three runs of bench/proofs/Runs.antt, computed: circuits land, are handed on, are Split and
--- are answered, so that demand 3 is no statement about nothing. Assumes nothing.
+-- What an observer has written down of the runs of bench/proofs/Runs.antt, computed: circuits land, are handed on, are Split, find no way
+-- and are answered, so that demand 3 is no statement about nothing. Assumes nothing.
 use Prim.Native.Nat.{ℕ}
 use mathlib.Core.Path.{_≡_, refl, ap, _∙_}
 use mathlib.Core.Bool.{Bool, true, false}
 use mathlib.Core.List.{List, [], _∷_, _++_, map}
 use Rattle.laws.specs.Row.{tab}
-use Rattle.circuits.specs.declared.Cause.the-variants.{Split}
+use Rattle.circuits.specs.declared.Cause.the-variants.{NoRoute, Split}
 use Rattle.tokens.specs.declared.header.Width.the-variants.{One, Three}
 use Rattle.tokens.specs.declared.header.Target.{Target}
 use Rattle.tokens.specs.declared.header.Target.the-variants.{Channel, Unit}
 use Rattle.answers.specs.Out.{Out}
 use Rattle.cells.specs.World.{World}
-use Rattle.cells.specs.Fresh.{freshWorld}
+use Rattle.fresh.specs.Fresh.{startOf}
+use Rattle.fresh.specs.declared.Start.{Start}
+use Rattle.fresh.specs.declared.Start.the-variants.{Fresh, Blank}
 use Rattle.kept.specs.Kept.{Kept}
 use Rattle.kept.proofs.Computes.{computes}
 use Rattle.bench.specs.Calls.{Call, apply}
 use Rattle.bench.specs.Runs.{flat}
 use Rattle.bench.proofs.Lasts.{call-keeps}
-use Rattle.bench.proofs.Computed.{applied, sound-row, Script, calls, fresh-kept}
-use Rattle.bench.proofs.Runs.{update, halfway, halfwayByLists, by-lists, narrowed}
+use Rattle.bench.proofs.Computed.{applied, sound-row, Script, calls, begun-kept}
+use Rattle.bench.proofs.Runs.{update, halfway, halfwayByLists, by-lists, narrowed, booted, blanked}
 use Rattle.streams.specs.Model.{Info, Given, Fate, Lost, Landed, Here, noBooks, alter, portNo, doorNo, unitDoor, marks}
 use Rattle.streams.specs.Watch.{Seen, unseen, sees, seen}
 use Rattle.streams.specs.Observer.{write, jot, anew, misreads, portIn}
@@ -63,14 +65,21 @@ abbrev pub logs : List ℕ → Seen → List (List Given)
 logs ds s = map (s .books .log) ds
 
 -- what an observer of a script on two boards has in the end, read by f
+abbrev ShowsFrom : Start → Script → {A : Type 0} → (Seen → A) → A → Type 0
+ShowsFrom x s f a = f (observed x 2 (calls s)) ≡ a
+
+abbrev shown-from : (x : Start) (s : Script) {A : Type 0} (f : Seen → A) {a : A}
+    → f (watched applied (startOf x 2) unseen (flat (calls s))) ≡ a
+    → ShowsFrom x s f a
+shown-from x s f computed = ap f (watched-so (flat (calls s)) (startOf x 2) unseen (begun-kept x 2 refl refl)) ∙ computed
+
 abbrev Shows : Script → {A : Type 0} → (Seen → A) → A → Type 0
-Shows s f a = f (observed 2 (calls s)) ≡ a
+Shows s = ShowsFrom Fresh s
 
 abbrev shown : (s : Script) {A : Type 0} (f : Seen → A) {a : A}
-    → f (watched applied (freshWorld 2) unseen (flat (calls s))) ≡ a
+    → f (watched applied (startOf Fresh 2) unseen (flat (calls s))) ≡ a
     → Shows s f a
-shown s f computed =
-    ap f (watched-so (flat (calls s)) (freshWorld 2) unseen (fresh-kept 2 refl refl)) ∙ computed
+shown s = shown-from Fresh s
 
 -- openings: at three-byte width, at one-byte width, within a node
 abbrev three : ℕ → Target → Info
@@ -165,8 +174,8 @@ unfolding computes alter noBooks
 halfway-books = shown halfway accounts refl
 
 -- .. and by lists of steps the same
-pub by-lists-books : observed 2 halfwayByLists ≡ observed 2 (calls halfway)
-by-lists-books = ap (watched apply (freshWorld 2) unseen) by-lists
+pub by-lists-books : observed Fresh 2 halfwayByLists ≡ observed Fresh 2 (calls halfway)
+by-lists-books = ap (watched apply (startOf Fresh 2) unseen) by-lists
 
 -- "A message sets a node to one-byte": the message was heard, and nothing of the reply was handed
 pub narrowed-books : Shows narrowed accounts
@@ -187,3 +196,37 @@ pub narrowed-books : Shows narrowed accounts
     ∷ [])
 unfolding computes alter noBooks
 narrowed-books = shown narrowed accounts refl
+
+-- AS THE BOOT ROM LEAVES THEM: the circuit that was open before its cable was there has landed at the lane, whole, by the port of that cable;
+-- so has the one back
+pub booted-books : Shows booted accounts
+    (record {
+      opening = three (doorNo 0 0) (Channel (record { 0 = 1 }) 5);
+      put = 0x600 ∷ 0x601 ∷ 0x605 ∷ 7 ∷ 0x101 ∷ [];
+      fate = Landed (portNo 1 5) (record { 0 = 1 });
+      handed = 7 ∷ 0x101 ∷ [];
+      misread = false;
+    }
+    ∷ record {
+      opening = three (doorNo 1 0) (Channel (record { 0 = 0 }) 6);
+      put = 0x600 ∷ 0x600 ∷ 0x606 ∷ 0x101 ∷ [];
+      fate = Landed (portNo 0 4) (record { 0 = 0 });
+      handed = 0x101 ∷ [];
+      misread = false;
+    }
+    ∷ [])
+unfolding computes alter noBooks
+booted-books = shown booted accounts refl
+
+-- .. and from blank it had no way out
+pub blanked-books : ShowsFrom Blank blanked accounts
+    (record {
+      opening = three (doorNo 0 0) (Channel (record { 0 = 1 }) 5);
+      put = 0x600 ∷ 0x601 ∷ 0x605 ∷ 7 ∷ 0x101 ∷ [];
+      fate = Lost NoRoute;
+      handed = [];
+      misread = false;
+    }
+    ∷ [])
+unfolding computes alter noBooks
+blanked-books = shown-from Blank blanked accounts refl

@@ -8,12 +8,12 @@ use Rattle.laws.specs.Pick.{pick}
 use Rattle.laws.proofs.Order.{by-test}
 use Rattle.circuits.specs.declared.Cause.the-variants.{Split}
 use Rattle.streams.specs.Model.{Fate, Flying, Books, noBooks, Notes, noNotes, alter, hd}
-use Rattle.streams.specs.Events.{Ghost, booksOf, notes, blank}
+use Rattle.streams.specs.Events.{Ghost, booksOf, notes, newGhost}
 use Rattle.streams.specs.Demand.{Demand3}
 use Rattle.streams.specs.Watch.{Seen, unseen, NoneAnew, runAll, sees, seen}
-use Rattle.streams.proofs.Machine.{Machine, noted, watch, Good-state, call-keeps, always, fresh-good, fate-stays-run, watch-append}
+use Rattle.streams.proofs.Machine.{Machine, noted, watch, Good-state, call-keeps, always, first-good, fate-stays-run, watch-append}
 use Rattle.streams.proofs.Machine.{reached, watched, circuits-true, logs-true}
-use Rattle.streams.proofs.Splits.{Marks, blank-marks, marks-call, Reading}
+use Rattle.streams.proofs.Splits.{Marks, new-marks, marks-call, Reading}
 
 module _ (link : ℕ → Bool) (m : Machine link) where
   pub record Observer : Type 1 where
@@ -23,16 +23,16 @@ module _ (link : ℕ → Bool) (m : Machine link) where
     pub jot : m .Call → Answer → Notes → Notes
     -- what the state, the proof's books and the notes have to do with each other: so from the start on, and after every call
     pub Tied : m .State → Ghost → Notes → Type 0
-    pub tied-fresh : Tied (m .fresh) blank noNotes
-    pub tied-anew : (s : m .State) (c : m .Call) → m .anew s c ≡ true → Tied (m .apply s c) blank noNotes
+    pub tied-first : Tied (m .first) newGhost noNotes
+    pub tied-anew : (s : m .State) (c : m .Call) → m .anew s c ≡ true → Tied (m .apply s c) newGhost noNotes
     pub tied-call : (s : m .State) (g : Ghost) (c : m .Call) (k : Notes) → Good-state link m s g → Tied s g k → m .anew s c ≡ false
         → Tied (m .apply s c) (notes (m .events s c) g) (jot c (answer s c) k)
     -- what the proof's observer writes
     pub agrees : (s : m .State) (g : Ghost) (c : m .Call) (k : Notes) → Good-state link m s g → Tied s g k → m .anew s c ≡ false
         → write k s c (answer s c) (booksOf g) ≡ booksOf (notes (m .events s c) g)
 
-no-books : noBooks ≡ booksOf blank
-unfolding noBooks blank
+no-books : noBooks ≡ booksOf newGhost
+unfolding noBooks newGhost
 no-books = refl
 
 module _ (link : ℕ → Bool) (m : Machine link) (o : Observer link m) (r : Reading link m) where
@@ -56,7 +56,7 @@ module _ (link : ℕ → Bool) (m : Machine link) (o : Observer link m) (r : Rea
       (noted link m s c g)
   same-call c s g t k good mk ties =
       by-test (m .anew s c)
-      (λ e. rw e (record { table = λ c. false; notes = noNotes; is = rw no-books; marks = blank-marks; tied = o .tied-anew s c e }))
+      (λ e. rw e (record { table = λ c. false; notes = noNotes; is = rw no-books; marks = new-marks; tied = o .tied-anew s c e }))
       (λ e. rw e (record {
         table = pick (r .misreads s c) (alter t (hd (g .cells (r .portIn c)) .circuit) true) t;
         notes = o .jot c (o .answer s c) k;
@@ -76,10 +76,10 @@ module _ (link : ℕ → Bool) (m : Machine link) (o : Observer link m) (r : Rea
 
   -- after any calls from the start
   abbrev pub sighted : List (m .Call) → Seen
-  sighted cs = sights (m .fresh) unseen cs
+  sighted cs = sights (m .first) unseen cs
 
   same : (cs : List (m .Call)) → Same (sighted cs) (reached link m cs) (watched link m cs)
-  same cs = rw no-books (same-run cs (m .fresh) blank (λ c. false) noNotes (fresh-good link m) blank-marks (o .tied-fresh))
+  same cs = rw no-books (same-run cs (m .first) newGhost (λ c. false) noNotes (first-good link m) new-marks (o .tied-first))
 
   pub books-watched : (cs : List (m .Call)) → sighted cs .books ≡ booksOf (watched link m cs)
   books-watched cs = ap (λ (k : Seen). k .books) (same cs .is)
@@ -90,9 +90,9 @@ module _ (link : ℕ → Bool) (m : Machine link) (o : Observer link m) (r : Rea
       → sighted cs .books .fate c ≡ f
       → sighted (cs ++ ds) .books .fate c ≡ f
   fate-once cs ds c f ne old z =
-      let k = always link m cs (m .fresh) blank (fresh-good link m) in
+      let k = always link m cs (m .first) newGhost (first-good link m) in
       let z′ : watched link m cs .fate c ≡ f = rw (books-watched cs) at z in
-      rw (books-watched (cs ++ ds), watch-append link m cs ds (m .fresh) blank)
+      rw (books-watched (cs ++ ds), watch-append link m cs ds (m .first) newGhost)
       (fate-stays-run link m ds (reached link m cs) (watched link m cs) k old c f ne z′)
 
   -- THE THEOREM, of any machine
@@ -114,5 +114,5 @@ module _ (link : ℕ → Bool) (m : Machine link) (o : Observer link m) (r : Rea
       → P (reached link m cs) (sighted cs .books) (sighted cs .notes)
   so-tied P h cs =
       let all = same cs in
-      let good = always link m cs (m .fresh) blank (fresh-good link m) in
+      let good = always link m cs (m .first) newGhost (first-good link m) in
       rw (all .is) (h (reached link m cs) (watched link m cs) (all .notes) good (all .tied))

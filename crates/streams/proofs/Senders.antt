@@ -59,6 +59,7 @@ module _ (link : ℕ → Bool) (n : Moving) (g : Ghost) (iv : Inv link n g) wher
         unlined = iv .unlined;
         fed = iv .fed;
         unfed = λ m lk cn. alter-miss _ _ _ m (λ q. clash (sym lk ∙ ap link q ∙ op .tile)) ∙ iv .unfed m lk cn;
+        unsent = iv .unsent;
         tiles = at-or _ d
             (simp alter-same (by-test (closes t) (λ q. rw q (λ lk hn. refl)) (λ q. rw q (λ lk hn. never (cc)))))
             (λ j ne. simp alter-miss (iv .tiles j));
@@ -127,6 +128,7 @@ module _ (link : ℕ → Bool) (n : Moving) (g : Ghost) (iv : Inv link n g) wher
         unlined = iv .unlined;
         fed = iv .fed;
         unfed = iv .unfed;
+        unsent = iv .unsent;
         tiles = iv .tiles;
         doors = λ d e′ z. let b = iv .doors d e′ z in alter-miss _ _ _ _ (λ q. never (cc)) ∙ b;
         used = iv .used;
@@ -187,6 +189,7 @@ module _ (link : ℕ → Bool) (n : Moving) (g : Ghost) (iv : Inv link n g) wher
         unlined = iv .unlined;
         fed = iv .fed;
         unfed = iv .unfed;
+        unsent = iv .unsent;
         tiles = iv .tiles;
         doors = λ d e′ z. let b = iv .doors d e′ z in alter-miss _ _ _ _ (λ q. never (cc)) ∙ b;
         used = iv .used;
@@ -257,6 +260,7 @@ module _ (link : ℕ → Bool) (n : Moving) (g : Ghost) (iv : Inv link n g) wher
         unlined = iv .unlined;
         fed = iv .fed;
         unfed = λ m lm cn. alter-miss _ _ _ m (λ q. clash (sym lm ∙ ap link q ∙ lk)) ∙ iv .unfed m lm cn;
+        unsent = iv .unsent;
         tiles = at-or _ d
             (λ lk hn. let z = sym (alter-same (g .holder) d (By e)) ∙ hn in never (cc))
             (λ j ne. simp alter-miss (iv .tiles j));
@@ -349,14 +353,14 @@ module _ (cable : ℕ → Use) (l m a : ℕ) where
 module _ (link : ℕ → Bool) (n : Moving) (g : Ghost) (iv : Inv link n g) where
   pub keep-wires : (l m : ℕ) → Ok link n (Wires l m) → Inv link (effect (Wires l m) n) (note (Wires l m) g)
   unfolding effect note
-  keep-wires l m (lm, ll, lk, cl, cm, ul, um) =
+  keep-wires l m (lm, ll, lk, cl, cm) =
       let cable′ = alter (alter (n .cable) l (By m)) m (By l) in
       let at-m : cable′ m ≡ By l = alter-same _ _ _ in
       let at-l : cable′ l ≡ By m = alter-miss _ _ _ _ lm ∙ alter-same _ _ _ in
       let bl : g .back l ≡ Idle = iv .unfed l ll cl in
       let bm : g .back m ≡ Idle = iv .unfed m lk cm in
-      let tail-l : g .tail l ≡ Idle = rw ul at (iv .fed l) in
-      let tail-m : g .tail m ≡ Idle = rw um at (iv .fed m) in
+      let tail-l : g .tail l ≡ Idle = iv .unsent l cl in
+      let tail-m : g .tail m ≡ Idle = iv .unsent m cm in
       let new-line : (a b : ℕ) → n .cable a ≡ Nobody → g .back b ≡ g .tail a
       → PortOK (g .stream) (n .line a) (g .on a) (g .back b) (g .tail a) = λ a b ca e.
       let (no-tokens, no-cells) = iv .unlined a ca in
@@ -379,6 +383,7 @@ module _ (link : ℕ → Bool) (n : Moving) (g : Ghost) (iv : Inv link n g) wher
         unlined = λ a z. iv .unlined a (unwired (n .cable) l m a z);
         fed = iv .fed;
         unfed = λ b lb z. iv .unfed b lb (unwired (n .cable) l m b z);
+        unsent = λ b z. iv .unsent b (unwired (n .cable) l m b z);
         tiles = iv .tiles;
         doors = iv .doors;
         used = iv .used;

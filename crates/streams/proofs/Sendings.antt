@@ -22,7 +22,7 @@ use Rattle.tokens.proofs.Headers.{made-marked}
 use Rattle.plans.specs.Plan.{sizeOf}
 use Rattle.streams.specs.Model.{encode, Moving, Through, Direct, Info, alter}
 use Rattle.streams.specs.Events.{Event, Opens, Puts, Starts, Tells, Takes, Lands, Refuses, Enters, Arrives, Hands, Loses, Wires}
-use Rattle.streams.specs.Events.{Ghost, booksOf, effect, note, notes, blank, Ok, OkAll}
+use Rattle.streams.specs.Events.{Ghost, booksOf, effect, note, notes, newGhost, Ok, OkAll}
 use Rattle.streams.specs.Demand.{sentIn, sentBy, Marked}
 use Rattle.streams.proofs.Basics.{alter-same, alter-hit, alter-miss, alter-own, Streams}
 use Rattle.streams.proofs.Headers.{encoded}
@@ -304,7 +304,7 @@ module _ (link : ℕ → Bool) where
       ∙ ap (λ (l : List ℕ). l ++ putsAt vs d) (sent-step link n g iv s v d (ok .0))
       ∙ append-assoc (sentBy (booksOf g) d) (putAt v d) (putsAt vs d)
 
-pub start-sending : SendingIn blank
-unfolding blank
+pub start-sending : SendingIn newGhost
+unfolding newGhost
 start-sending =
     record { latest = λ c l. absurd (omega arith); whole = λ c. le-refl 0; marks = λ c i l. absurd (omega arith) }

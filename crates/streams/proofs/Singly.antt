@@ -10,7 +10,7 @@ use Rattle.laws.specs.Pick.{pick}
 use Rattle.laws.proofs.Order.{by-test}
 use Rattle.cells.specs.World.{World}
 use Rattle.bench.specs.declared.StepRecord.{StepRecord}
-use Rattle.bench.specs.Calls.{Call, Fresh, Wire, Set, Aim, Output, Input, Step, Steps, apply}
+use Rattle.bench.specs.Calls.{Call, Begin, Wire, Set, Aim, Output, Input, Step, Steps, apply}
 use Rattle.bench.specs.Runs.{run, stepOf, stepsOf, singly, flat}
 use Rattle.bench.proofs.Lists.{singly-left}
 use Rattle.streams.specs.Model.{Books, Notes}
@@ -30,7 +30,7 @@ loneSteps [] = []
 loneSteps (x ∷ xs) = record { call = stepOf x; lone = refl } ∷ loneSteps xs
 
 abbrev loneOf : Call → List Lone
-loneOf (Fresh n) = only (Fresh n) refl
+loneOf (Begin s n) = only (Begin s n) refl
 loneOf (Wire a l b k) = only (Wire a l b k) refl
 loneOf (Set a x) = only (Set a x) refl
 loneOf (Aim a c g v) = only (Aim a c g v) refl
@@ -56,7 +56,7 @@ steps-lone [] = refl
 steps-lone (x ∷ xs) = ap (λ (cs : List Call). stepOf x ∷ cs) (steps-lone xs)
 
 singly-lone : (c : Call) → callsIn (loneOf c) ≡ singly c
-singly-lone (Fresh n) = refl
+singly-lone (Begin s n) = refl
 singly-lone (Wire a l b k) = refl
 singly-lone (Set a x) = refl
 singly-lone (Aim a c g v) = refl
@@ -104,7 +104,7 @@ module _ where
   old-steps (x ∷ xs) w = (refl, old-steps xs (left w (stepOf x)))
 
   old-one : (w : World) (c : Call) → anew w c ≡ false → Old w (loneOf c)
-  old-one w (Fresh n) e = (e, tt)
+  old-one w (Begin s n) e = (e, tt)
   old-one w (Wire a l b k) e = (e, tt)
   old-one w (Set a x) e = (e, tt)
   old-one w (Aim a c g v) e = (e, tt)

@@ -13,7 +13,7 @@ use Rattle.circuits.specs.declared.Cause.{Cause}
 use Rattle.circuits.specs.declared.Cause.the-variants.{Split, NoRoute}
 use Rattle.streams.specs.Model.{Moving, Fate, Flying, Lost, Landed, Here, alter, hd}
 use Rattle.streams.specs.Events.{Event, Opens, Puts, Starts, Tells, Takes, Lands, Refuses, Enters, Arrives, Hands, Loses, Wires}
-use Rattle.streams.specs.Events.{Ghost, effect, note, notes, blank, OkAll}
+use Rattle.streams.specs.Events.{Ghost, effect, note, notes, newGhost, OkAll}
 use Rattle.streams.proofs.Basics.{alter-hit, alter-miss}
 use Rattle.streams.proofs.Inv.{Inv}
 use Rattle.streams.proofs.Theorem.{keep}
@@ -90,9 +90,9 @@ not-flying q e = never (cc)
 abbrev pub Marks : Ghost → (ℕ → Bool) → Type 0
 Marks g t = (c : ℕ) → (g .fate c ≡ Lost Split → t c ≡ true) × (t c ≡ true → g .fate c ≡ Lost Split)
 
-pub blank-marks : Marks blank (λ c. false)
-unfolding blank
-blank-marks c = (λ z. never (cc), λ z. clash (sym z))
+pub new-marks : Marks newGhost (λ c. false)
+unfolding newGhost
+new-marks c = (λ z. never (cc), λ z. clash (sym z))
 
 -- ONE CALL, by what its events are
 module _ (link : ℕ → Bool) (vs : List Event) (n : Moving) (g : Ghost) (iv : Inv link n g) (ok : OkAll link vs n) (t : ℕ → Bool)

@@ -13,7 +13,7 @@ use Rattle.names.specs.declared.NodeNumber.{NodeNumber}
 use Rattle.tokens.specs.Header.{compared}
 use Rattle.streams.specs.Model.{noPause, Out, Moving, Fate, Flying, Lost, Landed, Here}
 use Rattle.streams.specs.Events.{Event, Opens, Puts, Starts, Tells, Takes, Lands, Refuses, Enters, Arrives, Hands, Loses, Wires}
-use Rattle.streams.specs.Events.{Cursor, Ghost, booksOf, effect, note, effects, notes, empty, blank, Ok, OkAll}
+use Rattle.streams.specs.Events.{Cursor, Ghost, booksOf, effect, note, effects, notes, empty, newGhost, Ok, OkAll}
 use Rattle.streams.specs.Demand.{Faithful}
 use Rattle.streams.proofs.Basics.{landed-same, here-same, ind-zero}
 use Rattle.streams.proofs.Headers.{body-take}
@@ -82,8 +82,8 @@ module _ (link : ℕ → Bool) where
   keeps-all [] n g iv ok = iv
   keeps-all (v ∷ vs) n g iv ok = keeps-all vs (effect v n) (note v g) (keep v n g iv (ok .0)) (ok .1)
 
-  pub start : Inv link empty blank
-  unfolding empty blank
+  pub start : Inv link empty newGhost
+  unfolding empty newGhost
   start =
       record {
         ports = λ p. record { tokens = refl; chain = refl };
@@ -92,6 +92,7 @@ module _ (link : ℕ → Bool) where
         unlined = λ l z. (refl, refl);
         fed = λ l. refl;
         unfed = λ m lk z. refl;
+        unsent = λ l z. refl;
         tiles = λ d lk z. refl;
         doors = λ d e z. never (cc);
         used = λ p l z. never (cc);
@@ -108,5 +109,5 @@ module _ (link : ℕ → Bool) where
   faithful n g iv c = faithful-by (n .out) (g .front) g c (g .loc c) (g .now) (g .fate c) refl (iv .circs c)
 
   -- THE THEOREM, over events
-  pub events-3 : (vs : List Event) → OkAll link vs empty → (c : ℕ) → Faithful (booksOf (notes vs blank)) c
-  events-3 vs ok c = faithful (effects vs empty) (notes vs blank) (keeps-all vs empty blank start ok) c
+  pub events-3 : (vs : List Event) → OkAll link vs empty → (c : ℕ) → Faithful (booksOf (notes vs newGhost)) c
+  events-3 vs ok c = faithful (effects vs empty) (notes vs newGhost) (keeps-all vs empty newGhost start ok) c

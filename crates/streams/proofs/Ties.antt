@@ -13,12 +13,13 @@ use Rattle.answers.specs.Rows.{refusal}
 use Rattle.answers.specs.declared.Answer.the-variants as Answers
 use Rattle.answers.proofs.Refusals.{passed}
 use Rattle.cells.specs.World.{World}
-use Rattle.cells.specs.Fresh.{freshWorld}
-use Rattle.bench.specs.Calls.{Call, Fresh, Wire, Set, Aim, Output, Input, Step, Steps, rows, made, apply}
+use Rattle.fresh.specs.Fresh.{startOf}
+use Rattle.fresh.specs.declared.Start.{Start}
+use Rattle.bench.specs.Calls.{Call, Begin, Wire, Set, Aim, Output, Input, Step, Steps, rows, made, apply}
 use Rattle.bench.proofs.Lasts.{call-boards}
 use Rattle.kept.specs.Kept.{Kept}
 use Rattle.streams.specs.Model.{portNo, doorNo, isLink, Cell, Notes, noNotes}
-use Rattle.streams.specs.Events.{Cursor, Ghost, booksOf, notes, blank, next, OkAll}
+use Rattle.streams.specs.Events.{Cursor, Ghost, booksOf, notes, newGhost, next, OkAll}
 use Rattle.streams.specs.Demand.{sentBy, tokensGiven, heldAt, Intact, Ties}
 use Rattle.streams.specs.Observer.{anew, jot}
 use Rattle.streams.specs.View.{moving}
@@ -42,9 +43,9 @@ pub record Tied (w : World) (g : Ghost) (o : Notes) : Type 0 where
   pub heard : (n : ℕ) → n < w .net .nodes → HeardAt w g n
 
 -- AT THE START
-pub tied-fresh : (n : ℕ) → Tied (freshWorld n) blank noNotes
-unfolding blank
-tied-fresh n =
+pub tied-start : (s : Start) (n : ℕ) → Tied (startOf s n) newGhost noNotes
+unfolding newGhost
+tied-start s n =
     record {
       aims = λ m e h aimed. absurd (aimed refl);
       sending = start-sending;
@@ -58,14 +59,14 @@ tied-fresh n =
     never-served : {P : Type 0} (q : ℕ) → Nobody ≡ Port q → P
     never-served q e = never (cc)
 
--- where a Fresh is done
-pub tied-anew : (w : World) (c : Call) → anew w c ≡ true → Tied (apply w c .next) blank noNotes
-tied-anew = anew-case (λ z. Tied z blank noNotes) tied-fresh
+-- where a start is done
+pub tied-anew : (w : World) (c : Call) → anew w c ≡ true → Tied (apply w c .next) newGhost noNotes
+tied-anew = anew-case (λ z. Tied z newGhost noNotes) tied-start
 
 -- EVERY OTHER CALL
 module _ (w : World) (k : Kept w) (g : Ghost) (iv : Inv isLink (moving w) g) (o : Notes) (t : Tied w g o) where
   refused-jots : (c : Call) (r : ℕ) → jot c (Answers.No r) o ≡ o
-  refused-jots (Fresh n) r = refl
+  refused-jots (Begin s n) r = refl
   refused-jots (Wire a l b j) r = refl
   refused-jots (Set a x) r = refl
   refused-jots (Aim a c h v) r = refl

@@ -1,5 +1,5 @@
--- DEMAND 3: what is promised of the books after any run of calls from Fresh, sentence by sentence of the order (`Demand3`), and that the
--- books are the bench's (`Ties`). `bench-3` in proofs/Faithfully.antt is the theorem.
+-- DEMAND 3: what is promised of the books after any run of calls from Fresh or blank, sentence by sentence of the order (`Demand3`), and
+-- that the books are the bench's (`Ties`). `bench-3` in proofs/Faithfully.antt is the theorem.
 use Prim.Native.Nat.{ℕ, zero, suc, _<_}
 use mathlib.Core.Path.{_≡_}
 use mathlib.Core.Bool.{Bool, true}

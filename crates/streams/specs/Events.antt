@@ -38,7 +38,7 @@ pub data Event : Type 0 where
   -- from the port to the place; from the port, forgotten
   Hands : (port : ℕ) → Place → (token : ℕ) → Event
   Loses : (port : ℕ) → Cause → (token : ℕ) → Event
-  -- a cable between two links
+  -- a cable between two links, in use or not
   Wires : (link far : ℕ) → Event
 
 -- THE PROOF'S BOOKS
@@ -437,8 +437,8 @@ empty =
       line = λ l. [];
     }
 
-unfoldable pub blank : Ghost
-blank =
+unfoldable pub newGhost : Ghost
+newGhost =
     record {
       cells = λ p. [];
       on = λ l. [];
@@ -488,7 +488,7 @@ module _ (link : ℕ → Bool) where
   Ok n (Loses p q x) = (r : List ℕ) × (n .queue p ≡ x ∷ r) × (n .out p ≡ Drops q)
   Ok n (Wires l m) =
       (l ≡ m → ⊥) × (link l ≡ true) × (link m ≡ true)
-      × (n .cable l ≡ Nobody) × (n .cable m ≡ Nobody) × (n .user l ≡ Nobody) × (n .user m ≡ Nobody)
+      × (n .cable l ≡ Nobody) × (n .cable m ≡ Nobody)
 
   -- each, after those before it
   abbrev pub OkAll : List Event → Moving → Type 0

@@ -47,7 +47,7 @@ use Rattle.ends.specs.declared.Wanted.the-variants as Wants
 use Rattle.ends.specs.declared.aim.Goal.{Goal}
 use Rattle.ends.specs.declared.aim.Goal.the-variants as Goals
 use Rattle.switch.specs.Step.{portAt}
-use Rattle.bench.specs.Calls.{Call, Fresh, Wire, Set, Aim, Output, Input, Step, Steps, apply}
+use Rattle.bench.specs.Calls.{Call, Begin, Wire, Set, Aim, Output, Input, Step, Steps, apply}
 use Rattle.bench.specs.Writes.{hopClosed}
 use Rattle.streams.specs.Model.{keeps, Place, ToChannel, ToUnit, encode, portNo, doorNo, unitDoor, nodeOfPort, nodeOfDoor, endAt}
 use Rattle.streams.specs.Model.{Lost, Landed, Here, Books, Notes, alter, hd, pop, push, pushAll, cellsOf, marks}
@@ -281,10 +281,10 @@ whenDone (Answers.Dropped x) k old = old
 whenDone Answers.Malformed k old = old
 whenDone Answers.Unheard k old = old
 
--- THE BOOKS AFTER A CALL. A circuit's destination is what the channel-end's latest Aim gave, by the notes (o). A Fresh that is done opens
+-- THE BOOKS AFTER A CALL. A circuit's destination is what the channel-end's latest Aim gave, by the notes (o). A start that is done opens
 -- new books (Watch.antt)
 abbrev pub write : Notes → World → Call → Answer → Books → Books
-write o w (Fresh n) x k = k
+write o w (Begin s n) x k = k
 write o w (Wire a l b j) x k = k
 write o w (Set a y) x k = k
 write o w (Aim a c g v) x k = k
@@ -330,7 +330,7 @@ jotInput e y Answers.Malformed k = k
 jotInput e y Answers.Unheard k = k
 
 abbrev pub jot : Call → Answer → Notes → Notes
-jot (Fresh n) x k = k
+jot (Begin s n) x k = k
 jot (Wire a l b j) x k = k
 jot (Set a y) x k = k
 jot (Aim a c g v) x k = whenDone x (jotAimed (doorNo (a .0) c) (given g) k) k
@@ -339,9 +339,9 @@ jot (Input a c y) x k = jotInput (doorNo (a .0) c) y x k
 jot (Step a p) x k = k
 jot (Steps n xs) x k = k
 
--- NEW BOOKS: after a Fresh that is done; one that is refused changes none
+-- NEW BOOKS: after a start that is done; one that is refused changes none
 abbrev pub renews : Call → Answer → Bool
-renews (Fresh n) x = whenDone x true false
+renews (Begin s n) x = whenDone x true false
 renews (Wire a l b j) x = false
 renews (Set a y) x = false
 renews (Aim a c g v) x = false
@@ -370,7 +370,7 @@ misread w n p =
     && (leb (sizeOf width) (w .net .ports .counters n p .held) && not (sameWidth width (widthAt (w .net) n))))
 
 abbrev pub misreads : World → Call → Bool
-misreads w (Fresh n) = false
+misreads w (Begin s n) = false
 misreads w (Wire a l b j) = false
 misreads w (Set a x) = false
 misreads w (Aim a c g v) = false
@@ -381,7 +381,7 @@ misreads w (Steps n xs) = false
 
 -- the port that a Step is of
 abbrev pub portIn : Call → ℕ
-portIn (Fresh n) = 0
+portIn (Begin s n) = 0
 portIn (Wire a l b j) = 0
 portIn (Set a x) = 0
 portIn (Aim a c g v) = 0

@@ -1,13 +1,13 @@
 -- `bench::fresh` meets its contract. Assumes nothing.
 use borrow.Author.Needs.{needs}
-use Rattle.fresh.specs.Fresh.{fresh}
+use Rattle.fresh.specs.Fresh.{begin}
 use Rattle.bench.specs.Calls.{apply}
 use Rattle.bench.proofs.fresh.Statement.{statement}
 use Rattle.bench.proofs.fresh.Tie as tie
 
 returns : tie.Need-returns
-unfolding apply fresh
-returns c = c .before .before .before .before .fresh .ensures
+unfolding apply begin
+returns c = c .before .before .before .before .begin .ensures
 
 pub fresh-spec : {M : Type 1} → statement M
 fresh-spec = tie.close (tie.spec (λ c κs. search needs) (λ c. search needs) (λ c. search needs) returns)

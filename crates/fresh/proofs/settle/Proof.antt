@@ -5,21 +5,21 @@ use native.Mathlib.Omega.{arith}
 use lib.ListN.{length}
 use borrow.Author.Needs.{needs}
 use Rattle.cells.specs.View.{view}
-use Rattle.cells.specs.Fresh.{freshTo}
-use Rattle.fresh.proofs.Settled.{settle-next, settle-all}
+use Rattle.cells.specs.Start.{startTo, noneOn}
+use Rattle.fresh.proofs.Settled.{settle-next, past-last}
 use Rattle.fresh.proofs.settle.Statement.{statement}
 use Rattle.fresh.proofs.settle.Tie as tie
 
 abbrev Inv-loop : tie.InvT-loop
 Inv-loop st₀ n₀ n-end st n =
-    (n-end ≡ view st₀ .nodes) × (n ≤ n-end) × (view st ≡ freshTo n n-end) × (length st ≡ length st₀)
+    (n-end ≡ view st₀ .nodes) × (n ≤ n-end) × (view st ≡ startTo n noneOn n-end) × (length st ≡ length st₀)
 
 abbrev μ-loop : tie.MeasureT-loop
 μ-loop st₀ n₀ n-end st n = n-end - n
 
 loop-holds : tie.Need-loop-holds Inv-loop μ-loop
 loop-holds c =
-    (c .count .ensures, zero-le, c .before .before .before .pre ∙ ap (freshTo 0) (sym (c .count .ensures)), refl)
+    (c .count .ensures, zero-le, c .before .before .before .pre ∙ ap (startTo 0 noneOn) (sym (c .count .ensures)), refl)
 
 put-requires : tie.Need-put-requires Inv-loop μ-loop
 put-requires c κs = rw (c .before .before .before .loop .inv .2) (omega arith)
@@ -40,7 +40,7 @@ same-length : tie.Need-same-length Inv-loop μ-loop
 same-length c = c .before .loop .inv .3
 
 returns : tie.Need-returns Inv-loop μ-loop
-returns c = let l = c .before .loop in settle-all _ _ _ _ (l .inv .0) (l .inv .1) (omega arith) (l .inv .2)
+returns c = let l = c .before .loop in past-last (λ k e. startTo k noneOn e) _ _ _ _ (l .inv .0) (l .inv .1) (omega arith) (l .inv .2)
 
 pub settle-spec : {M : Type 1} → statement M
 settle-spec =

@@ -1,6 +1,6 @@
--- The state that Fresh gives is sound, tight and quiet, for every number of nodes. Assumes nothing.
+-- A start with any set of links enabled is sound, tight and quiet, for every number of nodes: Fresh is one, blank another. Assumes nothing.
 use Prim.Native.Nat.{ℕ, _*_, _/_, _≤_, _<_}
-use mathlib.Core.Bool.{true, not, or-true}
+use mathlib.Core.Bool.{Bool, true, not, or-true}
 use mathlib.Core.List.{[]}
 use mathlib.Core.Path.{_≡_, refl, ap, _∙_}
 use native.Mathlib.Omega.{arith}
@@ -9,12 +9,13 @@ use lib.ListN.{length, length-replicate}
 use borrow.Author.Tests.{lt-ltb, le-leb, eq-eqb}
 use Rattle.laws.specs.All.{all}
 use Rattle.laws.proofs.All.{each-place, as-is}
+use Rattle.laws.proofs.Order.{by-test}
 use Rattle.names.specs.Size.{nodes, ports, replyPort}
 use Rattle.ports.specs.Queue.{capacity}
 use Rattle.ports.specs.Ring.{ring}
 use Rattle.grammar.specs.declared.stage.Stage.the-variants.{Fresh}
 use Rattle.cells.specs.World.{shaped}
-use Rattle.cells.specs.Fresh.{freshNet, freshWorld}
+use Rattle.cells.specs.Start.{startNet, startWorld}
 use Rattle.cells.specs.Records.{toPort}
 use Rattle.clauses.specs.Counts.{portCounts, tilePort}
 use Rattle.clauses.specs.Contents.{back}
@@ -33,12 +34,12 @@ use Rattle.sound.specs.declared.questions.Question.{Question}
 use Rattle.sound.specs.declared.questions.Question.the-variants.{Tied, Sends, Replied, QuietPort, QuietEnd}
 use Rattle.sound.proofs.Sounds.{sound-from}
 
-module _ (n : ℕ) (some : 1 ≤ n) (few : n ≤ nodes) where
-  memory-nodes : length (freshWorld n .memory) / (ports * capacity) ≡ n
+module _ (on : ℕ → ℕ → Bool) (n : ℕ) (some : 1 ≤ n) (few : n ≤ nodes) where
+  memory-nodes : length (startWorld on n .memory) / (ports * capacity) ≡ n
   memory-nodes = ap (λ (l : ℕ). l / (ports * capacity)) (length-replicate (n * (ports * capacity)) 0) ∙ omega arith
 
   -- an empty port ends where it begins
-  empty-back : (m p : ℕ) → m < n → p < ports → back (freshWorld n) m p ≡ Fresh
+  empty-back : (m p : ℕ) → m < n → p < ports → back (startWorld on n) m p ≡ Fresh
   unfolding ring
   empty-back m p h g = rw (memory-nodes, lt-ltb m n h, lt-ltb p ports g)
 
@@ -47,7 +48,7 @@ module _ (n : ℕ) (some : 1 ≤ n) (few : n ≤ nodes) where
   zero-port i = rw (or-true (not (tilePort i)))
 
   -- every record names nobody
-  names-nobody : (r : Role) (m i : ℕ) → namedBy r (freshNet n) m i ≡ Nothing
+  names-nobody : (r : Role) (m i : ℕ) → namedBy r (startNet on n) m i ≡ Nothing
   names-nobody PortLink m i = refl
   names-nobody LinkPort m i = refl
   names-nobody PortTile m i = refl
@@ -61,49 +62,49 @@ module _ (n : ℕ) (some : 1 ≤ n) (few : n ≤ nodes) where
   names-nobody EndPort m i = refl
   names-nobody PortEnd m i = refl
 
-  -- the all-zero records pass every test
-  zeros-pass : (t : Test) (m i : ℕ) → m < n → i < places t → holdsAt t (freshWorld n) m i ≡ true
+  -- the records of a start pass every test
+  start-passes : (t : Test) (m i : ℕ) → m < n → i < places t → holdsAt t (startWorld on n) m i ≡ true
   unfolding all
-  zeros-pass Nodes m i h g = rw (lt-ltb m n h)
-  zeros-pass Links m i h g = refl
-  zeros-pass Ports m i h g = zero-port i
-  zeros-pass Tiles m i h g = refl
-  zeros-pass Ends m i h g = refl
-  zeros-pass Units m i h g = refl
-  zeros-pass Credited m i h g = refl
-  zeros-pass Greeted m i h g = refl
-  zeros-pass Room m i h g = refl
-  zeros-pass Cable m i h g = refl
-  zeros-pass Contents m i h g = rw (empty-back m i h g)
-  zeros-pass Held m i h g = refl
-  zeros-pass (Agrees r) m i h g = rw (names-nobody r m i)
-  zeros-pass OpenEnd m i h g = refl
-  zeros-pass Silent m i h g = refl
-  zeros-pass Heard m i h g = refl
+  start-passes Nodes m i h g = rw (lt-ltb m n h)
+  start-passes Links m i h g = by-test (on m i) (λ e. rw e) (λ e. rw e)
+  start-passes Ports m i h g = zero-port i
+  start-passes Tiles m i h g = refl
+  start-passes Ends m i h g = refl
+  start-passes Units m i h g = refl
+  start-passes Credited m i h g = refl
+  start-passes Greeted m i h g = refl
+  start-passes Room m i h g = refl
+  start-passes Cable m i h g = refl
+  start-passes Contents m i h g = rw (empty-back m i h g)
+  start-passes Held m i h g = refl
+  start-passes (Agrees r) m i h g = rw (names-nobody r m i)
+  start-passes OpenEnd m i h g = refl
+  start-passes Silent m i h g = refl
+  start-passes Heard m i h g = refl
 
-  pub fresh-shaped : shaped (freshWorld n) ≡ true
+  pub start-shaped : shaped (startWorld on n) ≡ true
   unfolding shaped
-  fresh-shaped =
+  start-shaped =
       let words = n * (ports * capacity) in
-      rw (le-leb 1 n some, le-leb n nodes few, eq-eqb (length (freshWorld n .memory)) words (length-replicate words 0))
+      rw (le-leb 1 n some, le-leb n nodes few, eq-eqb (length (startWorld on n .memory)) words (length-replicate words 0))
 
-  pub fresh-sound : sound (freshWorld n) ≡ true
-  fresh-sound = sound-from (freshWorld n) fresh-shaped zeros-pass
+  pub start-sound : sound (startWorld on n) ≡ true
+  start-sound = sound-from (startWorld on n) start-shaped start-passes
 
-  -- a question that the all-zero records answer with yes
-  passes : (q : Question) → ((m i : ℕ) → m < n → i < placesOf q → answerAt q (freshWorld n) m i ≡ true)
-      → everywhere q (freshWorld n) ≡ true
+  -- a question that the records of a start answer with yes
+  passes : (q : Question) → ((m i : ℕ) → m < n → i < placesOf q → answerAt q (startWorld on n) m i ≡ true)
+      → everywhere q (startWorld on n) ≡ true
   unfolding everywhere
   passes q h =
-      each-place {P = λ m i. answerAt q (freshWorld n) m i ≡ true} n (placesOf q) (answerAt q (freshWorld n)) (λ m i. as-is _) .back h
+      each-place {P = λ m i. answerAt q (startWorld on n) m i ≡ true} n (placesOf q) (answerAt q (startWorld on n)) (λ m i. as-is _) .back h
 
-  pub fresh-tight : tight (freshWorld n) ≡ true
+  pub start-tight : tight (startWorld on n) ≡ true
   unfolding tight
-  fresh-tight =
-      let linked = passes Tied (λ m i h g. rw (empty-back m i h (omega arith))) in
+  start-tight =
+      let linked = passes Tied (λ m i h g. by-test (on m i) (λ e. rw (empty-back m i h (omega arith), e)) (λ e. rw (empty-back m i h (omega arith), e))) in
       let replies = passes Replied (λ m i h g. rw (empty-back m replyPort h (lit≤ tt))) in
       rw (linked, passes Sends (λ m i h g. refl), replies)
 
-  pub fresh-quiet : quiet (freshWorld n) ≡ true
+  pub start-quiet : quiet (startWorld on n) ≡ true
   unfolding quiet
-  fresh-quiet = rw (passes QuietPort (λ m i h g. refl), passes QuietEnd (λ m i h g. refl))
+  start-quiet = rw (passes QuietPort (λ m i h g. refl), passes QuietEnd (λ m i h g. refl))
