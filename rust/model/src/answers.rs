@@ -84,7 +84,7 @@ pub enum Opening {
 pub enum Answer {
     /// Refused: nothing is changed.
     No(No),
-    /// Fresh, Wire, Set (but HELLO), Aim and Output.
+    /// Fresh, blank, Wire, Set (but HELLO), Aim and Output.
     Done,
     /// "The answer to HELLO gives the grant."
     Granted(usize),

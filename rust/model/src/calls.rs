@@ -1,7 +1,7 @@
 //! The calls, and the door through which each is made.
 
 use crate::answers::{Answer, No};
-use crate::network::{memory_words, Aim, LinkEnd, Network};
+use crate::network::{memory_words, Aim, LinkEnd, Network, Start};
 use crate::output;
 use crate::set::{self, Setting};
 use crate::sizes::{HIGHEST_NETWORK, HIGHEST_NUMBER, MOST_NODES};
@@ -21,6 +21,10 @@ pub struct StepRecord {
 #[derive(Clone, Debug, PartialEq, Eq)]
 pub enum Call {
     Fresh {
+        nodes: usize,
+        memory_words: usize,
+    },
+    Blank {
         nodes: usize,
         memory_words: usize,
     },
@@ -67,19 +71,48 @@ impl From<StepRecord> for Call {
     }
 }
 
+impl Call {
+    /// The call that begins a network so.
+    pub fn beginning(start: Start, nodes: usize, memory_words: usize) -> Call {
+        match start {
+            Start::Fresh => Call::Fresh {
+                nodes,
+                memory_words,
+            },
+            Start::Blank => Call::Blank {
+                nodes,
+                memory_words,
+            },
+        }
+    }
+
+    /// How the call begins a network, if it is one that does.
+    pub fn start(&self) -> Option<Start> {
+        match self {
+            Call::Fresh { .. } => Some(Start::Fresh),
+            Call::Blank { .. } => Some(Start::Blank),
+            _ => None,
+        }
+    }
+}
+
 /// Makes a call. A refused call changes nothing.
 pub fn apply(network: &mut Option<Network>, call: &Call) -> Answer {
     make(network, call).unwrap_or_else(Answer::No)
 }
 
-/// Every call but Fresh and a list of steps looks first at whether the state is
-/// sound.
+/// Every call but the two starts and a list of steps looks first at whether the
+/// state is sound.
 fn make(state: &mut Option<Network>, call: &Call) -> Result<Answer, No> {
     match *call {
         Call::Fresh {
             nodes,
             memory_words,
-        } => fresh(state, nodes, memory_words),
+        } => start(state, Start::Fresh, nodes, memory_words),
+        Call::Blank {
+            nodes,
+            memory_words,
+        } => start(state, Start::Blank, nodes, memory_words),
         Call::Wire { one, other } => wire(sound_network(state)?, one, other),
         Call::Set { slot, setting } => set::set(sound_network(state)?, slot, setting),
         Call::Aim {
@@ -114,7 +147,7 @@ fn make(state: &mut Option<Network>, call: &Call) -> Result<Answer, No> {
 }
 
 /// Unsound: "memory of the wrong length, or (not Fresh) state that fails the list".
-/// Before the first Fresh that succeeds there is no network, and that is Unsound
+/// Before the first start that succeeds there is no network, and that is Unsound
 /// too.
 fn sound_network(state: &mut Option<Network>) -> Result<&mut Network, No> {
     let network = state.as_mut().ok_or(No::Unsound)?;
@@ -127,26 +160,33 @@ fn sound_network(state: &mut Option<Network>) -> Result<&mut Network, No> {
 
 /// "Fresh: all nodes number 0, width three, directions 0, links unwired, disabled,
 /// network 0; channel-ends unaimed; every token word 0. A node count outside 1..16
-/// is NoSuch at any memory length."
-fn fresh(network: &mut Option<Network>, nodes: usize, words: usize) -> Result<Answer, No> {
+/// is NoSuch at any memory length." Both starts do that, and [`Start`] says in what
+/// they differ.
+fn start(
+    network: &mut Option<Network>,
+    start: Start,
+    nodes: usize,
+    words: usize,
+) -> Result<Answer, No> {
     if !(1..=MOST_NODES).contains(&nodes) {
         return Err(No::NoSuch);
     }
     if memory_words(nodes) != Some(words) {
         return Err(No::Unsound);
     }
-    *network = Some(Network::fresh(nodes, words));
+    *network = Some(Network::at(start, nodes, words));
     Ok(Answer::Done)
 }
 
-/// "Wire: join two different link ends, both unwired and disabled." Value is "a
-/// link joined to itself", Busy is "Wire on a wired or enabled end".
+/// "Wire: join two different link ends". Value is "a link joined to itself". "Wire is
+/// Busy only for a wired end, no longer for an enabled one" (document 02, Ask 7):
+/// whether an end is enabled or in use is not looked at. It greets nobody.
 fn wire(network: &mut Network, one: LinkEnd, other: LinkEnd) -> Result<Answer, No> {
     let ends = [network.link(one)?, network.link(other)?];
     if one == other {
         return Err(No::Value);
     }
-    if ends.iter().any(|end| end.far.is_some() || end.enabled) {
+    if ends.iter().any(|end| end.far.is_some()) {
         return Err(No::Busy);
     }
     network.link_mut(one).far = Some(other);

@@ -1,6 +1,7 @@
 //! An independent reference model of the bench of document 01, "Full scope and
 //! exact rules": a network of 1 to 16 XS1-L nodes, their links, circuits,
-//! credits and switch messages; with the list of steps of document 02, Ask 1.
+//! credits and switch messages; with the list of steps and the two starts of
+//! document 02, Asks 1 and 7.
 //!
 //! It is written from the documents alone, to be run beside another
 //! implementation. It aims at being easy to compare with the text: each function

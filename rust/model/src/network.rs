@@ -6,14 +6,41 @@
 //! illegal tokens.
 
 use std::collections::VecDeque;
+use std::ops::Range;
 
 use crate::answers::{Cause, No};
-use crate::sizes::{BITS, CHANNEL_ENDS, LINKS, PORTS, PORT_CAPACITY, TILE_LINKS, TILE_PORTS};
+use crate::sizes::{
+    BITS, BOOT_LINKS, CHANNEL_ENDS, LINKS, PORTS, PORT_CAPACITY, TILE_LINKS, TILE_PORTS,
+};
 use crate::tokens::{Destination, Token, SINK, THREE_BYTES};
 
 /// "nodes × 13 ports × 64 words of 16 bits, exactly"
 pub fn memory_words(nodes: usize) -> Option<usize> {
     nodes.checked_mul(PORTS * PORT_CAPACITY)
+}
+
+/// How a network begins: "Document 000 section 3.2.2 has links E to H enabled after
+/// start; Fresh should too. The old start stays under its own name" (document 02,
+/// Ask 7).
+#[derive(Clone, Copy, Debug, PartialEq, Eq)]
+pub enum Start {
+    /// As the boot ROM leaves it.
+    Fresh,
+    /// The old start.
+    Blank,
+}
+
+impl Start {
+    pub const ALL: [Start; 2] = [Start::Fresh, Start::Blank];
+
+    /// The links of every node that it leaves enabled. In nothing else do the two
+    /// differ: no HELLO is sent.
+    pub fn enabled(self) -> Range<usize> {
+        match self {
+            Start::Fresh => BOOT_LINKS,
+            Start::Blank => 0..0,
+        }
+    }
 }
 
 /// The whole state.
@@ -149,13 +176,17 @@ pub struct ControlUnit {
 
 impl Node {
     /// "all nodes number 0, width three, directions 0, links unwired, disabled,
-    /// network 0; channel-ends unaimed"
-    pub fn fresh() -> Node {
+    /// network 0; channel-ends unaimed", but for the links that the start leaves
+    /// enabled.
+    fn at(start: Start) -> Node {
         Node {
             number: 0,
             width: THREE_BYTES,
             directions: [0; BITS],
-            links: Default::default(),
+            links: std::array::from_fn(|link| Link {
+                enabled: start.enabled().contains(&link),
+                ..Link::default()
+            }),
             tile_links: [None; TILE_LINKS],
             ports: Default::default(),
             channel_ends: Default::default(),
@@ -201,12 +232,22 @@ impl Node {
 }
 
 impl Network {
-    /// A network as Fresh leaves it.
-    pub fn fresh(nodes: usize, memory_words: usize) -> Network {
+    /// A network as a start leaves it.
+    pub fn at(start: Start, nodes: usize, memory_words: usize) -> Network {
         Network {
-            nodes: (0..nodes).map(|_| Node::fresh()).collect(),
+            nodes: (0..nodes).map(|_| Node::at(start)).collect(),
             memory_words,
         }
+    }
+
+    /// A network as Fresh leaves it.
+    pub fn fresh(nodes: usize, memory_words: usize) -> Network {
+        Network::at(Start::Fresh, nodes, memory_words)
+    }
+
+    /// A network as the old start leaves it.
+    pub fn blank(nodes: usize, memory_words: usize) -> Network {
+        Network::at(Start::Blank, nodes, memory_words)
     }
 
     /// The node of a slot, or NoSuch.

@@ -60,6 +60,10 @@ impl fmt::Display for Call {
                 nodes,
                 memory_words,
             } => write!(f, "fresh {nodes} {memory_words}"),
+            Call::Blank {
+                nodes,
+                memory_words,
+            } => write!(f, "blank {nodes} {memory_words}"),
             Call::Wire { one, other } => write!(f, "wire {one} {other}"),
             Call::Set { slot, setting } => write!(f, "set {slot} {setting}"),
             Call::Aim {

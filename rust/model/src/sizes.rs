@@ -6,6 +6,8 @@ use std::ops::Range;
 pub const MOST_NODES: usize = 16;
 /// Links A..H are ports 0..7.
 pub const LINKS: usize = 8;
+/// "links E to H", which the boot ROM leaves enabled (document 02, Ask 7).
+pub const BOOT_LINKS: Range<usize> = 4..LINKS;
 /// "four from the switch to the tile"
 pub const TILE_LINKS: usize = 4;
 /// "four links from the tile to the switch (ports 8..11)"

@@ -5,22 +5,20 @@ use std::str::SplitWhitespace;
 
 use crate::answers::{Answer, Cause, No, Opening};
 use crate::calls::{Call, StepRecord};
-use crate::network::LinkEnd;
+use crate::network::{LinkEnd, Start};
 use crate::script::Outcome;
 use crate::set::Setting;
 use crate::sizes::LINKS;
 use crate::tokens::{Destination, Kind};
 
-const CALLS: &str = "fresh, wire, set, aim, output, input, step or steps";
+const CALLS: &str = "fresh, blank, wire, set, aim, output, input, step or steps";
 
 /// Reads a call.
 pub fn parse_call(text: &str) -> Result<Call, String> {
     let mut words = Words(text.split_whitespace());
     let call = match words.word(CALLS)? {
-        "fresh" => Call::Fresh {
-            nodes: words.number("a number of nodes")?,
-            memory_words: words.number("a number of memory words")?,
-        },
+        "fresh" => words.beginning(Start::Fresh)?,
+        "blank" => words.beginning(Start::Blank)?,
         "wire" => Call::Wire {
             one: words.link_end()?,
             other: words.link_end()?,
@@ -171,6 +169,13 @@ impl<'a> Words<'a> {
     fn nought(&mut self, where_: &str) -> Result<(), String> {
         let what = format!("0 as {where_}");
         self.one_of(&what, |number: u64| (number == 0).then_some(()))
+    }
+
+    /// `NODES WORDS`, "with the same words" for both starts.
+    fn beginning(&mut self, start: Start) -> Result<Call, String> {
+        let nodes = self.number("a number of nodes")?;
+        let memory_words = self.number("a number of memory words")?;
+        Ok(Call::beginning(start, nodes, memory_words))
     }
 
     fn slot(&mut self) -> Result<usize, String> {

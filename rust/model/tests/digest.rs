@@ -22,24 +22,33 @@ fn no_network_is_zero() {
     assert_eq!(digest(None), 0);
 }
 
-#[test]
-fn bytes_of_a_fresh_network() {
+/// A node of which only these links are enabled.
+fn bytes_of_a_started_node(enabled: [u8; 8]) -> Vec<u8> {
     let mut node = vec![0, 0, 3];
     node.extend([0; 16]);
-    for _ in 0..8 {
-        node.extend([0, 0, 0, 0, 0, 0, 0, 0, 255]);
+    for enabled in enabled {
+        node.extend([0, 0, 0, enabled, 0, 0, 0, 0, 255]);
     }
     node.extend([255; 4]);
     node.extend([0; 13 * 4]);
     node.extend([0; 32 * 10]);
     node.push(255);
     assert_eq!(node.len(), NODE);
-    let mut expected = vec![2];
-    expected.extend(&node);
-    expected.extend(&node);
-    let bench = Bench::fresh(2);
-    assert_eq!(bytes(bench.state()), expected);
-    assert_eq!(digest(bench.network.as_ref()), fnv1a(&expected));
+    node
+}
+
+/// "Ask 7's start shows in the enabled flags."
+#[test]
+fn bytes_of_both_starts() {
+    for (bench, enabled) in [
+        (Bench::fresh(2), [0, 0, 0, 0, 1, 1, 1, 1]),
+        (Bench::blank(2), [0; 8]),
+    ] {
+        let node = bytes_of_a_started_node(enabled);
+        let expected = [&[2][..], &node, &node].concat();
+        assert_eq!(bytes(bench.state()), expected);
+        assert_eq!(digest(bench.network.as_ref()), fnv1a(&expected));
+    }
 }
 
 /// Settings, cables and credits at their places.

@@ -108,7 +108,7 @@ fn write_and_read_directions() {
 fn link_directions_and_networks() {
     let order = [2, 3, 0, 1, 6, 7, 4, 5];
     for (place, link) in order.into_iter().enumerate() {
-        let mut bench = Bench::line(2);
+        let mut bench = Bench::blank_line(2);
         let address = 0x20 + place as u32;
         if link == 0 {
             // The link that the reply needs: its network is Busy, its direction not.
@@ -131,7 +131,7 @@ fn link_directions_and_networks() {
 fn link_enables_in_the_same_order() {
     let order = [2, 3, 0, 1, 6, 7, 4, 5];
     for (place, link) in order.into_iter().enumerate() {
-        let mut bench = Bench::line(2);
+        let mut bench = Bench::blank_line(2);
         if link == 0 {
             continue;
         }

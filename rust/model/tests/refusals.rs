@@ -31,44 +31,47 @@ fn numbers_and_names() {
     assert_eq!(No::from_number(13), None);
 }
 
-// Fresh.
+// Fresh and blank.
+
+/// Both starts, with the same arguments, refusals and order.
+const STARTS: [&str; 2] = ["fresh", "blank"];
 
 #[test]
-fn fresh_count_goes_before_memory() {
-    let mut bench = Bench::empty();
-    bench.play(
-        "fresh 0 0 -> no 2
-         fresh 0 832 -> no 2
-         fresh 17 14144 -> no 2
-         fresh 17 0 -> no 2
-         fresh 18446744073709551615 18446744073709551615 -> no 2
-         fresh 1 0 -> no 1
-         fresh 1 831 -> no 1
-         fresh 1 833 -> no 1
-         fresh 16 13311 -> no 1
-         fresh 16 13313 -> no 1
-         fresh 2 832 -> no 1
-         fresh 1 18446744073709551615 -> no 1",
-    );
-    assert!(bench.network.is_none());
-    bench.play(
-        "fresh 1 832 -> done
-         fresh 16 13312 -> done",
-    );
+fn count_goes_before_memory() {
+    for start in STARTS {
+        let mut bench = Bench::empty();
+        let refused = "
+            START 0 0 -> no 2
+            START 0 832 -> no 2
+            START 17 14144 -> no 2
+            START 17 0 -> no 2
+            START 18446744073709551615 18446744073709551615 -> no 2
+            START 1 0 -> no 1
+            START 1 831 -> no 1
+            START 1 833 -> no 1
+            START 16 13311 -> no 1
+            START 16 13313 -> no 1
+            START 2 832 -> no 1
+            START 1 18446744073709551615 -> no 1";
+        bench.play(&refused.replace("START", start));
+        assert!(bench.network.is_none());
+        bench.expect(&format!("{start} 1 832"), "done");
+        bench.expect(&format!("{start} 16 13312"), "done");
+    }
 }
 
 #[test]
-fn refused_fresh_keeps_the_network() {
-    let mut bench = Bench::line(2);
-    bench.play(
-        "fresh 0 0 -> no 2
-         fresh 2 0 -> no 1",
-    );
-    assert_eq!(bench.state().nodes.len(), 2);
-    assert!(bench.link(0, 1).greeted);
-    bench.play("fresh 3 2496 -> done");
-    assert_eq!(bench.state().nodes.len(), 3);
-    assert!(!bench.link(0, 1).enabled);
+fn a_refused_start_keeps_the_network() {
+    for start in STARTS {
+        let mut bench = Bench::line(2);
+        bench.expect(&format!("{start} 0 0"), "no 2");
+        bench.expect(&format!("{start} 2 0"), "no 1");
+        assert_eq!(bench.state().nodes.len(), 2);
+        assert!(bench.link(0, 1).greeted);
+        bench.expect(&format!("{start} 3 2496"), "done");
+        assert_eq!(bench.state().nodes.len(), 3);
+        assert!(!bench.link(0, 1).enabled);
+    }
 }
 
 #[test]
@@ -121,12 +124,14 @@ fn unsound_goes_first() {
     }
 }
 
-/// Fresh does not look at the old state.
+/// A start does not look at the old state.
 #[test]
-fn fresh_on_an_unsound_state() {
-    let mut bench = Bench::line(2);
-    bench.state_mut().nodes[0].links[5].credit = 1;
-    bench.play("fresh 2 1664 -> done");
+fn a_start_on_an_unsound_state() {
+    for start in STARTS {
+        let mut bench = Bench::line(2);
+        bench.state_mut().nodes[0].links[5].credit = 1;
+        bench.expect(&format!("{start} 2 1664"), "done");
+    }
 }
 
 // Wire.
@@ -158,19 +163,37 @@ fn wire_value_is_a_link_joined_to_itself() {
 }
 
 #[test]
-fn wire_busy_on_a_wired_or_enabled_end() {
+fn wire_busy_on_a_wired_end() {
     let mut bench = Bench::fresh(3);
     bench.play(
         "wire 0 0 1 0 -> done
          wire 0 0 2 0 -> no 4
          wire 2 0 1 0 -> no 4
-         wire 0 0 1 0 -> no 4
-         set 0 enable 1 1
-         wire 0 1 2 0 -> no 4
-         wire 2 0 0 1 -> no 4
-         set 0 enable 1 0
-         wire 0 1 2 0 -> done",
+         wire 0 0 1 0 -> no 4",
     );
+}
+
+/// "no longer for an enabled one": one end enabled, the other, both, or none.
+#[test]
+fn wire_does_not_look_at_enables() {
+    for start in ["fresh", "blank"] {
+        for enabled in [[0, 0], [0, 1], [1, 0], [1, 1]] {
+            for link in 0..8 {
+                let [near, far] = enabled;
+                let mut bench = Bench::begun(start, 2);
+                bench.play(&format!(
+                    "set 0 enable {link} {near} -> done
+                     set 1 enable 2 {far} -> done
+                     wire 0 {link} 1 2 -> done
+                     wire 0 {link} 1 3 -> no 4
+                     wire 1 3 1 2 -> no 4"
+                ));
+                let ends = [bench.link(0, link), bench.link(1, 2)];
+                assert_eq!(ends.map(|end| u32::from(end.enabled)), enabled);
+                assert!(ends.iter().all(|end| !end.greeted && end.credit == 0));
+            }
+        }
+    }
 }
 
 // Set.
@@ -199,7 +222,7 @@ fn set_no_such_goes_before_value() {
 
 #[test]
 fn set_value_limits() {
-    let mut bench = Bench::fresh(1);
+    let mut bench = Bench::blank(1);
     bench.play(
         "set 0 number 0 65535 -> done
          set 0 number 0 65536 -> no 3
@@ -687,8 +710,9 @@ fn step_no_such() {
 // All of them.
 
 /// Calls with places and values left open.
-const FORMS: [&str; 14] = [
+const FORMS: [&str; 15] = [
     "fresh A B",
+    "blank A B",
     "wire A B C B",
     "set A number 0 C",
     "set A width 0 C",

@@ -30,6 +30,13 @@ fn calls_in_words() {
         },
     );
     reads(
+        "blank 2 1664",
+        Call::Blank {
+            nodes: 2,
+            memory_words: 1664,
+        },
+    );
+    reads(
         "wire 0 1 2 3",
         Call::Wire {
             one: LinkEnd { slot: 0, link: 1 },
@@ -259,20 +266,25 @@ fn differing_lines_are_named() {
     assert!(matches!(fault, Fault::Differs { line: 4, .. }), "{fault}");
 }
 
-/// Before a Fresh that succeeds the digest is 0.
+/// Before a start that succeeds the digest is 0.
 #[test]
 fn no_network_yet() {
-    let text = run("step 0 0\nfresh 0 0\nfresh 1 0\n").expect("a run");
+    let text = run("step 0 0\nfresh 0 0\nfresh 1 0\nblank 17 0\nblank 1 0\n").expect("a run");
     let expected = "step 0 0 -> no 1 # 0000000000000000\n\
                     fresh 0 0 -> no 2 # 0000000000000000\n\
-                    fresh 1 0 -> no 1 # 0000000000000000\n";
+                    fresh 1 0 -> no 1 # 0000000000000000\n\
+                    blank 17 0 -> no 2 # 0000000000000000\n\
+                    blank 1 0 -> no 1 # 0000000000000000\n";
     assert_eq!(text, expected);
 }
 
 /// Lines that are no call, and what was expected.
 #[rustfmt::skip]
-const UNREADABLE_CALLS: [(&str, &str); 29] = [
-    ("jump 0 0", "expected fresh, wire, set, aim, output, input, step or steps, found jump"),
+const UNREADABLE_CALLS: [(&str, &str); 32] = [
+    ("jump 0 0", "expected fresh, blank, wire, set, aim, output, input, step or steps, found jump"),
+    ("blank", "expected a number of nodes, found nothing"),
+    ("blank 1", "expected a number of memory words, found nothing"),
+    ("blank 1 832 0", "expected no more words, found 0"),
     ("steps", "expected a number of results, found nothing"),
     ("steps -1", "expected a number of results, found -1"),
     ("steps 18446744073709551616", "expected a number of results, found 18446744073709551616"),

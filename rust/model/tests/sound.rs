@@ -1,6 +1,6 @@
 //! The list "Sound": one disturbed state for each thing a clause says, which fails
-//! that clause and no other, while its undisturbed twin passes; and runs from Fresh,
-//! which stay sound.
+//! that clause and no other, while its undisturbed twin passes; and runs from either
+//! start, which stay sound.
 
 mod common;
 
@@ -102,10 +102,10 @@ const END: u8 = 1;
 const PAUSE: u8 = 2;
 
 #[test]
-fn fresh_is_sound() {
+fn both_starts_are_sound() {
     for nodes in 1..=16 {
-        let bench = Bench::fresh(nodes);
-        assert_eq!(failing(bench.state()), []);
+        assert_eq!(failing(Bench::fresh(nodes).state()), []);
+        assert_eq!(failing(Bench::blank(nodes).state()), []);
     }
 }
 
@@ -602,7 +602,7 @@ fn unread_things_are_not_looked_at() {
 
 // Runs.
 
-/// 320 random runs: the state is sound after every call, no call but Fresh is ever
+/// 320 random runs: the state is sound after every call, no call but a start is ever
 /// Unsound, and what is refused, waits or is idle leaves the digest as it was.
 #[test]
 fn random_runs_stay_sound() {
@@ -616,8 +616,8 @@ fn random_runs_stay_sound() {
                 assert!(failing.is_empty(), "seed {seed}: {call} left {failing:?}");
             }
             let unsound = found.answer.to_string() == "no 1";
-            let fresh = matches!(call, Call::Fresh { .. });
-            assert!(fresh || !unsound, "seed {seed}: {call}");
+            let starts = call.start().is_some();
+            assert!(starts || !unsound, "seed {seed}: {call}");
             if matches!(found.answer, Answer::No(_) | Answer::Waiting | Answer::Idle) {
                 assert_eq!(found.digest, digest, "seed {seed}: {call}");
             }

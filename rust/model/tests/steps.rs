@@ -247,7 +247,6 @@ fn cabling_is_not_looked_at() {
          step 0 8 -> opened link 0
          step 0 8 -> waiting
          set 0 enable 0 0 -> no 4
-         wire 0 0 1 0 -> no 4
          set 0 hello 0 0 -> granted 0
          step 0 8 -> waiting
          wire 0 1 1 1

@@ -194,7 +194,7 @@ impl Shadow {
     fn follow(&mut self, before: Option<&Network>, call: Call, answer: Answer, after: &Network) {
         match (before, call, answer) {
             (_, _, Answer::No(_) | Answer::Idle) => {}
-            (_, Call::Fresh { .. }, _) => self.start_anew(),
+            (_, call, _) if call.start().is_some() => self.start_anew(),
             (
                 Some(before),
                 Call::Output {

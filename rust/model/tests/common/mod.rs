@@ -24,15 +24,36 @@ impl Bench {
 
     /// A fresh network.
     pub fn fresh(nodes: usize) -> Bench {
+        Bench::begun("fresh", nodes)
+    }
+
+    /// A network with every link disabled.
+    pub fn blank(nodes: usize) -> Bench {
+        Bench::begun("blank", nodes)
+    }
+
+    /// A network begun by that word.
+    pub fn begun(start: &str, nodes: usize) -> Bench {
         let mut bench = Bench::empty();
-        bench.expect(&format!("fresh {nodes} {}", nodes * 13 * 64), "done");
+        bench.expect(&format!("{start} {nodes} {}", nodes * 13 * 64), "done");
         bench
     }
 
-    /// Boards in a line, numbered by slot, link 1 of each joined to link 0 of the
-    /// next, all enabled and greeted. Direction 2 is up the line, 1 is down.
+    /// Boards of a fresh network in a line.
     pub fn line(nodes: usize) -> Bench {
-        let mut bench = Bench::fresh(nodes);
+        Bench::fresh(nodes).in_line()
+    }
+
+    /// The same with every link disabled that has no cable.
+    pub fn blank_line(nodes: usize) -> Bench {
+        Bench::blank(nodes).in_line()
+    }
+
+    /// The boards in a line, numbered by slot, link 1 of each joined to link 0 of the
+    /// next, all enabled and greeted. Direction 2 is up the line, 1 is down.
+    fn in_line(self) -> Bench {
+        let mut bench = self;
+        let nodes = bench.state().nodes.len();
         for slot in 0..nodes {
             bench.play(&format!(
                 "set {slot} number 0 {slot}
