@@ -124,7 +124,8 @@ impl Runner {
         }
         match self.random.below(400) {
             0..=69 if self.lists => self.list(),
-            0..=209 => self.step_busy_port(),
+            0..=201 => self.step_busy_port(),
+            202..=209 => self.plug(),
             210..=301 => self.speak(),
             302..=321 => self.begin_speech(),
             322..=359 => self.input(),
@@ -137,7 +138,7 @@ impl Runner {
             391..=392 => self.odd_aim(),
             393..=395 => self.odd_step(),
             396 => self.odd_input(),
-            397 => self.odd_fresh(),
+            397 => self.odd_start(),
             _ => self.start_anew(),
         }
     }
@@ -343,7 +344,7 @@ impl Runner {
         }
     }
 
-    /// Seldom: another network, begun with a Fresh that succeeds.
+    /// Seldom: another network, begun with a start that succeeds.
     fn start_anew(&mut self) -> Call {
         if !self.random.chance(10) {
             return self.step_busy_port();
@@ -354,7 +355,7 @@ impl Runner {
         self.prepare();
         match self.prepared.pop_front() {
             Some(call) => call,
-            None => self.odd_fresh(),
+            None => self.odd_start(),
         }
     }
 }

@@ -4,7 +4,7 @@
 use std::collections::VecDeque;
 
 use crate::calls::Call;
-use crate::network::{memory_words, LinkEnd};
+use crate::network::{memory_words, LinkEnd, Start};
 use crate::random::Random;
 use crate::routing::highest_differing_bit;
 use crate::set::Setting;
@@ -18,8 +18,10 @@ pub struct Plan {
     pub nodes: usize,
     /// The number planned for each slot.
     pub numbers: Vec<u32>,
-    /// Fresh and the cables.
+    /// A start, the cables, and links that are switched off.
     pub cabling: Vec<Call>,
+    /// Cables that are plugged in only when circuits are under way.
+    pub late: Vec<Call>,
     /// All settings.
     pub settings: Vec<Call>,
 }
@@ -47,17 +49,17 @@ pub fn plan(random: &mut Random) -> Plan {
         1 | 2 => 2 + random.below(5),
         _ => 1 + random.below(MOST_NODES),
     };
-    let cables = plug(&joined_slots(random, nodes));
+    let pairs = joined_slots(random, nodes);
+    let cables = plug(&pairs, random.chance(50));
     let numbers = planned_numbers(random, nodes);
-    let fresh = Call::Fresh {
-        nodes,
-        memory_words: memory_words(nodes).unwrap_or(0),
-    };
-    let wires = cables.iter().map(|cable| Call::Wire {
-        one: cable.one,
-        other: cable.other,
-    });
-    let cabling = [fresh].into_iter().chain(wires).collect();
+    let start = random.pick(&Start::ALL).unwrap_or(Start::Fresh);
+    let words = memory_words(nodes).unwrap_or(0);
+    let (late, soon) = wires(random, &cables);
+    let mut cabling = vec![Call::beginning(start, nodes, words)];
+    cabling.extend(soon);
+    if random.chance(50) {
+        cabling.extend(switched_off(start, nodes, &cables));
+    }
     let mut settings = node_settings(random, &numbers);
     settings.extend(table_settings(random, &numbers, &cables));
     settings.extend(link_settings(random, &cables));
@@ -68,8 +70,31 @@ pub fn plan(random: &mut Random) -> Plan {
         nodes,
         numbers,
         cabling,
+        late,
         settings,
     }
+}
+
+/// The cables, first those for later: in half of the networks none, in the others
+/// about every third.
+fn wires(random: &mut Random, cables: &[Cable]) -> (Vec<Call>, Vec<Call>) {
+    let late_percent = random.pick(&[0, 35]).unwrap_or(0);
+    let wire = |cable: &Cable| Call::Wire {
+        one: cable.one,
+        other: cable.other,
+    };
+    let wires = cables.iter().map(wire);
+    wires.partition(|_| random.chance(late_percent))
+}
+
+/// The links that a start leaves enabled and no cable is planned for, disabled: what
+/// would leave by one of them waits.
+fn switched_off(start: Start, nodes: usize, cables: &[Cable]) -> Vec<Call> {
+    let planned: Vec<_> = cables.iter().flat_map(|c| [c.one, c.other]).collect();
+    let ends = (0..nodes).flat_map(|slot| start.enabled().map(move |link| LinkEnd { slot, link }));
+    ends.filter(|end| !planned.contains(end))
+        .map(|LinkEnd { slot, link }| set(slot, Setting::Enable { link, value: 0 }))
+        .collect()
 }
 
 /// Pairs of slots to be joined by a cable; some more than once, some with
@@ -106,9 +131,9 @@ fn mesh(nodes: usize) -> Vec<(usize, usize)> {
     across.chain(down).collect()
 }
 
-/// Gives each cable the lowest free link at both its ends; a cable that finds none
-/// is left out.
-fn plug(pairs: &[(usize, usize)]) -> Vec<Cable> {
+/// Gives each cable the lowest free link at both its ends, or the highest; a cable
+/// that finds none is left out.
+fn plug(pairs: &[(usize, usize)], from_above: bool) -> Vec<Cable> {
     let mut used = [0; MOST_NODES];
     let mut cables = Vec::new();
     for &(one, other) in pairs {
@@ -118,7 +143,8 @@ fn plug(pairs: &[(usize, usize)]) -> Vec<Cable> {
         }
         let mut next = |slot: usize| {
             used[slot] += 1;
-            let link = used[slot] - 1;
+            let (lowest, highest) = (used[slot] - 1, LINKS - used[slot]);
+            let link = if from_above { highest } else { lowest };
             LinkEnd { slot, link }
         };
         cables.push(Cable {
@@ -235,6 +261,10 @@ fn link_settings(random: &mut Random, cables: &[Cable]) -> Vec<Call> {
             let (slot, link) = (near.slot, near.link);
             let value = direction_towards(slot, far.slot);
             calls.push(set(slot, Setting::LinkDirection { link, value }));
+            if network != 0 {
+                // A start may have left it enabled, and then its network is Busy.
+                calls.push(set(slot, Setting::Enable { link, value: 0 }));
+            }
             let value = network;
             calls.push(set(slot, Setting::Network { link, value }));
             calls.push(set(slot, Setting::Enable { link, value: 1 }));

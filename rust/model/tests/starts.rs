@@ -4,7 +4,10 @@
 mod common;
 
 use common::Bench;
-use model::network::{Hop, Link};
+use model::calls::Call;
+use model::network::{Hop, Link, LinkEnd, Network, Start};
+use model::runs::Runner;
+use model::Answer;
 
 // The starts.
 
@@ -393,4 +396,71 @@ fn a_cable_plugged_into_a_link_in_use_after_either_start() {
         bench.settle();
         assert_eq!(bench.input_all(1, 7), "01 02 !01");
     }
+}
+
+// Random runs.
+
+/// How often random runs met what this file is about.
+#[derive(Debug, Default)]
+struct Met {
+    runs_from: [usize; 2],
+    later: [usize; 2],
+    enabled: usize,
+    in_use: usize,
+    both_in_use: usize,
+    crossed: usize,
+}
+
+/// Counts a call by the state before it. Kept are the ends that were in use when they
+/// were wired.
+fn count(met: &mut Met, kept: &mut Vec<LinkEnd>, before: &Network, call: &Call) {
+    match *call {
+        Call::Wire { one, other } => {
+            let ends = [one, other].map(|end| (end, &before.nodes[end.slot].links[end.link]));
+            let used = ends.iter().filter(|(_, link)| link.used_by.is_some());
+            let used: Vec<_> = used.map(|(end, _)| *end).collect();
+            met.enabled += usize::from(ends.iter().any(|(_, link)| link.enabled));
+            met.in_use += usize::from(!used.is_empty());
+            met.both_in_use += usize::from(used.len() == 2);
+            kept.extend(used);
+        }
+        Call::Step { slot, port } => {
+            if let Some(Hop::Outward(link)) = before.nodes[slot].ports[port].hop {
+                met.crossed += usize::from(kept.contains(&LinkEnd { slot, link }));
+            }
+        }
+        _ => {}
+    }
+}
+
+/// Runs begin in either way, and cables are plugged into links that are enabled and
+/// in use often enough for a run to be worth something.
+#[test]
+fn random_runs_plug_cables_into_links_in_use() {
+    let mut met = Met::default();
+    for seed in 0..200 {
+        let mut runner = Runner::new(seed);
+        let mut kept = Vec::new();
+        for place in 0..600 {
+            let before = runner.network().cloned();
+            let (call, found) = runner.call();
+            if let (Some(start), Answer::Done) = (call.start(), &found.answer) {
+                let begun = if place == 0 {
+                    &mut met.runs_from
+                } else {
+                    &mut met.later
+                };
+                begun[usize::from(start == Start::Blank)] += 1;
+                kept.clear();
+            }
+            if let (Some(before), Answer::Done | Answer::Moved) = (before, found.answer) {
+                count(&mut met, &mut kept, &before, &call);
+            }
+        }
+    }
+    println!("{met:?}");
+    assert!(met.runs_from.iter().all(|times| *times > 70), "{met:?}");
+    assert!(met.later.iter().all(|times| *times > 10), "{met:?}");
+    assert!(met.enabled > 200 && met.in_use > 100, "{met:?}");
+    assert!(met.both_in_use > 10 && met.crossed > 500, "{met:?}");
 }

@@ -2,7 +2,7 @@
 
 use super::Runner;
 use crate::calls::Call;
-use crate::network::{LinkEnd, Network};
+use crate::network::{Link, LinkEnd, Network};
 use crate::set::Setting;
 use crate::sizes::{BITS, HIGHEST_DIRECTION, HIGHEST_NETWORK, HIGHEST_NUMBER, LINKS};
 
@@ -94,14 +94,56 @@ impl Runner {
     fn links_with(&self, least: usize) -> Vec<LinkEnd> {
         let network = self.network.as_ref();
         let held = |far: LinkEnd| network.map_or(0, |network| network.held_at(far));
+        self.links(|link| link.far.is_some_and(|far| held(far) >= least))
+    }
+
+    /// The links of which that is so.
+    fn links(&self, is_meant: impl Fn(&Link) -> bool) -> Vec<LinkEnd> {
         self.nodes()
             .flat_map(|(slot, node)| {
                 let links = (0..).zip(&node.links);
-                links.map(move |(link, state)| (LinkEnd { slot, link }, state.far))
+                links.map(move |(link, state)| (LinkEnd { slot, link }, state))
             })
-            .filter(|(_, far)| far.is_some_and(|far| held(far) >= least))
+            .filter(|(_, state)| is_meant(state))
             .map(|(end, _)| end)
             .collect()
+    }
+
+    /// Plugs in a cable that was left for later, or one for a circuit that leaves by a
+    /// link without a cable; a link in use at both ends, sometimes.
+    pub(super) fn plug(&mut self) -> Call {
+        let in_use = self.links(|link| link.far.is_none() && link.used_by.is_some());
+        let free = self.links(|link| link.far.is_none());
+        let late = self.plan.late.iter().filter(|call| match call {
+            Call::Wire { one, other } => free.contains(one) && free.contains(other),
+            _ => false,
+        });
+        let late: Vec<_> = late.cloned().collect();
+        let late = self.random.pick(&late);
+        if let Some(wire) = late.filter(|_| self.random.chance(60)) {
+            return wire;
+        }
+        let both = self.random.chance(40);
+        let other = self.random.pick(if both { &in_use } else { &free });
+        match (self.random.pick(&in_use), other) {
+            (Some(one), Some(other)) if one != other => self.plug_in(one, other),
+            _ => self.step_busy_port(),
+        }
+    }
+
+    /// A cable that was not planned, mostly with both its ends put to work behind it.
+    fn plug_in(&mut self, one: LinkEnd, other: LinkEnd) -> Call {
+        if self.random.chance(80) {
+            for LinkEnd { slot, link } in [one, other] {
+                let setting = Setting::Enable { link, value: 1 };
+                self.prepared.push_back(Call::Set { slot, setting });
+            }
+            for LinkEnd { slot, link } in [one, other] {
+                let setting = Setting::Hello { link };
+                self.prepared.push_back(Call::Set { slot, setting });
+            }
+        }
+        Call::Wire { one, other }
     }
 }
 
@@ -120,6 +162,8 @@ fn is_in_force(network: &Network, call: &Call) -> bool {
         Setting::Direction { bit, value } => node.directions.get(bit) == Some(&value),
         Setting::LinkDirection { link: l, value } => link(l).is_some_and(|l| l.direction == value),
         Setting::Network { link: l, value } => link(l).is_some_and(|l| l.network == value),
+        // Only on the way to another network.
+        Setting::Enable { value: 0, .. } => true,
         Setting::Enable { link: l, value } => link(l).is_some_and(|l| l.enabled == (value == 1)),
         Setting::Hello { link: l } => link(l).is_some_and(|l| l.greeted || !l.enabled),
     }

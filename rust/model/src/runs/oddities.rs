@@ -2,7 +2,7 @@
 
 use super::{Runner, TALKERS};
 use crate::calls::Call;
-use crate::network::{memory_words, LinkEnd};
+use crate::network::{memory_words, LinkEnd, Start};
 use crate::sizes::{
     CHANNELS, CHANNEL_ENDS, HIGHEST_NETWORK, HIGHEST_NUMBER, LINKS, MOST_NODES, PORTS, REPLY_PORT,
 };
@@ -75,15 +75,13 @@ impl Runner {
         }
     }
 
-    /// A Fresh that is refused: no such count, or another memory.
-    pub(super) fn odd_fresh(&mut self) -> Call {
+    /// A start that is refused: no such count, or another memory.
+    pub(super) fn odd_start(&mut self) -> Call {
         let counts = [0, 1, 5, MOST_NODES, MOST_NODES + 1, usize::MAX];
         let nodes = self.random.pick(&counts).unwrap_or(0);
         let right = memory_words(nodes).unwrap_or(usize::MAX);
         let lengths = [0, 1, right - right.min(1), right.saturating_add(1)];
-        Call::Fresh {
-            nodes,
-            memory_words: self.random.pick(&lengths).unwrap_or(0),
-        }
+        let start = self.random.pick(&Start::ALL).unwrap_or(Start::Fresh);
+        Call::beginning(start, nodes, self.random.pick(&lengths).unwrap_or(0))
     }
 }
