@@ -47,9 +47,9 @@ pub enum Setting {
 /// let mut bench = Bench::fresh(2)?;
 /// let (one, other) = (LinkEnd { slot: 0, link: 0 }, LinkEnd { slot: 1, link: 4 });
 /// bench.wire(one, other)?;
+/// // Link E is enabled from the start, link A is not.
+/// assert_eq!(bench.hello(0, 0), Err(Refusal::Busy));
 /// bench.set(0, Setting::Enable { link: 0, value: 1 })?;
-/// assert_eq!(bench.hello(0, 0)?, 0);
-/// bench.set(1, Setting::Enable { link: 4, value: 1 })?;
 /// assert_eq!(bench.hello(0, 0)?, 64);
 /// assert_eq!(bench.looks().link(0, 0).credit, 64);
 /// # Ok(())
@@ -70,23 +70,55 @@ fn done(answer: Answer) -> Result<(), Refusal> {
 }
 
 impl Bench {
-    /// Fresh: all nodes number 0, width three, directions 0, links unwired, disabled, network 0;
-    /// channel-ends unaimed.
+    /// Fresh: boards as the boot ROM leaves them. All nodes number 0, width three, directions 0, links
+    /// unwired, network 0, E..H enabled and A..D disabled; channel-ends unaimed.
+    ///
+    /// This is the start for boards of a machine. No link is greeted, so no token leaves: a header for
+    /// another number takes link E and waits there for a cable and a HELLO.
     ///
     /// ```
     /// use bench::{Bench, Refusal};
     ///
-    /// assert_eq!(Bench::fresh(16).unwrap().looks().nodes(), 16);
+    /// let bench = Bench::fresh(16).unwrap();
+    /// assert_eq!(bench.looks().nodes(), 16);
+    /// assert_eq!(bench.looks().link(15, 3).enabled, 0);
+    /// assert_eq!(bench.looks().link(15, 4).enabled, 1);
     /// assert_eq!(Bench::fresh(17).unwrap_err(), Refusal::NoSuch);
     /// ```
     pub fn fresh(nodes: usize) -> Result<Bench, Refusal> {
+        Bench::started(nodes, raw::fresh)
+    }
+
+    /// Blank: the same with every link disabled, A..H.
+    ///
+    /// This is the start where a link is to be used only once it has been set: a header for another
+    /// number finds none, and is refused. It is the Fresh of document 01; document 02 gave its name
+    /// to the other.
+    ///
+    /// ```
+    /// use bench::{Bench, Refusal};
+    ///
+    /// let bench = Bench::blank(16).unwrap();
+    /// assert_eq!(bench.looks().nodes(), 16);
+    /// assert_eq!(bench.looks().link(15, 4).enabled, 0);
+    /// assert_eq!(Bench::blank(0).unwrap_err(), Refusal::NoSuch);
+    /// ```
+    pub fn blank(nodes: usize) -> Result<Bench, Refusal> {
+        Bench::started(nodes, raw::blank)
+    }
+
+    /// A network of its own memories, by one of the two starts.
+    fn started(
+        nodes: usize,
+        start: fn(&mut [u32], &mut [u16], usize) -> Answer,
+    ) -> Result<Bench, Refusal> {
         // A count that is refused is refused at any length of the memories.
         let lent = if nodes <= MOST_NODES { nodes } else { 0 };
         let mut bench = Bench {
             state: vec![0; lent * raw::state_words()],
             memory: vec![0; lent * raw::memory_words()],
         };
-        done(raw::fresh(&mut bench.state, &mut bench.memory, nodes))?;
+        done(start(&mut bench.state, &mut bench.memory, nodes))?;
         Ok(bench)
     }
 
@@ -103,18 +135,19 @@ impl Bench {
         Bench { state, memory }
     }
 
-    /// Wire: join two different link ends, both unwired and disabled.
+    /// Wire: join two different link ends, both unwired. Enabled or not, in use or not, does not
+    /// matter; nobody is greeted by it.
     ///
     /// ```
     /// use bench::{Bench, LinkEnd, Refusal};
     ///
     /// let mut bench = Bench::fresh(1).unwrap();
     /// let a = LinkEnd { slot: 0, link: 0 };
-    /// let b = LinkEnd { slot: 0, link: 1 };
+    /// let e = LinkEnd { slot: 0, link: 4 };
     /// assert_eq!(bench.wire(a, a), Err(Refusal::Value));
-    /// assert_eq!(bench.wire(a, b), Ok(()));
-    /// assert_eq!(bench.looks().link(0, 1).far(), Some((0, 0)));
-    /// assert_eq!(bench.wire(b, a), Err(Refusal::Busy));
+    /// assert_eq!(bench.wire(a, e), Ok(()));
+    /// assert_eq!(bench.looks().link(0, 4).far(), Some((0, 0)));
+    /// assert_eq!(bench.wire(e, a), Err(Refusal::Busy));
     /// ```
     pub fn wire(&mut self, one: LinkEnd, other: LinkEnd) -> Result<(), Refusal> {
         let (state, memory) = (&mut self.state, &self.memory);
@@ -157,6 +190,7 @@ impl Bench {
     ///
     /// let mut bench = Bench::fresh(1).unwrap();
     /// assert_eq!(bench.hello(0, 0), Err(Refusal::Busy));
+    /// assert_eq!(bench.hello(0, 4), Ok(0)); // enabled, and no cable: nobody hears it
     /// assert_eq!(bench.hello(0, 8), Err(Refusal::NoSuch));
     /// ```
     pub fn hello(&mut self, slot: usize, link: usize) -> Result<u32, Refusal> {

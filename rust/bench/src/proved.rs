@@ -11,6 +11,13 @@ extern "C" {
         tokens: usize,
         nodes: usize,
     ) -> u64;
+    pub fn tarvelgyo_blank(
+        state: *mut u32,
+        words: usize,
+        memory: *mut u16,
+        tokens: usize,
+        nodes: usize,
+    ) -> u64;
     pub fn tarvelgyo_wire(
         state: *mut u32,
         words: usize,

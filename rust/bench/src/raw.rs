@@ -24,6 +24,12 @@
 //! assert_eq!(raw::fresh(&mut state, &mut memory, 1), Answer::Done);
 //! assert!(raw::is_sound(&state, &memory));
 //! ```
+//!
+//! A network begins with [`fresh`] or with [`blank`]. Both ask the same: NoSuch where the nodes are
+//! not 1 to 16, whatever the lengths, then Unsound where either memory has another length than that
+//! of so many nodes. Either makes a network of so many nodes, whatever the memories held, with every
+//! token word 0. They differ in the links that are enabled; [`Bench::fresh`](crate::Bench::fresh) and
+//! [`Bench::blank`](crate::Bench::blank) say which to use.
 
 use crate::answer::{parts, Answer};
 use crate::list::{StepRecord, StepResult};
@@ -33,11 +39,25 @@ use crate::proved;
 // its own length, and the function, which has no `requires`, is proved to read and write nothing
 // beyond.
 
-/// Fresh: a network of so many nodes, whatever the memories held.
+/// Fresh: a network of so many nodes as the boot ROM leaves them, links E..H enabled.
 pub fn fresh(state: &mut [u32], memory: &mut [u16], nodes: usize) -> Answer {
     // SAFETY: as said above.
     answered(unsafe {
         proved::tarvelgyo_fresh(
+            state.as_mut_ptr(),
+            state.len(),
+            memory.as_mut_ptr(),
+            memory.len(),
+            nodes,
+        )
+    })
+}
+
+/// Blank: a network of so many nodes with every link disabled.
+pub fn blank(state: &mut [u32], memory: &mut [u16], nodes: usize) -> Answer {
+    // SAFETY: as said above.
+    answered(unsafe {
+        proved::tarvelgyo_blank(
             state.as_mut_ptr(),
             state.len(),
             memory.as_mut_ptr(),

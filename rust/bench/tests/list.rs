@@ -51,7 +51,8 @@ fn send(lent: &mut Lent, slot: usize, end: usize, number: u32, channel: u32) {
     output(lent, slot, end, Kind::Control, 1);
 }
 
-/// Boards 0 and 1 of numbers 0 and 1, a cable between their links A. Bit 8 leads nowhere on board 0.
+/// Boards 0 and 1 of numbers 0 and 1, a cable between their links A, which are the only ones enabled.
+/// Bit 8 leads nowhere on board 0.
 fn cabled() -> Lent {
     let nodes = 2;
     let mut lent = Lent {
@@ -59,7 +60,7 @@ fn cabled() -> Lent {
         memory: vec![0; nodes * raw::memory_words()],
     };
     let Lent { state, memory } = &mut lent;
-    let mut calls = vec![raw::fresh(state, memory, nodes)];
+    let mut calls = vec![raw::blank(state, memory, nodes)];
     calls.push(raw::set_number(state, memory, 1, 1));
     calls.push(raw::wire(state, memory, 0, 0, 1, 0));
     calls.push(raw::set_direction(state, memory, 0, 8, 5));

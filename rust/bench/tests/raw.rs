@@ -1,6 +1,6 @@
 //! The raw form: slices of any length, buffers of any size, places that are not there.
 
-use bench::{raw, Answer, Refusal};
+use bench::raw;
 
 /// A look at a record, at some place of a state.
 type Look = fn(&[u32], usize, usize, &mut [u32]) -> bool;
@@ -116,35 +116,4 @@ fn a_word_of_a_channel_end_is_shown_whole() {
         [shown(7), shown(8), shown(usize::MAX)],
         [Some(u32::MAX), None, None]
     );
-}
-
-/// Fresh on memories of these lengths, full of rubbish, which it leaves where it refuses.
-fn fresh_on(nodes: usize, words: usize, tokens: usize) -> Answer {
-    let (mut state, mut memory) = (vec![9; words], vec![9; tokens]);
-    let answer = raw::fresh(&mut state, &mut memory, nodes);
-    if answer != Answer::Done {
-        assert!(state.iter().all(|word| *word == 9) && memory.iter().all(|word| *word == 9));
-    }
-    answer
-}
-
-#[test]
-fn fresh_asks_for_a_count_and_then_for_both_lengths() {
-    let (words, tokens) = (raw::state_words(), raw::memory_words());
-    for nodes in [0, 17, usize::MAX] {
-        for lent in [0, 1, 16, 17] {
-            let answer = fresh_on(nodes, lent * words, lent * tokens);
-            assert_eq!(answer, Answer::No(Refusal::NoSuch));
-        }
-    }
-    for nodes in 1..=16 {
-        let (words, tokens) = (nodes * words, nodes * tokens);
-        assert_eq!(fresh_on(nodes, words, tokens), Answer::Done);
-        for (words, tokens) in [(words - 1, tokens), (words + 1, tokens), (0, tokens)] {
-            assert_eq!(fresh_on(nodes, words, tokens), Answer::No(Refusal::Unsound));
-        }
-        for (words, tokens) in [(words, tokens - 1), (words, tokens + 1), (words, 0)] {
-            assert_eq!(fresh_on(nodes, words, tokens), Answer::No(Refusal::Unsound));
-        }
-    }
 }
