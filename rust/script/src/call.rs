@@ -7,7 +7,13 @@ use bench::{Destination, Kind, LinkEnd, Setting, StepRecord};
 /// A call with its arguments, which may be out of range: that is what refusals are for.
 #[derive(Clone, Debug, PartialEq, Eq)]
 pub enum Call {
+    /// The start of boards as the boot ROM leaves them, with links E..H enabled.
     Fresh {
+        nodes: usize,
+        memory_words: usize,
+    },
+    /// The start with every link disabled.
+    Blank {
         nodes: usize,
         memory_words: usize,
     },
@@ -53,8 +59,9 @@ pub enum Call {
 }
 
 /// The calls as a line has them, by their first word.
-pub const FORMS: [(&str, &str); 8] = [
+pub const FORMS: [(&str, &str); 9] = [
     ("fresh", "fresh NODES MEMORY_WORDS"),
+    ("blank", "blank NODES MEMORY_WORDS"),
     ("wire", "wire SLOT LINK SLOT LINK"),
     ("set", "set SLOT SETTING INDEX VALUE"),
     (
@@ -112,6 +119,10 @@ impl fmt::Display for Call {
                 nodes,
                 memory_words,
             } => write!(f, "fresh {nodes} {memory_words}"),
+            Call::Blank {
+                nodes,
+                memory_words,
+            } => write!(f, "blank {nodes} {memory_words}"),
             Call::Wire {
                 one: LinkEnd { slot, link },
                 other,

@@ -3,7 +3,7 @@
 use bench::sizes::{BITS, LINKS};
 use bench::{Bench, Cause, Hop, Link, Looks, Peer};
 
-use crate::names::{channel, counted, destination, headers, letter, peer, port, tokens};
+use crate::names::{channel, counted, destination, headers, letter, links, peer, port, tokens};
 use crate::waits::wait;
 
 /// A board's own settings.
@@ -13,36 +13,35 @@ pub fn board(looks: Looks, slot: usize) -> String {
 }
 
 /// For each direction that a bit leads to: the bits, and the enabled links that have it. Direction
-/// 0 is left out where no enabled link has it, as Fresh leaves it.
+/// 0 is left out where no enabled link has it, as blank leaves it.
 pub fn directions(looks: Looks, slot: usize) -> Vec<String> {
     let all = (0..=15).filter_map(|direction| {
         let bits: Vec<u32> = (0..BITS)
             .filter(|bit| looks.direction(slot, *bit) == direction)
             .collect();
-        let links = links_towards(looks, slot, direction);
-        let at_rest = bits.is_empty() || (direction == 0 && links.is_empty());
-        (!at_rest).then(|| bits_lead(&bits, direction, &links))
+        let ways = links_towards(looks, slot, direction);
+        let at_rest = bits.is_empty() || (direction == 0 && ways.is_empty());
+        (!at_rest).then(|| bits_lead(&bits, direction, &ways))
     });
     all.collect()
 }
 
-fn links_towards(looks: Looks, slot: usize, direction: u32) -> Vec<String> {
-    let links = (0..LINKS).filter(|link| {
+fn links_towards(looks: Looks, slot: usize, direction: u32) -> Vec<usize> {
+    let ways = (0..LINKS).filter(|link| {
         let seen = looks.link(slot, *link);
         seen.enabled == 1 && seen.direction == direction
     });
-    links.map(|link| letter(link).to_string()).collect()
+    ways.collect()
 }
 
-fn bits_lead(bits: &[u32], direction: u32, links: &[String]) -> String {
-    let links = match links {
+fn bits_lead(bits: &[u32], direction: u32, ways: &[usize]) -> String {
+    let ways = match ways {
         [] => "which no enabled link has".to_owned(),
-        [link] => format!("link {link}"),
-        links => format!("links {}", links.join(" ")),
+        ways => links(ways),
     };
     match bits {
-        [bit] => format!("bit {bit} leads to direction {direction}, {links}"),
-        _ => format!("bits {} lead to direction {direction}, {links}", runs(bits)),
+        [bit] => format!("bit {bit} leads to direction {direction}, {ways}"),
+        _ => format!("bits {} lead to direction {direction}, {ways}", runs(bits)),
     }
 }
 
@@ -57,9 +56,9 @@ fn runs(numbers: &[u32]) -> String {
     written.collect::<Vec<_>>().join(" ")
 }
 
-/// A link that has a cable, is enabled or has been set.
-pub fn is_in_use(link: &Link) -> bool {
-    link.wired == 1 || link.enabled == 1 || link.direction != 0 || link.network != 0
+/// A link that has been given a direction or a network.
+pub fn is_set(link: &Link) -> bool {
+    link.direction != 0 || link.network != 0
 }
 
 pub fn link_settings(link: &Link) -> String {
@@ -71,13 +70,20 @@ pub fn link_settings(link: &Link) -> String {
     format!("{enabled}, direction {direction}, network {network}")
 }
 
-/// The credit of an enabled link.
+/// The credit of an enabled link, or why it has none.
 pub fn link_credit(link: &Link) -> Option<String> {
-    match (link.enabled, link.greeted) {
-        (0, _) => None,
-        (_, 0) => Some("not greeted, so no credit".to_owned()),
+    match (link.enabled, link.wired, link.greeted) {
+        (0, _, _) => None,
+        (_, 0, _) => Some("no cable".to_owned()),
+        (_, _, 0) => Some("not greeted, so no credit".to_owned()),
         _ => Some(format!("credit {}", link.credit)),
     }
+}
+
+/// A link's settings and credit in one.
+pub fn link_state(link: &Link) -> String {
+    let facts = std::iter::once(link_settings(link)).chain(link_credit(link));
+    facts.collect::<Vec<_>>().join(", ")
 }
 
 /// Where a port's circuit goes, and what it holds.

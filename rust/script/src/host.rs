@@ -51,8 +51,11 @@ impl Lent {
     }
 }
 
-/// The host of a network: it lends its memories to each call. Before the first Fresh that succeeds
-/// they are empty, which is Unsound to every other call.
+/// A start, on memories that are lent to it.
+type Start = fn(&mut [u32], &mut [u16], usize) -> bench::Answer;
+
+/// The host of a network: it lends its memories to each call. Before the first start that succeeds,
+/// Fresh or blank, they are empty, which is Unsound to every other call.
 #[derive(Clone, Debug, Default)]
 pub struct Host {
     lent: Lent,
@@ -98,7 +101,11 @@ impl Host {
             Call::Fresh {
                 nodes,
                 memory_words,
-            } => return self.fresh(nodes, memory_words),
+            } => return self.start(raw::fresh, nodes, memory_words),
+            Call::Blank {
+                nodes,
+                memory_words,
+            } => return self.start(raw::blank, nodes, memory_words),
             Call::Wire { one, other } => {
                 raw::wire(state, memory, one.slot, one.link, other.slot, other.link).into()
             }
@@ -128,10 +135,16 @@ impl Host {
         (answer, failing)
     }
 
-    /// Fresh on two memories of its own: "a later Fresh that succeeds replaces the network".
-    fn fresh(&mut self, nodes: usize, memory_words: usize) -> (Answer, Option<Clause>) {
+    /// A start on two memories of its own: "a later Fresh that succeeds replaces the network", and so
+    /// does a later blank.
+    fn start(
+        &mut self,
+        start: Start,
+        nodes: usize,
+        memory_words: usize,
+    ) -> (Answer, Option<Clause>) {
         let mut lent = lent_for(nodes, memory_words);
-        let answer = raw::fresh(&mut lent.state, &mut lent.memory, nodes).into();
+        let answer = start(&mut lent.state, &mut lent.memory, nodes).into();
         let failing = failing_clause(&answer, &lent);
         if answer == Answer::Done {
             self.lent = lent;

@@ -10,7 +10,7 @@
 //! let mut lines = Vec::new();
 //! let script = "// two boards, one cable\nfresh 2 1664\nwire 0 0 1 0\nwire 0 0 1 0\n";
 //! script::run(script, |made| Ok(lines.push(made.to_string()))).unwrap();
-//! assert_eq!(lines[1], "wire 0 0 1 0 -> done # a327495a29021b84");
+//! assert_eq!(lines[1], "wire 0 0 1 0 -> done # 33724902fd8ca3bc");
 //! assert!(lines[2].starts_with("wire 0 0 1 0 -> no 4 # "));
 //! assert_eq!(script::check(&lines.join("\n"), |_| Ok(())).unwrap(), 3);
 //! ```

@@ -39,6 +39,10 @@ and lines that begin with // are passed over. Numbers are decimal, or hexadecima
 ";
 
 const ARGUMENTS: &str = "
+fresh makes boards as the boot ROM leaves them, links E..H enabled and A..D disabled; blank makes
+them with every link disabled. A script begins with either, and a later one makes the network anew.
+MEMORY_WORDS is 832 for each board.
+
 SETTING INDEX VALUE is number 0 VALUE, width 0 VALUE, direction BIT VALUE, linkdirection LINK VALUE,
 network LINK VALUE, enable LINK VALUE or hello LINK 0.
 
@@ -193,7 +197,7 @@ fn network(file: &str) -> Result<Bench, Complaint> {
     let bench = ran.map_err(|fault| faulty(file, fault))?.copy();
     match bench.looks().nodes() {
         0 => Err(complaint(format!(
-            "{file}: no network: no fresh of it succeeds"
+            "{file}: no network: no fresh or blank of it succeeds"
         ))),
         _ => Ok(bench),
     }

@@ -19,7 +19,7 @@ it sends:
   Elsewhere    a board of another number got it
   Split        a switch of the other width read its header
   NoRoute      a switch has no enabled link of that direction and network
-  Waiting      a whole round of steps changed nothing
+  Waiting      a whole round of steps changed nothing; `bench route` says what it waits for
   Steps        it is still on its way after 65536 steps
   no N         Aim or Output was refused, by this number
 

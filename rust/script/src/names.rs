@@ -11,6 +11,13 @@ pub fn letter(link: usize) -> char {
     char::from(b"ABCDEFGH"[link % LINKS])
 }
 
+/// Links of a board together: `link E`, `links E F`.
+pub fn links(links: &[usize]) -> String {
+    let letters: Vec<String> = links.iter().map(|link| letter(*link).to_string()).collect();
+    let name = if links.len() == 1 { "link" } else { "links" };
+    format!("{name} {}", letters.join(" "))
+}
+
 /// A board's width in words.
 pub fn headers(looks: Looks, slot: usize) -> &'static str {
     match looks.node(slot).width {

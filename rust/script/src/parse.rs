@@ -42,7 +42,7 @@ fn read_line(number: usize, line: &str) -> Result<Line, Expected> {
 /// Reads a call; a complaint about it ends with how the call is written.
 fn read_call(text: &str) -> Result<Call, Expected> {
     let mut words = Words::of(text);
-    let names = "fresh, wire, set, aim, output, input, step or steps";
+    let names = "fresh, blank, wire, set, aim, output, input, step or steps";
     let name = words.word(names)?;
     let Some((_, form)) = FORMS.iter().find(|(known, _)| *known == name) else {
         return Err(expected(names, Some(name)));
@@ -54,10 +54,7 @@ fn read_call(text: &str) -> Result<Call, Expected> {
 
 fn call_named(name: &str, words: &mut Words) -> Result<Call, Expected> {
     match name {
-        "fresh" => Ok(Call::Fresh {
-            nodes: words.number("a number of nodes")?,
-            memory_words: words.number("a number of memory words")?,
-        }),
+        "fresh" | "blank" => start(name, words),
         "wire" => Ok(Call::Wire {
             one: link_end(words)?,
             other: link_end(words)?,
@@ -76,6 +73,22 @@ fn call_named(name: &str, words: &mut Words) -> Result<Call, Expected> {
             Ok(Call::Step { slot, port })
         }
     }
+}
+
+/// `NODES MEMORY_WORDS`, of either start.
+fn start(name: &str, words: &mut Words) -> Result<Call, Expected> {
+    let nodes = words.number("a number of nodes")?;
+    let memory_words = words.number("a number of memory words")?;
+    Ok(match name {
+        "fresh" => Call::Fresh {
+            nodes,
+            memory_words,
+        },
+        _ => Call::Blank {
+            nodes,
+            memory_words,
+        },
+    })
 }
 
 fn slot(words: &mut Words) -> Result<usize, Expected> {

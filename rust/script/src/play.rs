@@ -9,7 +9,7 @@ use crate::parse::{parse, Line};
 use crate::words::Expected;
 
 /// What a trace begins with: the Asks of document 02 that it was made with. A comment to every reader.
-pub const HEAD: &str = "// asks 1";
+pub const HEAD: &str = "// asks 1,7";
 
 /// Why a script was not run to its end.
 #[derive(Debug)]

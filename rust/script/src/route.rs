@@ -24,6 +24,9 @@ it comes to is a line, with the link that it takes there; the last line says how
   Steps        it is still on its way after 65536 steps
   refused      Aim or Output said no, by this number
 
+An enabled link is taken whether or not it has a cable. Fresh leaves links E..H enabled: an END that
+takes one of them before its cable is there is Waiting.
+
 Exit status: 0 arrived; 1 any other end; 2 the script was not run to its end, or nothing was asked.
 ";
 

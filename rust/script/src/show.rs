@@ -1,20 +1,21 @@
 //! `bench show`: the state in words.
 
 use bench::sizes::{CHANNEL_ENDS, LINKS, PORTS};
-use bench::{Bench, Looks};
+use bench::{Bench, Link, Looks};
 
 use crate::facts;
-use crate::names::{letter, port};
+use crate::names::{letter, links, port};
 
 pub const HELP: &str = "\
 bench show FILE: makes the calls of FILE and prints the state that they leave, in words
 
 Each line is one fact, and begins with its place: a board by its slot, and a link, port, channel-end
 or control unit of it. Boards come by slot, and on a board its settings, links A..H, ports,
-channel-ends and control unit. A wait is found by a Step on a copy.
+channel-ends and control unit. Links with no cable that are alike share a line. A wait is found by a
+Step on a copy.
 
-Left out is what is at rest: links with no cable that nobody has set, ports and channel-ends with
-nothing in them, bits that lead to direction 0 where no enabled link has direction 0.
+Left out is what is at rest: disabled links with no cable that nobody has set, ports and channel-ends
+with nothing in them, bits that lead to direction 0 where no enabled link has direction 0.
 
 Exit status: 0 printed; 2 the script was not run to its end.
 ";
@@ -33,9 +34,9 @@ fn board(bench: &Bench, slot: usize) -> String {
     for fact in facts::directions(looks, slot) {
         lines.push(format!("board {slot}: {fact}\n"));
     }
-    for index in 0..LINKS {
-        let place = format!("board {slot} link {}", letter(index));
-        lines.extend(placed(&place, link(looks, slot, index)));
+    for (alike, facts) in link_facts(looks, slot) {
+        let place = format!("board {slot} {}", links(&alike));
+        lines.extend(placed(&place, facts));
     }
     for index in 0..PORTS {
         let held = facts::port_facts(looks, slot, index).into_iter();
@@ -59,16 +60,29 @@ fn placed(place: &str, facts: impl IntoIterator<Item = String>) -> Vec<String> {
     lines.collect()
 }
 
-fn link(looks: Looks, slot: usize, index: usize) -> Vec<String> {
-    let seen = looks.link(slot, index);
-    if !facts::is_in_use(&seen) {
-        return Vec::new();
+/// What is so of each link, and which links are alike in it: those with no cable, often, as Fresh
+/// leaves four of each board.
+fn link_facts(looks: Looks, slot: usize) -> Vec<(Vec<usize>, Vec<String>)> {
+    let mut all: Vec<(Vec<usize>, Vec<String>)> = Vec::new();
+    for index in 0..LINKS {
+        let facts = link(&looks.link(slot, index));
+        match all.iter_mut().find(|(_, known)| *known == facts) {
+            Some((alike, _)) => alike.push(index),
+            None => all.push((vec![index], facts)),
+        }
     }
-    let cable = seen.far().map(|(far, end)| {
-        let end = letter(end as usize);
-        format!("cable to board {far} link {end}")
-    });
-    let settings = Some(facts::link_settings(&seen));
-    let credit = facts::link_credit(&seen);
-    [cable, settings, credit].into_iter().flatten().collect()
+    all
+}
+
+fn link(seen: &Link) -> Vec<String> {
+    match seen.far() {
+        Some((far, end)) => {
+            let cable = format!("cable to board {far} link {}", letter(end as usize));
+            let settings = facts::link_settings(seen);
+            let facts = [cable, settings].into_iter();
+            facts.chain(facts::link_credit(seen)).collect()
+        }
+        None if seen.enabled == 1 || facts::is_set(seen) => vec![facts::link_state(seen)],
+        None => Vec::new(),
+    }
 }

@@ -14,7 +14,7 @@ pub enum Wait {
     /// The rest of a header.
     Header,
     /// One of these links, each in use outward by the circuit of a port.
-    Links(Vec<(usize, Option<Peer>)>),
+    Links(Vec<Way>),
     /// One of the links from the switch to the tile.
     TileLink,
     /// A channel-end that another circuit claims.
@@ -25,6 +25,14 @@ pub enum Wait {
     Credit { link: usize, lacks: Lack },
     /// Room in a channel-end.
     Room { channel: u32, held: u32 },
+}
+
+/// A link that a header may take.
+#[derive(Clone, Copy, Debug, PartialEq, Eq)]
+pub struct Way {
+    link: usize,
+    user: Option<Peer>,
+    has_cable: bool,
 }
 
 /// Why a link has no credit.
@@ -108,11 +116,20 @@ fn opening(looks: Looks, slot: usize, port: usize, destination: Destination) -> 
     let network = network(looks, slot, port);
     match (ways(looks, slot, destination, network), destination) {
         (Ways::Links(links), _) => {
-            let user = |link| (link, looks.link(slot, link).user.peer());
-            Wait::Links(links.into_iter().map(user).collect())
+            let ways = links.into_iter().map(|link| way(looks, slot, link));
+            Wait::Links(ways.collect())
         }
         (Ways::Channel, Destination::Channel { channel, .. }) => tile(looks, slot, channel),
         _ => Wait::Control,
+    }
+}
+
+fn way(looks: Looks, slot: usize, link: usize) -> Way {
+    let seen = looks.link(slot, link);
+    Way {
+        link,
+        user: seen.user.peer(),
+        has_cable: seen.far().is_some(),
     }
 }
 
@@ -142,7 +159,10 @@ impl fmt::Display for Wait {
     fn fmt(&self, f: &mut fmt::Formatter<'_>) -> fmt::Result {
         match self {
             Wait::Header => f.write_str("for the rest of its header"),
-            Wait::Links(links) => write!(f, "for {}", links_in_use(links)),
+            Wait::Links(ways) => {
+                let ways: Vec<String> = ways.iter().map(Way::to_string).collect();
+                write!(f, "for {}", ways.join(" or "))
+            }
             Wait::TileLink => f.write_str("for a tile link, all four are in use"),
             Wait::Claimed { channel: end, by } => {
                 write!(f, "for {}, which {} has claimed", channel(*end), peer(*by))
@@ -159,12 +179,17 @@ impl fmt::Display for Wait {
     }
 }
 
-fn links_in_use(links: &[(usize, Option<Peer>)]) -> String {
-    let name = |(link, user): &(usize, Option<Peer>)| match user {
-        Some(user) => format!("link {}, in use by {}", letter(*link), peer(*user)),
-        None => format!("link {}", letter(*link)),
-    };
-    links.iter().map(name).collect::<Vec<_>>().join(" or ")
+impl fmt::Display for Way {
+    fn fmt(&self, f: &mut fmt::Formatter<'_>) -> fmt::Result {
+        write!(f, "link {}", letter(self.link))?;
+        if !self.has_cable {
+            f.write_str(" (no cable)")?;
+        }
+        match self.user {
+            Some(user) => write!(f, ", in use by {}", peer(user)),
+            None => Ok(()),
+        }
+    }
 }
 
 impl fmt::Display for Lack {

@@ -32,9 +32,9 @@ pub fn ways(looks: Looks, slot: usize, destination: Destination, network: u32) -
     }
 }
 
-/// A network of one board with the settings of this one, but for these links, which are disabled.
+/// A network of one board with the settings of this one, but for these links, which stay disabled.
 fn bare(looks: Looks, slot: usize, disabled: &[usize]) -> Result<Bench, Refusal> {
-    let mut bare = Bench::fresh(1)?;
+    let mut bare = Bench::blank(1)?;
     let node = looks.node(slot);
     bare.set(0, Setting::Number(node.number))?;
     bare.set(0, Setting::Width(node.width))?;

@@ -7,11 +7,14 @@ use std::sync::atomic::{AtomicUsize, Ordering};
 use common::{bench, file, text};
 
 /// Two boards, numbers 0 and 1, a cable between links A, greeted at both ends.
-const TWO_BOARDS: &str = "fresh 2 1664\nset 1 number 0 1\nwire 0 0 1 0\nset 0 enable 0 1\n\
+const TWO_BOARDS: &str = "blank 2 1664\nset 1 number 0 1\nwire 0 0 1 0\nset 0 enable 0 1\n\
                           set 1 enable 0 1\nset 0 hello 0 0\nset 1 hello 0 0\n";
 
 /// One board of number 0.
-const ONE_BOARD: &str = "fresh 1 832\n";
+const ONE_BOARD: &str = "blank 1 832\n";
+
+/// The same as the boot ROM leaves it.
+const BOOTED_BOARD: &str = "fresh 1 832\n";
 
 fn times(count: usize, line: &str) -> String {
     format!("{line}\n").repeat(count)
@@ -70,8 +73,8 @@ fn a_header_waits_for_its_links() {
                   output 0 0 data 1\noutput 0 1 data 1\noutput 0 2 data 1\nstep 0 8\nstep 0 9\n";
     let shown = said("show", &on_one(script), &[]);
     let wait =
-        "board 0 port 10 (from the tile): waits for link C, in use by port 8 (from the tile) \
-                or link F, in use by port 9 (from the tile)\n";
+        "board 0 port 10 (from the tile): waits for link C (no cable), in use by port 8 (from the \
+                tile) or link F (no cable), in use by port 9 (from the tile)\n";
     assert!(shown.contains(wait), "{shown}");
 }
 
@@ -88,9 +91,45 @@ fn a_circuit_waits_for_credit() {
         ),
     ];
     for (cable, lack) in cases {
-        let script = format!("fresh 2 1664\n{cable}set 0 enable 0 1\nset 1 number 0 1\n{sent}");
+        let script = format!("blank 2 1664\n{cable}set 0 enable 0 1\nset 1 number 0 1\n{sent}");
         assert_wait(&script, &format!("{place} {lack}"));
     }
+}
+
+/// Four messages for number 1, each from a port of its own, and what its first Step has done.
+fn four_messages() -> String {
+    let message = |end: usize| {
+        let sent = format!("aim 0 {end} channel 1 0 0\noutput 0 {end} data 1\n");
+        sent + &format!("step 0 {}\n", 8 + end)
+    };
+    (0..4).map(message).collect()
+}
+
+/// The links that Fresh leaves enabled are taken one by one, and each keeps its circuit waiting.
+#[test]
+fn circuits_of_a_fresh_board_wait_for_a_cable() {
+    let shown = said("show", &(BOOTED_BOARD.to_owned() + &four_messages()), &[]);
+    for (port, link) in (8..).zip(["E", "F", "G", "H"]) {
+        let place = format!("board 0 port {port} (from the tile)");
+        let wait = format!("{place}: waits for credit on link {link}, which has no cable\n");
+        assert!(shown.contains(&wait), "{shown}");
+    }
+}
+
+/// A header that finds all four taken waits for one of them; that they have no cable is said. It is
+/// the reply to a message that names channel 3 of number 1 for it, and no more.
+#[test]
+fn a_header_of_a_fresh_board_waits_for_links_with_no_cable() {
+    let message = "aim 0 0 control 0 0 0\noutput 0 0 control 0xC1\noutput 0 0 data 0\n\
+                   output 0 0 data 1\noutput 0 0 data 3\noutput 0 0 control 1\n";
+    let asked = message.to_owned() + &times(6, "step 0 8");
+    let script = BOOTED_BOARD.to_owned() + &asked + &four_messages();
+    let shown = said("show", &script, &[]);
+    let wait = "board 0 port 12 (replies): waits for link E (no cable), in use by port 8 (from the \
+                tile) or link F (no cable), in use by port 9 (from the tile) or link G (no cable), \
+                in use by port 10 (from the tile) or link H (no cable), in use by port 11 (from the \
+                tile)\n";
+    assert!(shown.contains(wait), "{shown}");
 }
 
 /// The far port is full: nobody steps it on.
@@ -166,6 +205,69 @@ fn ending(script: &str, question: &str) -> String {
     let said = said("route", script, &words);
     let last = said.lines().last().expect("a last line");
     last.to_owned()
+}
+
+/// After Fresh an END for another number takes a link and waits, after blank it has none.
+#[test]
+fn an_end_on_a_board_that_nobody_has_set() {
+    let waits =
+        "ends: Waiting at board 0 port 8 (from the tile), for credit on link E, which has no \
+                 cable";
+    let no_way = "ends: NoRoute at board 0, no enabled link of that network leads there";
+    for (start, expected) in [(BOOTED_BOARD, waits), (ONE_BOARD, no_way)] {
+        assert_eq!(ending(start, "0 1 7"), expected);
+    }
+    assert_eq!(ending(BOOTED_BOARD, "0 1 7 1"), no_way, "on network 1");
+}
+
+/// Four links that the boot ROM leaves enabled are one line, and the bits that lead to them another.
+#[test]
+fn a_board_that_nobody_has_set_is_shown_in_few_lines() {
+    let board = "board 0: number 0, three-byte headers\n";
+    assert_eq!(said("show", ONE_BOARD, &[]), board);
+    let fresh = "board 0: bits 0..15 lead to direction 0, links E F G H\n\
+                 board 0 links E F G H: enabled, direction 0, network 0, no cable\n";
+    assert_eq!(said("show", BOOTED_BOARD, &[]), board.to_owned() + fresh);
+}
+
+/// Links share a line where all that is said of them is the same, and they have no cable.
+#[test]
+fn links_that_are_alike_share_a_line() {
+    let calls = "set 0 linkdirection 5 2\nset 0 enable 7 0\nset 0 linkdirection 1 3\n\
+                 set 0 linkdirection 2 3\nset 0 enable 3 1\nwire 0 4 0 0\nset 0 enable 0 1\n";
+    let shown = said("show", &(BOOTED_BOARD.to_owned() + calls), &[]);
+    let lines = shown.lines().filter(|line| line.contains(" link"));
+    let expected = [
+        "board 0: bits 0..15 lead to direction 0, links A D E G",
+        "board 0 link A: cable to board 0 link E",
+        "board 0 link A: enabled, direction 0, network 0",
+        "board 0 link A: not greeted, so no credit",
+        "board 0 links B C: disabled, direction 3, network 0",
+        "board 0 links D G: enabled, direction 0, network 0, no cable",
+        "board 0 link E: cable to board 0 link A",
+        "board 0 link E: enabled, direction 0, network 0",
+        "board 0 link E: not greeted, so no credit",
+        "board 0 link F: enabled, direction 2, network 0, no cable",
+    ];
+    assert!(lines.eq(expected), "{shown}");
+}
+
+/// A picture has links with no cable where somebody has set them or a circuit is open by them.
+#[test]
+fn a_picture_leaves_out_links_with_no_cable() {
+    let rows = |calls: &str| {
+        let drawn = said("draw", &(BOOTED_BOARD.to_owned() + calls), &[]);
+        let rows: Vec<String> = drawn.split('>').map(str::to_owned).collect();
+        let links = rows.into_iter().filter(|row| row.starts_with("link "));
+        links.collect::<Vec<_>>()
+    };
+    assert!(rows("").is_empty());
+    let set = "link F: enabled, direction 2, network 0, no cable</td";
+    assert_eq!(rows("set 0 linkdirection 5 2\n"), [set]);
+    let sent = "aim 0 0 channel 1 7 0\noutput 0 0 data 5\n";
+    assert!(rows(sent).is_empty());
+    let used = "link E: enabled, direction 0, network 0, no cable</td";
+    assert_eq!(rows(&format!("{sent}step 0 8\n")), [used]);
 }
 
 /// The number of every refusal that an END can meet.
@@ -272,12 +374,12 @@ fn the_sink_and_the_control_unit_arrive() {
 /// A script that makes no network has nothing to show.
 #[test]
 fn no_network_is_no_answer() {
-    let path = script_file("fresh 17 0\n");
+    let path = script_file("fresh 17 0\nblank 17 0\n");
     for words in [&["show", &path][..], &["draw", &path], &["matrix", &path]] {
         let output = bench(words);
         assert_eq!(output.status.code(), Some(2));
         assert_eq!(text(&output.stdout), "");
-        let expected = format!("{path}: no network: no fresh of it succeeds\n");
+        let expected = format!("{path}: no network: no fresh or blank of it succeeds\n");
         assert_eq!(text(&output.stderr), expected);
     }
 }

@@ -21,6 +21,10 @@ fn form(call: &Call) -> (&'static str, Vec<usize>) {
             nodes,
             memory_words,
         } => ("fresh", vec![nodes, memory_words]),
+        Call::Blank {
+            nodes,
+            memory_words,
+        } => ("blank", vec![nodes, memory_words]),
         Call::Wire { one, other } => ("wire", vec![one.slot, one.link, other.slot, other.link]),
         Call::Set { slot, setting } => set_form(slot, setting),
         Call::Hello { slot, link } => ("hello", vec![slot, link]),

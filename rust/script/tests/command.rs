@@ -26,6 +26,7 @@ fn calls(text: &str) -> Vec<&str> {
 fn the_scripts_beside_it_agree() {
     for path in scripts() {
         let stated = std::fs::read_to_string(&path).expect("a script");
+        assert_eq!(stated.lines().next(), Some(script::HEAD), "{path:?}");
         let output = bench(&["check", path.to_str().expect("a path")]);
         let printed = text(&output.stdout) + &text(&output.stderr);
         assert_eq!(output.status.code(), Some(0), "{printed}");
@@ -56,8 +57,9 @@ fn the_scripts_beside_it_have_every_answer() {
 
 /// The numbers for no that document 01 has for each call.
 #[rustfmt::skip]
-const REFUSALS: [(&str, &[u32]); 14] = [
+const REFUSALS: [(&str, &[u32]); 15] = [
     ("fresh", &[1, 2]),
+    ("blank", &[1, 2]),
     ("wire", &[1, 2, 3, 4]),
     ("set number", &[1, 2, 3]),
     ("set width", &[1, 2, 3]),
@@ -156,7 +158,7 @@ fn a_bad_line_is_named() {
         ),
         (
             "jump 1",
-            "expected fresh, wire, set, aim, output, input, step or steps, found jump",
+            "expected fresh, blank, wire, set, aim, output, input, step or steps, found jump",
         ),
         (
             "wire 0 0 1",
@@ -188,6 +190,32 @@ fn a_bad_line_is_named() {
     }
 }
 
+/// A start of either kind makes the network anew, and one that is refused leaves it.
+#[test]
+fn a_later_start_replaces_the_network() {
+    let printed = |script: &str| {
+        let path = file("starts.txt", script);
+        let output = bench(&["run", &path]);
+        assert!(output.status.success(), "{}", text(&output.stderr));
+        let lines = text(&output.stdout);
+        let ends = lines.lines().filter_map(|line| line.split_once(" -> "));
+        ends.map(|(_, end)| end.to_owned()).collect::<Vec<_>>()
+    };
+    let starts = ["fresh 2 1664\n", "blank 2 1664\n"];
+    let alone = starts.map(|start| printed(start).remove(0));
+    assert_ne!(alone[0], alone[1], "links E..H are enabled or are not");
+    for first in starts {
+        for (later, expected) in starts.iter().zip(&alone) {
+            let before = format!("{first}set 1 number 0 5\nfresh 3 1664\nblank 17 1664\n");
+            let made = printed(&(before + later));
+            assert_eq!(made[4], *expected, "{first}{later}");
+            let (_, kept) = made[1].split_once(' ').expect("a digest");
+            assert_eq!(made[2], format!("no 1 {kept}"));
+            assert_eq!(made[3], format!("no 2 {kept}"));
+        }
+    }
+}
+
 /// A board's message to its own control unit; nobody is named for the reply.
 const MESSAGE: &str = "fresh 1 832\n\
                        aim 0 0 control 0 0 0\n\
@@ -212,7 +240,7 @@ fn an_unsound_memory_is_explained() {
     let path = file("unsound.txt", "fresh 1 831\nset 0 width 0 1\n");
     let output = bench(&["run", &path]);
     assert!(output.status.success());
-    let expected = "// asks 1\n\
+    let expected = "// asks 1,7\n\
                     fresh 1 831 -> no 1 # 0000000000000000\n\
                     set 0 width 0 1 -> no 1 # 0000000000000000\n";
     assert_eq!(text(&output.stdout), expected);
@@ -231,7 +259,7 @@ fn an_unsound_memory_is_explained_for_a_list() {
     );
     let output = bench(&["run", &path]);
     assert!(output.status.success());
-    let expected = "// asks 1\n\
+    let expected = "// asks 1,7\n\
                     steps 0 -> results # 0000000000000000\n\
                     steps 1 0 8 0 8 -> no 2 # 0000000000000000\n\
                     steps 2 0 8 0 8 -> results no 1; no 1 # 0000000000000000\n";
@@ -272,6 +300,8 @@ fn other_words() {
     assert!(text(&missing.stderr).starts_with("no-such-file: "));
     let help = bench(&["--help"]);
     assert!(help.status.success());
+    assert!(text(&help.stdout).contains("  fresh NODES MEMORY_WORDS\n"));
+    assert!(text(&help.stdout).contains("  blank NODES MEMORY_WORDS\n"));
     assert!(text(&help.stdout).contains("  wire SLOT LINK SLOT LINK\n"));
     assert!(text(&help.stdout).contains("  steps RESULTS SLOT PORT SLOT PORT ..\n"));
 }

@@ -16,7 +16,8 @@ use common::{bench, scripts_in, text};
 
 /// What `route` is asked of the examples: SLOT NUMBER CHANNEL [NETWORK].
 #[rustfmt::skip]
-const ROUTES: [(&str, &[&str]); 8] = [
+const ROUTES: [(&str, &[&str]); 9] = [
+    ("boot", &["0 1 7", "1 0 7", "0 2 7", "2 1 7", "0 1 7 1"]),
     ("deadlock", &["0 1 1", "1 0 control"]),
     ("half-update", &["1 0 7", "0 1 3", "1 4 7", "2 2 7", "3 0 control", "0 4 control"]),
     ("head-after", &["1 0 7", "1 4 7", "1 9 7", "0 4 255"]),
@@ -49,8 +50,25 @@ fn the_examples_agree_and_say_what_they_show() {
         let output = bench(&["check", &path_of(&example)]);
         assert!(output.status.success(), "{}", text(&output.stderr));
         let script = std::fs::read_to_string(path_of(&example)).expect("a script");
-        assert!(script.starts_with("// "), "{example}");
+        let (head, rest) = script.split_once('\n').expect("lines");
+        assert_eq!(head, script::HEAD, "{example}");
+        assert!(rest.starts_with("// "), "{example}");
+        assert!(
+            says_why(rest),
+            "{example} says which start it needs, and why"
+        );
     }
+}
+
+/// Whether the comments before the first call name its start: `// fresh: ..` or `// blank: ..`.
+fn says_why(script: &str) -> bool {
+    let start = script.lines().find(|line| !line.starts_with("//"));
+    let word = start
+        .and_then(|line| line.split(' ').next())
+        .expect("a call");
+    let reason = format!("// {word}: ");
+    let comments = script.lines().take_while(|line| line.starts_with("//"));
+    comments.into_iter().any(|line| line.starts_with(&reason))
 }
 
 /// What a verb prints, and its exit status.

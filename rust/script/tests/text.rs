@@ -35,12 +35,18 @@ fn settings_in_words() {
 }
 
 #[test]
-fn fresh_wire_and_step_in_words() {
+fn starts_wire_and_step_in_words() {
+    let (nodes, memory_words) = (2, 1664);
     let fresh = Call::Fresh {
-        nodes: 2,
-        memory_words: 1664,
+        nodes,
+        memory_words,
     };
     reads("fresh 2 1664", fresh);
+    let blank = Call::Blank {
+        nodes,
+        memory_words,
+    };
+    reads("blank 2 1664", blank);
     let wire = Call::Wire {
         one: LinkEnd { slot: 0, link: 1 },
         other: LinkEnd { slot: 2, link: 3 },
@@ -165,9 +171,9 @@ fn lines_are_counted_through() {
 
 /// Lines that are no call, and what was expected.
 #[rustfmt::skip]
-const BAD_LINES: [(&str, &str); 44] = [
-    ("jump 0 0", "expected fresh, wire, set, aim, output, input, step or steps, found jump"),
-    ("-> done # 0000000000000000", "expected fresh, wire, set, aim, output, input, step or steps, found nothing"),
+const BAD_LINES: [(&str, &str); 46] = [
+    ("jump 0 0", "expected fresh, blank, wire, set, aim, output, input, step or steps, found jump"),
+    ("-> done # 0000000000000000", "expected fresh, blank, wire, set, aim, output, input, step or steps, found nothing"),
     ("step 0", "expected a port, found nothing (step SLOT PORT)"),
     ("step 0 0 0", "expected no more words, found 0 (step SLOT PORT)"),
     ("step 0 x", "expected a port, found x (step SLOT PORT)"),
@@ -178,6 +184,8 @@ const BAD_LINES: [(&str, &str); 44] = [
     ("step 0X1 0", "expected a slot, found 0X1 (step SLOT PORT)"),
     ("step 18446744073709551616 0", "expected a slot, found 18446744073709551616 (step SLOT PORT)"),
     ("fresh 1", "expected a number of memory words, found nothing (fresh NODES MEMORY_WORDS)"),
+    ("blank 1", "expected a number of memory words, found nothing (blank NODES MEMORY_WORDS)"),
+    ("blank 1 832 0", "expected no more words, found 0 (blank NODES MEMORY_WORDS)"),
     ("set 0 colour 0 0", "expected number, width, direction, linkdirection, network, enable or hello, found colour (set SLOT SETTING INDEX VALUE)"),
     ("set 0 number 1 0", "expected 0 as the index, found 1 (set SLOT SETTING INDEX VALUE)"),
     ("set 0 hello 1 1", "expected 0 as the value, found 1 (set SLOT SETTING INDEX VALUE)"),

@@ -13,6 +13,7 @@ struct record {
 };
 
 u64 tarvelgyo_fresh(u32 *, u64, u16 *, u64, u64 nodes);
+u64 tarvelgyo_blank(u32 *, u64, u16 *, u64, u64 nodes);
 u64 tarvelgyo_wire(u32 *, u64, const u16 *, u64, u64 slot, u64 link, u64 far_slot, u64 far_link);
 u64 tarvelgyo_set_number(u32 *, u64, const u16 *, u64, u64 slot, u32 value);
 u64 tarvelgyo_set_width(u32 *, u64, const u16 *, u64, u64 slot, u32 value);
@@ -48,12 +49,12 @@ static u64 *results;
 static u64 room;
 static const u64 unwritten = 0xDEAD;
 
-// A Fresh is made on memories of its own, which take the place of the old ones where it is done.
-static u64 fresh(u64 nodes, u64 lent) {
+// A start is made on memories of its own, which take the place of the old ones where it is done.
+static u64 started(u64 start(u32 *, u64, u16 *, u64, u64), u64 nodes, u64 lent) {
     u64 size = (nodes < 16 ? nodes : 16) * tarvelgyo_state_words();
     u32 *new_state = calloc(size + 1, sizeof(u32));
     u16 *new_memory = calloc(lent + 1, sizeof(u16));
-    u64 answer = tarvelgyo_fresh(new_state, size, new_memory, lent, nodes);
+    u64 answer = start(new_state, size, new_memory, lent, nodes);
     if (answer >> 32 == 1) {
         state = new_state, memory = new_memory;
         words = size, tokens = lent;
@@ -85,7 +86,8 @@ static u64 answer(const char *called) {
     room = 0;
     if (!strcmp(called, "steps")) return steps();
     u64 a = number(), b = number(), c = number(), d = number(), e = number();
-    if (!strcmp(called, "fresh")) return fresh(a, b);
+    if (!strcmp(called, "fresh")) return started(tarvelgyo_fresh, a, b);
+    if (!strcmp(called, "blank")) return started(tarvelgyo_blank, a, b);
     CALL(wire, a, b, c, d);
     CALL(set_number, a, b);
     CALL(set_width, a, b);
