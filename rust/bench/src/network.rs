@@ -92,8 +92,8 @@ impl Bench {
     /// Blank: the same with every link disabled, A..H.
     ///
     /// This is the start where a link is to be used only once it has been set: a header for another
-    /// number finds none, and is refused. It is the Fresh of document 01; document 02 gave its name
-    /// to the other.
+    /// number finds none, and is refused. Document 01 calls it Fresh; document 02 gave that name to
+    /// the other.
     ///
     /// ```
     /// use bench::{Bench, Refusal};
