@@ -22,11 +22,25 @@ pub struct Library {
     pub lent: Lent,
 }
 
+/// A start, on memories that are lent to it.
+type Start = fn(&mut [u32], &mut [u16], usize) -> bench::Answer;
+
 impl Library {
     pub fn at(state: &State) -> Library {
         let begin = state.lent.clone();
         let lent = begin.clone();
         Library { begin, lent }
+    }
+
+    /// A host lends memories of the lengths that it asks for, and keeps them.
+    fn start(&mut self, start: Start, nodes: usize, memory_words: usize) -> Answer {
+        self.lent.state.resize(nodes * raw::state_words(), 0);
+        self.lent.memory.resize(memory_words, 0);
+        let Lent { state, memory } = &mut self.lent;
+        match start(state, memory, nodes) {
+            bench::Answer::Done => Answer::Done,
+            refused => unreachable!("no measure has a start that is refused: {refused:?}"),
+        }
     }
 }
 
@@ -36,21 +50,17 @@ impl Side for Library {
     }
 
     fn make(&mut self, call: &Call) -> Answer {
-        // A host lends memories of the lengths that it asks for, and keeps them.
-        if let Call::Fresh {
-            nodes,
-            memory_words,
-        } = *call
-        {
-            self.lent.state.resize(nodes * raw::state_words(), 0);
-            self.lent.memory.resize(memory_words, 0);
-            let Lent { state, memory } = &mut self.lent;
-            return match raw::fresh(state, memory, nodes) {
-                bench::Answer::Done => Answer::Done,
-                refused => unreachable!("no measure has a Fresh that is refused: {refused:?}"),
-            };
+        match *call {
+            Call::Fresh {
+                nodes,
+                memory_words,
+            } => self.start(raw::fresh, nodes, memory_words),
+            Call::Blank {
+                nodes,
+                memory_words,
+            } => self.start(raw::blank, nodes, memory_words),
+            _ => calls::make(&mut self.lent, call),
         }
-        calls::make(&mut self.lent, call)
     }
 
     fn is_sound(&self) -> bool {
@@ -95,7 +105,7 @@ impl Side for Model {
     }
 }
 
-/// The baseline; before its first Fresh it has no nodes.
+/// The baseline; before its first start it has no nodes.
 pub struct Baseline {
     begin: Box<baseline::Network>,
     pub network: Box<baseline::Network>,

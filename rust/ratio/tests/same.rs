@@ -10,7 +10,7 @@ use compare::damaged::{other_things, other_words};
 use compare::layout::{NODE_TOKENS, NODE_WORDS};
 use compare::{choice, filling};
 use model::answers::{Cause, Opening};
-use model::network::{Hop, LinkEnd};
+use model::network::{Hop, LinkEnd, Start};
 use model::random::Random;
 use model::runs::Runner;
 use model::set::Setting;
@@ -114,6 +114,48 @@ fn runs_that_fill_ports_and_channel_ends() {
         }
     }
     println!("{} calls, {} not refused", made.calls, made.done);
+}
+
+/// Either start, of every count and of lengths about the right one, on nothing and on a network.
+#[test]
+fn every_start() {
+    let mut made = Made::default();
+    let begins = [Lent::default(), half_full(2).lent];
+    for start in Start::ALL {
+        for nodes in 0..=17 {
+            let whole = nodes * NODE_TOKENS;
+            for memory_words in [whole.saturating_sub(1), whole, whole + 1] {
+                let call = Call::beginning(start, nodes, memory_words);
+                for lent in &begins {
+                    compare(lent, &call, "a start", &mut made);
+                }
+            }
+        }
+    }
+    // A start is done where it has 1 to 16 nodes and the right length, and from nothing too.
+    assert_eq!(made.done, 2 * 2 * 16);
+}
+
+/// Cables between links A and E of two boards, each disabled or enabled, unwired or wired.
+#[test]
+fn every_wire() {
+    let mut made = Made::default();
+    let end = |slot, link| LinkEnd { slot, link };
+    let wire = |one, other| Call::Wire { one, other };
+    for start in Start::ALL {
+        let mut lent = Lent::default();
+        make(&mut lent, &Call::beginning(start, 2, 2 * NODE_TOKENS));
+        let mut wired = lent.clone();
+        make(&mut wired, &wire(end(0, 0), end(1, 4)));
+        for lent in [&lent, &wired] {
+            for (near, far) in [(0, 0), (0, 4), (4, 0), (4, 4)] {
+                let call = wire(end(0, near), end(1, far));
+                compare(lent, &call, "a cable", &mut made);
+            }
+        }
+    }
+    // Of the four on wired boards only that between the two other links is done.
+    assert_eq!((made.calls, made.done), (2 * 8, 2 * (4 + 1)));
 }
 
 /// A board with a cable from link A to link B, this credit on A, and so many tokens, which are being

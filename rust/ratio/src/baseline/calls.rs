@@ -1,6 +1,8 @@
-//! The door: every call but Fresh tests the state first.
+//! The door: every call but the two starts tests the state first.
 
-use model::sizes::MOST_NODES;
+use std::ops::Range;
+
+use model::sizes::{BOOT_LINKS, MOST_NODES};
 use model::tokens::THREE_BYTES;
 use model::{Answer, Call, No, StepRecord};
 
@@ -13,7 +15,11 @@ impl Network {
             Call::Fresh {
                 nodes,
                 memory_words,
-            } => self.fresh(nodes, memory_words),
+            } => self.start(BOOT_LINKS, nodes, memory_words),
+            Call::Blank {
+                nodes,
+                memory_words,
+            } => self.start(0..0, nodes, memory_words),
             Call::Steps {
                 results,
                 ref records,
@@ -26,7 +32,7 @@ impl Network {
 
     fn make_on_sound(&mut self, call: &Call) -> Result<Answer, No> {
         match *call {
-            Call::Fresh { .. } | Call::Steps { .. } => Err(No::Unsound),
+            Call::Fresh { .. } | Call::Blank { .. } | Call::Steps { .. } => Err(No::Unsound),
             Call::Wire { one, other } => self.wire(one, other),
             Call::Set { slot, setting } => self.set(slot, setting),
             Call::Aim {
@@ -59,7 +65,13 @@ impl Network {
         Ok(Answer::Results(each.collect()))
     }
 
-    fn fresh(&mut self, nodes: usize, memory_words: usize) -> Result<Answer, No> {
+    /// A start that leaves these links of every node enabled.
+    fn start(
+        &mut self,
+        enabled: Range<usize>,
+        nodes: usize,
+        memory_words: usize,
+    ) -> Result<Answer, No> {
         if !(1..=MOST_NODES).contains(&nodes) {
             return Err(No::NoSuch);
         }
@@ -70,6 +82,9 @@ impl Network {
         for node in &mut self.nodes[..nodes] {
             *node = Node::default();
             node.width = THREE_BYTES;
+            for link in &mut node.links[enabled.clone()] {
+                link.enabled = 1;
+            }
         }
         Ok(Answer::Done)
     }

@@ -10,12 +10,11 @@ use super::records::{Link, Network, Node};
 
 impl Network {
     pub(super) fn wire(&mut self, one: LinkEnd, other: LinkEnd) -> Result<Answer, No> {
-        let busy = |link: &Link| link.wired == 1 || link.enabled == 1;
-        let busy_ends = busy(self.link(one)?) | busy(self.link(other)?);
+        let wired_ends = self.link(one)?.wired | self.link(other)?.wired;
         if one == other {
             return Err(No::Value);
         }
-        if busy_ends {
+        if wired_ends == 1 {
             return Err(No::Busy);
         }
         self.link(one)?.lead_to(other);
