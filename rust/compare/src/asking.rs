@@ -5,7 +5,7 @@
 mod boards;
 
 use model::calls::Call;
-use model::network::{Network, Node};
+use model::network::{Network, Node, Start};
 use model::random::Random;
 use model::set::Setting;
 use model::sizes::{CHANNELS, TILE_PORTS};
@@ -13,7 +13,7 @@ use model::speech;
 use model::tokens::{Destination, Kind, Token, END, SINK};
 use model::{Answer, No};
 
-use crate::choice::{busy_ports, list_of};
+use crate::choice::{busy_ports, list_of, plug};
 use boards::{NODES, OWN, OWN_BIT, OWN_START};
 
 /// A run of that many calls on two boards. The same seed gives the same run.
@@ -82,7 +82,8 @@ impl Asking {
     fn start_anew(&mut self) {
         let number = self.random.pick(&[0, 0, 0x0120, 0xFF00]).unwrap_or(0);
         self.settings = boards::settings(number);
-        for call in boards::cabling() {
+        let start = self.random.pick(&Start::ALL).unwrap_or(Start::Fresh);
+        for call in boards::cabling(start) {
             self.make(call);
         }
         self.mend();
@@ -95,6 +96,9 @@ impl Asking {
             9..=11 => self.greet_over_own_cable(),
             12..=15 => self.ask_to_disable_a_link_in_use(),
             _ => self.ask_at_once(),
+        }
+        if self.random.chance(20) {
+            self.plug();
         }
         if self.random.chance(85) {
             self.take_replies();
@@ -112,6 +116,14 @@ impl Asking {
 
     fn set(&mut self, slot: usize, setting: Setting) {
         self.make(Call::Set { slot, setting });
+    }
+
+    /// A cable for a link by which a circuit is to leave and that has none: what waits there, such as
+    /// a reply to a number that no table knows, goes on.
+    fn plug(&mut self) {
+        for call in plug(&mut self.random, self.network.as_ref()) {
+            self.make(call);
+        }
     }
 
     /// Makes the settings again that are not as they are meant to be.

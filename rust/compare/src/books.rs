@@ -144,6 +144,8 @@ pub struct Circuit {
     pub fate: Fate,
     /// Has some Step read its whole header with a switch of the other width?
     pub misread: bool,
+    /// Was a cable plugged into a link by which it was to leave?
+    pub joined: bool,
     /// The numbers of all nodes when it was opened, by slot.
     pub numbers: Vec<u32>,
 }
@@ -171,6 +173,7 @@ impl Circuit {
             handed: Vec::new(),
             fate: Fate::Flying,
             misread: false,
+            joined: false,
             numbers,
         }
     }
@@ -212,7 +215,7 @@ pub struct EndBook {
     pub open: Option<(usize, Way)>,
 }
 
-/// All that is written of a run since its last done Fresh.
+/// All that is written of a run since its last done start.
 #[derive(Clone, Debug, Default)]
 pub struct Books {
     /// Circuits, numbered as they were opened.
@@ -323,6 +326,10 @@ pub enum Happening {
     },
     /// A PAUSE came to a door and was handed to nobody.
     Paused {
+        circuit: usize,
+    },
+    /// A cable was plugged into the link by which a circuit is to leave.
+    Joined {
         circuit: usize,
     },
     /// A token crossed a cable.

@@ -38,7 +38,11 @@ pub fn make(lent: &mut Lent, call: &Call) -> Answer {
         Call::Fresh {
             nodes,
             memory_words,
-        } => fresh(lent, nodes, memory_words),
+        } => begin(raw::fresh, lent, nodes, memory_words),
+        Call::Blank {
+            nodes,
+            memory_words,
+        } => begin(raw::blank, lent, nodes, memory_words),
         Call::Wire { one, other } => {
             let (state, memory) = (&mut lent.state, &lent.memory);
             raw::wire(state, memory, one.slot, one.link, other.slot, other.link)
@@ -106,9 +110,12 @@ fn input(lent: &mut Lent, slot: usize, end: usize, kind: Kind) -> bench::Answer 
     }
 }
 
-/// Fresh is made on memories of its own, full of rubbish, which take the place of the others where
+/// One of the library's starts.
+type Start = fn(&mut [u32], &mut [u16], usize) -> bench::Answer;
+
+/// A start is made on memories of its own, full of rubbish, which take the place of the others where
 /// it succeeds.
-fn fresh(lent: &mut Lent, nodes: usize, memory_words: usize) -> bench::Answer {
+fn begin(start: Start, lent: &mut Lent, nodes: usize, memory_words: usize) -> bench::Answer {
     // More than any network needs, so that a length cut down to it is still a wrong one.
     const MOST: usize = 20_000;
     let words = nodes.min(bench::sizes::MOST_NODES + 1) * raw::state_words();
@@ -117,10 +124,10 @@ fn fresh(lent: &mut Lent, nodes: usize, memory_words: usize) -> bench::Answer {
         memory: vec![0xBAD; memory_words.min(MOST)],
     };
     let mut made = rubbish.clone();
-    let answer = raw::fresh(&mut made.state, &mut made.memory, nodes);
+    let answer = start(&mut made.state, &mut made.memory, nodes);
     match answer {
         bench::Answer::Done => *lent = made,
-        _ => assert!(made == rubbish, "a refused Fresh has changed a word"),
+        _ => assert!(made == rubbish, "a refused start has changed a word"),
     }
     answer
 }

@@ -1,10 +1,10 @@
 //! Runs in which settings change while circuits are under way: numbers, widths and directions from
 //! a few values each, so that a board takes a number for which a header was made, loses the one
-//! that it had, or goes to the other width; cables with both ends on one board, and boards joined
-//! twice.
+//! that it had, or goes to the other width; cables with both ends on one board, boards joined
+//! twice, and cables plugged into links by which circuits leave already.
 
 use model::calls::Call;
-use model::network::{memory_words, LinkEnd, Network};
+use model::network::{memory_words, LinkEnd, Network, Start};
 use model::random::Random;
 use model::set::Setting;
 use model::sizes::LINKS;
@@ -12,26 +12,28 @@ use model::speech::{self, Speech};
 use model::tokens::{Destination, Token, ONE_BYTE, SINK, THREE_BYTES};
 use model::{Answer, No};
 
-use crate::choice::{any_list, busy_ports};
+use crate::choice::{any_list, busy_ports, plug};
 
 /// A run of that many calls on one to four boards. The same seed gives the same run.
 pub fn calls(seed: u64, count: usize) -> Vec<Call> {
-    run(seed, count, false)
+    run(Changing::new(seed), count)
 }
 
 /// The same, with lists of Steps among single ones.
 pub fn calls_with_lists(seed: u64, count: usize) -> Vec<Call> {
-    run(seed, count, true)
+    let mut changing = Changing::new(seed);
+    changing.lists = true;
+    run(changing, count)
 }
 
-fn run(seed: u64, count: usize, lists: bool) -> Vec<Call> {
-    let mut changing = Changing {
-        random: Random::new(seed),
-        network: None,
-        speeches: Vec::new(),
-        calls: Vec::new(),
-        lists,
-    };
+/// The same without a cable at the start: each is plugged into a link in use.
+pub fn calls_without_cables(seed: u64, count: usize) -> Vec<Call> {
+    let mut changing = Changing::new(seed);
+    changing.cabled = false;
+    run(changing, count)
+}
+
+fn run(mut changing: Changing, count: usize) -> Vec<Call> {
     while changing.calls.len() < count {
         changing.next();
     }
@@ -56,9 +58,22 @@ struct Changing {
     calls: Vec<Call>,
     /// Are lists of Steps made, too?
     lists: bool,
+    /// Are there cables from the start on?
+    cabled: bool,
 }
 
 impl Changing {
+    fn new(seed: u64) -> Changing {
+        Changing {
+            random: Random::new(seed),
+            network: None,
+            speeches: Vec::new(),
+            calls: Vec::new(),
+            lists: false,
+            cabled: true,
+        }
+    }
+
     fn make(&mut self, call: Call) -> Answer {
         let answer = model::apply(&mut self.network, &call);
         self.calls.push(call);
@@ -81,16 +96,19 @@ impl Changing {
         }
         match self.random.below(400) {
             0 => self.start_anew(),
+            1..=2 if !self.cabled => self.start_anew(),
+            3..=12 if !self.cabled => self.plug(),
             1..=79 if self.lists => self.list(),
             1..=219 => self.step(),
             220..=319 => self.speak(),
             320..=359 => self.take(),
-            360..=379 => self.change_node(),
+            360..=376 => self.change_node(),
+            377..=379 => self.plug(),
             _ => self.change_link(),
         }
     }
 
-    /// The links of a board that have a cable: what leaves by another one waits for ever.
+    /// The links of a board that have a cable: what leaves by another one waits until it has one.
     fn wired(&self, slot: usize) -> Vec<usize> {
         let node = self.network.as_ref().map(|network| &network.nodes[slot]);
         let links =
@@ -98,15 +116,15 @@ impl Changing {
         links.collect()
     }
 
-    /// Fresh, cables, and every link that has one enabled and greeted.
+    /// Either start, cables, and every link that has one enabled and greeted.
     fn start_anew(&mut self) {
         self.speeches.clear();
         let nodes = 1 + self.random.below(4);
-        self.make(Call::Fresh {
-            nodes,
-            memory_words: memory_words(nodes).unwrap_or(0),
-        });
-        for _ in 0..3 * nodes {
+        let start = self.random.pick(&Start::ALL).unwrap_or(Start::Fresh);
+        let words = memory_words(nodes).unwrap_or(0);
+        self.make(Call::beginning(start, nodes, words));
+        let cables = if self.cabled { 3 * nodes } else { 0 };
+        for _ in 0..cables {
             let [one, other] = [(); 2].map(|()| self.link_end());
             self.make(Call::Wire { one, other });
         }
@@ -128,7 +146,12 @@ impl Changing {
             let value = self.random.below(DIRECTIONS) as u32;
             settings.push(Setting::Direction { bit, value });
         }
-        for link in self.wired(slot) {
+        let any = [(); 3].map(|()| self.random.below(LINKS));
+        let links = match self.cabled {
+            true => self.wired(slot),
+            false => any.to_vec(),
+        };
+        for link in links {
             let value = self.random.below(DIRECTIONS) as u32;
             settings.push(Setting::LinkDirection { link, value });
             settings.push(Setting::Enable { link, value: 1 });
@@ -176,6 +199,13 @@ impl Changing {
             },
         };
         self.make(Call::Set { slot, setting });
+    }
+
+    /// A cable for a link by which a circuit is to leave and that has none.
+    fn plug(&mut self) {
+        for call in plug(&mut self.random, self.network.as_ref()) {
+            self.make(call);
+        }
     }
 
     fn list(&mut self) {

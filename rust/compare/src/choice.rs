@@ -1,11 +1,13 @@
 //! Calls made up at random, with arguments in and out of range.
 
+mod cables;
 mod ends;
 
+pub use cables::plug;
 pub use ends::any_token;
 
 use model::calls::{Call, StepRecord};
-use model::network::{LinkEnd, Network};
+use model::network::{LinkEnd, Network, Start};
 use model::random::Random;
 use model::set::Setting;
 use model::sizes::{
@@ -35,19 +37,20 @@ pub fn calls(seed: u64, count: usize) -> Vec<Call> {
 pub fn any(random: &mut Random, network: Option<&Network>) -> Call {
     let nodes = network.map_or(3, |network| network.nodes.len());
     match random.below(40) {
-        0 => Call::Fresh {
-            nodes: below_or_beyond(random, MOST_NODES + 1),
-            memory_words: NODE_TOKENS * random.below(MOST_NODES + 2),
-        },
-        1..=2 => Call::Wire {
-            one: any_end(random, nodes),
-            other: any_end(random, nodes),
-        },
+        0 => any_start(random),
+        1..=2 => cables::any(random, network, nodes),
         3..=14 => any_set(random, network, nodes),
         15..=20 => any_record(random, network).into(),
         21 => any_list(random, network),
         _ => ends::any(random, network),
     }
+}
+
+fn any_start(random: &mut Random) -> Call {
+    let start = random.pick(&Start::ALL).unwrap_or(Start::Fresh);
+    let nodes = below_or_beyond(random, MOST_NODES + 1);
+    let memory_words = NODE_TOKENS * random.below(MOST_NODES + 2);
+    Call::beginning(start, nodes, memory_words)
 }
 
 /// No list that is made up among other calls has as many records.

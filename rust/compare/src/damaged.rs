@@ -61,7 +61,7 @@ fn sum(words: &[u32]) -> u64 {
 /// leaves every word as it is.
 pub fn call_on(read: Option<&Network>, lent: Lent, call: &Call) -> Result<Reached, String> {
     let no_state = read.is_none();
-    if no_state && !matches!(call, Call::Fresh { .. }) {
+    if no_state && call.start().is_none() {
         return refuses(lent, call).map(|()| Reached::default());
     }
     let mut pair = Pair::on(model::apply, read.cloned(), lent);

@@ -1,7 +1,7 @@
 //! Runs without a Step: what channel-ends put out stays, so that ports 8..11 and channel-ends fill.
 
 use model::calls::Call;
-use model::network::memory_words;
+use model::network::{memory_words, Start};
 use model::random::Random;
 use model::set::Setting;
 use model::sizes::HIGHEST_NETWORK;
@@ -16,17 +16,15 @@ const ENDS: usize = 7;
 pub fn calls(seed: u64, count: usize) -> Vec<Call> {
     let mut random = Random::new(seed);
     let nodes = 1 + random.below(2);
-    let fresh = Call::Fresh {
-        nodes,
-        memory_words: memory_words(nodes).unwrap_or(0),
-    };
+    let start = random.pick(&Start::ALL).unwrap_or(Start::Fresh);
+    let begun = Call::beginning(start, nodes, memory_words(nodes).unwrap_or(0));
     let widths = (0..nodes).map(|slot| Call::Set {
         slot,
         setting: Setting::Width {
             value: random.pick(&[1, 3]).unwrap_or(3),
         },
     });
-    let mut calls: Vec<Call> = [fresh].into_iter().chain(widths).collect();
+    let mut calls: Vec<Call> = [begun].into_iter().chain(widths).collect();
     calls.extend((0..ENDS).map(|end| aim(&mut random, end % nodes, end)));
     let closing = random.pick(&[1, 4, 15]).unwrap_or(4);
     calls.resize_with(count.max(calls.len()), || next(&mut random, nodes, closing));

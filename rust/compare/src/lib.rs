@@ -7,11 +7,11 @@
 //! [`lists`] holds a list of Steps against the same Steps one by one, and [`reached`] counts what
 //! they answered. What is called is made up by the model's own random runs, by [`choice`] from any
 //! state on, by [`filling`] where buffers are to fill, by [`asking`] for switch messages, and by
-//! [`changing`] where settings are to change under way. [`damage`] changes words at random,
-//! [`verdict`] asks both sides whether the same words are sound, and [`damaged`] all that can be
-//! asked of them. [`watch`] stands beside one of the sides, keeps [`books`] of its circuits, and
-//! says where a stream goes wrong. [`soak`] does all of it for one seed, and [`reduce`] makes a run
-//! that differs as short as it can be.
+//! [`changing`] where settings are to change and cables to come under way. [`damage`] changes words
+//! at random, [`verdict`] asks both sides whether the same words are sound, and [`damaged`] all that
+//! can be asked of them. [`watch`] stands beside one of the sides, keeps [`books`] of its circuits,
+//! and says where a stream goes wrong. [`soak`] does all of it for one seed, and [`reduce`] makes a
+//! run that differs as short as it can be.
 
 pub mod asking;
 pub mod books;

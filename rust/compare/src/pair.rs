@@ -8,13 +8,14 @@ use model::script::Outcome;
 use model::Answer;
 
 use crate::calls::{compare, Apply, Lent};
-use crate::reached::{message_ended_by, Reached};
+use crate::reached::{message_ended_by, Plugged, Reached};
 
 /// The model's state and the library's words, which say the same.
 pub struct Pair {
     apply: Apply,
     network: Option<Network>,
     lent: Lent,
+    plugged: Plugged,
     reached: Reached,
 }
 
@@ -30,6 +31,7 @@ impl Pair {
             apply,
             network: network.cloned(),
             lent: Lent::of(network, &mut random),
+            plugged: Plugged::default(),
             reached: Reached::default(),
         }
     }
@@ -40,6 +42,7 @@ impl Pair {
             apply,
             network,
             lent,
+            plugged: Plugged::default(),
             reached: Reached::default(),
         }
     }
@@ -57,6 +60,7 @@ impl Pair {
     /// Makes a call on both sides and says how they differ behind it.
     pub fn call(&mut self, call: &Call) -> Result<(), String> {
         let ending = message_ended_by(self.network.as_ref(), call);
+        let cable = self.plugged.touched_by(self.network.as_ref(), call);
         let before = match call {
             Call::Steps { .. } => self.network.clone(),
             _ => None,
@@ -64,8 +68,10 @@ impl Pair {
         let answer = compare(self.apply, &mut self.network, &mut self.lent, call)?;
         let after = self.network.as_ref();
         self.reached.call(ending, call, &answer, after);
+        self.reached.cable(&mut self.plugged, cable, &answer);
         if let (Call::Steps { records, .. }, Answer::Results(each)) = (call, &answer) {
-            self.reached.records(before, records, each);
+            let plugged = &mut self.plugged;
+            self.reached.records(plugged, before, records, each);
         }
         Ok(())
     }

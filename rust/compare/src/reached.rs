@@ -1,6 +1,8 @@
-//! What compared calls have reached: how often each call gave each answer, and each switch message
-//! each of its ends. A call is counted where both sides gave the answer and were left the same.
+//! What compared calls have reached: how often each call gave each answer, each switch message each
+//! of its ends, and what cables were plugged into. A call is counted where both sides gave the answer
+//! and were left the same.
 
+mod cables;
 mod ends;
 
 use std::collections::BTreeMap;
@@ -11,15 +13,16 @@ use model::answers::{Cause, Opening};
 use model::calls::Call;
 use model::network::Network;
 use model::set::Setting;
-use model::step::step;
 use model::{Answer, No, StepRecord};
 
+pub(crate) use cables::{Cable, Plugged};
 use ends::Message;
 
 /// What can be reached, by call: its answers, and each number for no that document 01 has for it.
 #[rustfmt::skip]
-const CASES: [(&str, &[&str]); 17] = [
+const CASES: [(&str, &[&str]); 20] = [
     ("fresh", &["done", "no 1", "no 2"]),
+    ("blank", &["done", "no 1", "no 2"]),
     ("wire", &["done", "no 1", "no 2", "no 3", "no 4"]),
     ("set number", &["done", "no 1", "no 2", "no 3"]),
     ("set width", &["done", "no 1", "no 2", "no 3"]),
@@ -36,6 +39,8 @@ const CASES: [(&str, &[&str]); 17] = [
     ("record of steps", STEP),
     ("message answered", ends::ANSWERED),
     ("message not answered", ends::NOT_ANSWERED),
+    ("cable, its ends", cables::WIRED),
+    ("over a cable wired in use", cables::CROSSED),
 ];
 
 /// What a Step can answer, alone or as a record of a list.
@@ -46,7 +51,8 @@ const STEP: &[&str] = &[
     "unheard", "no 1", "no 2",
 ];
 
-/// A call, and what it answered; a record of a list, and what it did; or a message, and its end.
+/// A call, and what it answered; a record of a list, and what it did; a message, and its end; or a
+/// cable, and its ends or what went over it.
 type Case = (&'static str, &'static str);
 
 /// How often each case was reached.
@@ -88,6 +94,13 @@ impl Reached {
         self.ended(ending, answer, after);
     }
 
+    /// Counts what a call did with a cable, and has it remembered.
+    pub(crate) fn cable(&mut self, plugged: &mut Plugged, cable: Option<Cable>, answer: &Answer) {
+        if let Some(case) = plugged.note(cable, answer) {
+            self.count(case);
+        }
+    }
+
     fn ended(&mut self, ending: Option<Message>, answer: &Answer, after: Option<&Network>) {
         let ended = ending.zip(after);
         if let Some(case) = ended.and_then(|(message, after)| message.case(answer, after)) {
@@ -99,16 +112,20 @@ impl Reached {
     /// they ended: what is not refused is done once more, to see the states between.
     pub(crate) fn records(
         &mut self,
+        plugged: &mut Plugged,
         mut network: Option<Network>,
         records: &[StepRecord],
         each: &[Answer],
     ) {
         for (record, answer) in records.iter().zip(each) {
             self.count(("record of steps", answer_name(answer)));
-            let ending = message_ended_by(network.as_ref(), &(*record).into());
+            let step = (*record).into();
+            let ending = message_ended_by(network.as_ref(), &step);
+            let cable = plugged.touched_by(network.as_ref(), &step);
+            self.cable(plugged, cable, answer);
             if let (Some(network), false) = (&mut network, matches!(answer, Answer::No(_))) {
                 // The answer is known.
-                let _ = step(network, record.slot, record.port);
+                let _ = model::step::step(network, record.slot, record.port);
             }
             self.ended(ending, answer, network.as_ref());
         }
@@ -154,6 +171,7 @@ impl fmt::Display for Reached {
 fn call_name(call: &Call) -> &'static str {
     match call {
         Call::Fresh { .. } => "fresh",
+        Call::Blank { .. } => "blank",
         Call::Wire { .. } => "wire",
         Call::Set { setting, .. } => setting_name(setting),
         Call::Aim { .. } => "aim",

@@ -83,7 +83,7 @@ fn numbers(calls: &[Call]) -> BTreeSet<String> {
     numbers.map(str::to_owned).collect()
 }
 
-/// A call with 0 wherever it has that number; a Fresh, and the length of a list's results, are left as
+/// A call with 0 wherever it has that number; a start, and the length of a list's results, are left as
 /// they are.
 fn with_nought(call: &Call, number: &str) -> Call {
     if let Call::Steps { results, records } = call {
@@ -100,18 +100,24 @@ fn with_nought(call: &Call, number: &str) -> Call {
     let text = call.to_string();
     let nought = |word| if word == number { "0" } else { word };
     let words: Vec<&str> = text.split(' ').map(nought).collect();
-    match call {
-        Call::Fresh { .. } => call.clone(),
-        _ => parse_call(&words.join(" ")).unwrap_or(call.clone()),
+    match call.start() {
+        Some(_) => call.clone(),
+        None => parse_call(&words.join(" ")).unwrap_or(call.clone()),
     }
 }
 
-/// A Fresh of fewer nodes, the fewest first.
+/// The same start of fewer nodes, the fewest first.
 fn fewer_nodes(call: &Call) -> Vec<Call> {
-    match *call {
-        Call::Fresh { nodes, .. } => (1..nodes.min(MOST_NODES + 1)).filter_map(fresh).collect(),
-        _ => Vec::new(),
-    }
+    let (Some(start), Call::Fresh { nodes, .. } | Call::Blank { nodes, .. }) = (call.start(), call)
+    else {
+        return Vec::new();
+    };
+    let fewer = 1..(*nodes).min(MOST_NODES + 1);
+    let begun = fewer.filter_map(|nodes| {
+        let memory_words = memory_words(nodes)?;
+        Some(Call::beginning(start, nodes, memory_words))
+    });
+    begun.collect()
 }
 
 /// A list without a part of its records, large parts first. Results of the right length stay so.
@@ -133,14 +139,6 @@ fn fewer_records(call: &Call) -> Vec<Call> {
         records: kept,
     });
     shorter.collect()
-}
-
-fn fresh(nodes: usize) -> Option<Call> {
-    let memory_words = memory_words(nodes)?;
-    Some(Call::Fresh {
-        nodes,
-        memory_words,
-    })
 }
 
 /// The reduced run in the script format: what differs, and the model's side stated.

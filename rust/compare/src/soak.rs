@@ -142,14 +142,20 @@ pub fn ask(apply: Apply, seed: u64, count: usize) -> Result<Figures, Found> {
     all(apply, &asking::calls(seed, count))
 }
 
+/// A run whose cables are plugged into links in use.
+pub fn plug(apply: Apply, seed: u64, count: usize) -> Result<Figures, Found> {
+    all(apply, &changing::calls_without_cables(seed, count))
+}
+
 /// Runs of every kind on the library alone, with a watcher beside it.
 pub fn watched(seed: u64, count: usize) -> Result<Figures, Found> {
-    let makers: [Maker; 5] = [
+    let makers: [Maker; 6] = [
         runs::calls,
         choice::calls,
         filling::calls,
         asking::calls,
         changing::calls,
+        changing::calls_without_cables,
     ];
     watched_over(&makers, seed, count)
 }

@@ -4,7 +4,7 @@
 //! The watcher is written from the order and document 01, and from nothing that is proved. It looks
 //! at the state before each call through the looks alone, sees the call and its answer, writes its
 //! books and holds every [`Sentence`] against them. Behind each call it looks at what the call
-//! named and touched; [every so many calls](EVERY), before and behind each Fresh and at the end of
+//! named and touched; [every so many calls](EVERY), before and behind each start and at the end of
 //! a run at everything. What it watches is anything that can be looked at and called: the proved
 //! library, or a model whose state is written as words.
 
@@ -18,9 +18,9 @@ pub use sentences::Sentence;
 use std::fmt;
 
 use bench::sizes::TILE_PORTS;
-use bench::{Destination, Hop, Looks, Node};
+use bench::{Destination, Hop, Looks, Node, Peer};
 use model::calls::Call;
-use model::network::Network;
+use model::network::{LinkEnd, Network};
 use model::random::Random;
 use model::{Answer, StepRecord};
 
@@ -121,6 +121,10 @@ pub enum Glimpse {
         /// The far end of the link by which its circuit leaves.
         far: Option<Port>,
     },
+    Wire {
+        /// The ports whose circuits are to leave by its ends.
+        leaving: [Option<Port>; 2],
+    },
     /// Nothing that the books need.
     Other,
 }
@@ -146,8 +150,22 @@ impl Glimpse {
                     far: hop.and_then(|hop| far(looks, slot, hop)),
                 }
             }
+            Call::Wire { one, other } => Glimpse::Wire {
+                leaving: [one, other].map(|end| leaving(looks, end)),
+            },
             _ => Glimpse::Other,
         }
+    }
+}
+
+/// The port whose circuit is to leave by a link.
+fn leaving(looks: Looks, LinkEnd { slot, link }: LinkEnd) -> Option<Port> {
+    match looks.link(slot, link).user.peer()? {
+        Peer::Port(port) => Some(Port {
+            slot,
+            port: port as usize,
+        }),
+        Peer::ChannelEnd(_) => None,
     }
 }
 
@@ -248,7 +266,7 @@ impl Watcher {
     /// Has a call made, writes it down, and says the first sentence that it breaks. A list is seen
     /// as its Steps; one with results of another length is none.
     pub fn watch(&mut self, bench: &mut impl Watched, call: &Call) -> Result<Answer, Broken> {
-        if matches!(call, Call::Fresh { .. }) {
+        if call.start().is_some() {
             self.hold_all(bench.looks(), call)?;
         }
         self.begun += 1;
@@ -302,7 +320,7 @@ impl Watcher {
         let touched = (self.note)(&mut self.books, &seen)?;
         self.hold(&seen, &touched)?;
         self.figures.count(&self.books, &seen, &touched);
-        if self.calls.is_multiple_of(EVERY) || matches!(call, Call::Fresh { .. }) {
+        if self.calls.is_multiple_of(EVERY) || call.start().is_some() {
             self.hold_all(seen.after, call)?;
         }
         Ok(answer)

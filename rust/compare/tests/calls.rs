@@ -4,10 +4,10 @@
 use compare::calls::{compare, Lent};
 use compare::pair::Pair;
 use compare::reduce::report;
-use compare::soak::{ask, fill, run, Figures, Found};
+use compare::soak::{ask, fill, plug, run, Figures, Found};
 use compare::{filling, layout, reading};
 use model::calls::Call;
-use model::network::{LinkEnd, Network};
+use model::network::{LinkEnd, Network, Start};
 use model::random::Random;
 use model::set::Setting;
 use model::tokens::{header, Destination, Token};
@@ -16,6 +16,7 @@ const RUNS: u64 = 100;
 const CALLS: usize = 400;
 const FILLING: usize = 1000;
 const ASKING: usize = 2000;
+const PLUGGING: usize = 800;
 
 /// Adds what one seed compared, or ends the test with the reduced run that differs.
 fn add(figures: &mut Figures, seed: u64, compared: Result<Figures, Found>) {
@@ -56,6 +57,19 @@ fn runs_that_ask_control_units() {
         add(&mut figures, seed, ask(model::apply, seed, ASKING));
     }
     println!("{figures}");
+}
+
+#[test]
+fn runs_whose_cables_are_plugged_into_links_in_use() {
+    let mut figures = Figures::default();
+    for seed in 0..RUNS {
+        add(&mut figures, seed, plug(model::apply, seed, PLUGGING));
+    }
+    println!("{figures}\n{}", figures.reached);
+    for (case, least) in [("both in use", 40), ("both in use, of one node", 10)] {
+        let times = figures.reached.times("cable, its ends", case);
+        assert!(times >= least, "{case}: {times}");
+    }
 }
 
 /// What the states of runs that fill have: how full a port 8..11 and a channel-end were.
@@ -111,21 +125,33 @@ fn a_hello_at_every_number_of_tokens_held() {
     }
 }
 
+/// What a start has written, for so many nodes; every node has the same words.
+fn started(start: Start, nodes: usize) -> Vec<u32> {
+    let (mut network, mut lent) = (None, Lent::default());
+    let memory_words = nodes * layout::NODE_TOKENS;
+    let call = Call::beginning(start, nodes, memory_words);
+    compare(model::apply, &mut network, &mut lent, &call).unwrap();
+    assert_eq!(lent.memory, vec![0; memory_words]);
+    assert_eq!(reading::read(&lent.state, &lent.memory).ok(), network);
+    let mut each = lent.state.chunks(layout::NODE_WORDS);
+    let first = each.next().map(<[u32]>::to_vec).unwrap_or_default();
+    assert!(each.all(|node| *node == first));
+    first
+}
+
+/// All zeros but for the widths and, of Fresh, the enables of links E to H.
 #[test]
-fn a_fresh_network_is_all_zeros_but_for_its_widths() {
+fn what_the_starts_write() {
+    let width = (1, 3);
+    let enables = [47, 57, 67, 77].map(|place| (place, 1));
     for nodes in 1..=16 {
-        let (mut network, mut lent) = (None, Lent::default());
-        let memory_words = nodes * layout::NODE_TOKENS;
-        let call = Call::Fresh {
-            nodes,
-            memory_words,
-        };
-        compare(model::apply, &mut network, &mut lent, &call).unwrap();
-        assert_eq!(lent.memory, vec![0; memory_words]);
-        for node in lent.state.chunks(layout::NODE_WORDS) {
-            let others = node.iter().enumerate().filter(|(at, _)| *at != 1);
-            assert!(node[1] == 3 && others.into_iter().all(|(_, word)| *word == 0));
+        for (start, expected) in [
+            (Start::Blank, vec![width]),
+            (Start::Fresh, [&[width][..], &enables].concat()),
+        ] {
+            let words = started(start, nodes).into_iter().enumerate();
+            let written: Vec<_> = words.filter(|(_, word)| *word != 0).collect();
+            assert_eq!(written, expected, "{start:?}");
         }
-        assert_eq!(reading::read(&lent.state, &lent.memory).ok(), network);
     }
 }

@@ -340,7 +340,7 @@ fn clause_of(lent: &Lent) -> u32 {
     raw::unsound_clause(&lent.state, &lent.memory)
 }
 
-/// Every call but Fresh and Step, each with arguments that are in range and lie apart from what was
+/// Every call but a start and a Step, each with arguments that are in range and lie apart from what was
 /// changed.
 const CALLS: [&str; 14] = [
     "wire 0 4 1 4",

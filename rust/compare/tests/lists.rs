@@ -24,7 +24,7 @@ use model::tokens::{Destination, Kind, Token, END, SINK};
 use model::topology::{plan, Plan};
 use model::{Answer, Call, No, StepRecord};
 
-const RUNS: u64 = 30;
+const RUNS: u64 = 36;
 const CALLS: usize = 400;
 
 #[test]
@@ -80,7 +80,8 @@ impl Shift {
             plan,
             reached: Reached::default(),
         };
-        let set_up = [&shift.plan.cabling[..], &shift.plan.settings].concat();
+        let Plan { cabling, late, .. } = &shift.plan;
+        let set_up = [&cabling[..], late, &shift.plan.settings].concat();
         for call in set_up {
             shift.make(call);
         }
@@ -139,7 +140,7 @@ impl Shift {
     fn matter(&mut self, slot: usize, channel_end: usize) -> (Destination, VecDeque<Token>) {
         let nodes = &self.network.as_ref().expect("a network").nodes;
         let (own, goal) = (nodes[slot].number, self.random.pick(nodes));
-        if let (true, Some(goal)) = (self.random.chance(25), goal) {
+        if let (true, Some(goal)) = (self.random.chance(30), goal) {
             let said = message(&mut self.random, &goal, own, channel_end);
             let number = goal.number;
             return (Destination::Control { number }, said);
@@ -226,7 +227,7 @@ fn long_lists_where_there_is_much_to_do() {
             true => 5_000,
             false => 200 + shift.random.below(400),
         };
-        for length in [0, PORTS * nodes, longest] {
+        for length in [0, PORTS * nodes, longest, longest / 2] {
             shift.speak();
             shift.list(length);
         }

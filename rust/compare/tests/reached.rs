@@ -1,5 +1,5 @@
 //! What random runs of fixed seeds reach on both sides: every answer and every refusal of every
-//! call, both causes, every end of a switch message.
+//! call, both causes, every end of a switch message, cables plugged into links of every kind.
 
 use compare::calls::{hold_unchanged, Lent};
 use compare::pair::Differing;
@@ -9,17 +9,18 @@ use compare::{asking, changing, filling};
 use model::answers::{Cause, Opening};
 use model::{runs, Answer, Call, No};
 
-const SEEDS: u64 = 6;
+const SEEDS: u64 = 7;
 const CALLS: usize = 400;
-const ASKING: usize = 1500;
+const ASKING: usize = 3000;
 
 /// The runs of a seed, of every kind.
-fn runs_of(seed: u64) -> [Vec<Call>; 4] {
+fn runs_of(seed: u64) -> [Vec<Call>; 5] {
     [
         runs::calls(seed, CALLS),
         filling::calls(seed, CALLS),
         asking::calls(seed, ASKING),
         changing::calls(seed, CALLS),
+        changing::calls_without_cables(seed, 2 * CALLS),
     ]
 }
 
@@ -45,19 +46,40 @@ fn no_answer_is_at_zero() {
     println!("{figures}\n{}", figures.reached);
     assert_eq!(figures.reached.missing(), []);
     assert_eq!(figures.reached.unforeseen(), []);
+    for (case, answer, least) in LEAST {
+        let times = figures.reached.times(case, answer);
+        assert!(times >= least, "{case}, {answer}: {times}");
+    }
 }
+
+/// Cables plugged into links that are enabled and in use, and what goes over them then, in number.
+const LEAST: [(&str, &str, usize); 10] = [
+    ("blank", "done", 25),
+    ("blank", "no 1", 25),
+    ("blank", "no 2", 25),
+    ("cable, its ends", "both enabled", 100),
+    ("cable, its ends", "one in use", 100),
+    ("cable, its ends", "both in use", 20),
+    ("cable, its ends", "both in use, of one node", 5),
+    ("over a cable wired in use", "header token", 100),
+    ("over a cable wired in use", "token", 100),
+    ("over a cable wired in use", "END or PAUSE", 20),
+];
 
 /// A table of nothing names every case, so that one left out is seen.
 #[test]
 fn nothing_reached_is_all_missing() {
     let missing = Reached::default().missing();
     for case in [
+        ("blank", "no 1"),
         ("set enable", "no 4"),
         ("step", "dropped noroute"),
         ("steps", "no 2"),
         ("record of steps", "unheard"),
         ("message answered", "NACK of a write that Set refuses"),
         ("message not answered", "Malformed by END"),
+        ("cable, its ends", "both in use, of one node"),
+        ("over a cable wired in use", "header token"),
     ] {
         assert!(missing.contains(&case), "{case:?}");
     }

@@ -106,8 +106,8 @@ fn the_model_agrees_with_the_examples() {
 
 /// Words to be put into lines.
 #[rustfmt::skip]
-const NAMES: [&str; 29] = [
-    "fresh", "wire", "set", "aim", "output", "input", "step", "number", "width", "direction",
+const NAMES: [&str; 30] = [
+    "fresh", "blank", "wire", "set", "aim", "output", "input", "step", "number", "width", "direction",
     "linkdirection", "network", "enable", "hello", "channel", "control", "data", "tile", "->", "#",
     "no", "done", "granted", "token", "opened", "link", "refused", "split", "//",
 ];

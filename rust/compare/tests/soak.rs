@@ -20,6 +20,8 @@ fn a_short_soak() {
     assert!(text.contains(" calls watched, "), "{text}");
     assert!(text.contains(" lists of Steps, "), "{text}");
     assert!(text.contains("\nsteps: results "), "{text}");
+    assert!(text.contains("\nblank: done "), "{text}");
+    assert!(text.contains("\ncable, its ends: "), "{text}");
     assert!(text.ends_with("no difference\n"), "{text}");
 }
 

@@ -1,9 +1,9 @@
 //! States that the model's runs reach, written as words and seen through the proved looks.
 
 use bench::Looks;
-use compare::{difference, layout, reading};
+use compare::{changing, difference, layout, reading};
 use model::digest::digest;
-use model::network::{Network, Node};
+use model::network::{Network, Node, Start};
 use model::random::Random;
 use model::runs::Runner;
 
@@ -52,10 +52,29 @@ fn states_of_runs_are_sound_and_tight_and_read_back() {
     println!("{compared} states compared");
 }
 
+/// The same of runs in which cables are plugged into links in use: what leaves by a link that has
+/// none yet is whole.
 #[test]
-fn fresh_states_are_quiet() {
-    for nodes in 1..=16 {
-        let network = Network::fresh(nodes, nodes * layout::NODE_TOKENS);
+fn so_are_those_of_runs_whose_cables_come_late() {
+    for seed in 0..RUNS / 2 {
+        println!("seed {seed}");
+        let mut network = None;
+        let mut random = Random::new(seed);
+        for call in changing::calls_without_cables(seed, CALLS) {
+            model::apply(&mut network, &call);
+            let network = network.as_ref().expect("a network");
+            check(network, &mut random);
+        }
+    }
+}
+
+#[test]
+fn started_states_are_quiet() {
+    for (start, nodes) in Start::ALL
+        .into_iter()
+        .flat_map(|it| (1..=16).map(move |n| (it, n)))
+    {
+        let network = Network::at(start, nodes, nodes * layout::NODE_TOKENS);
         let (state, memory) = layout::write(&network, &mut Random::new(0));
         assert!(Looks::over(&state, &memory).is_quiet());
         check(&network, &mut Random::new(1));

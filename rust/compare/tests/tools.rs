@@ -34,7 +34,7 @@ fn ask(host: &Host) {
     assert_eq!(bench.looks().digest(), before);
 }
 
-/// Random runs have a bad Fresh now and then, and the proved bench does not end messages yet: runs
+/// Random runs have a bad start now and then, and the proved bench does not end messages yet: runs
 /// that it cannot make, or that leave no network, are passed over.
 #[test]
 fn every_verb_answers_on_random_states() {

@@ -7,18 +7,20 @@ use compare::soak::{watched, watched_lists, Found};
 use compare::watch::{Broken, Figures, Met, Seen, Sentence, Watcher};
 use compare::{asking, changing, filling};
 use model::calls::Call;
+use model::network::Start;
 use model::runs;
 use model::words::parse_call;
 use model::Answer;
 
-const SEEDS: u64 = 40;
+const SEEDS: u64 = 42;
 const CALLS: usize = 2000;
 
 /// What has to be met, and how often at least.
-const LEAST: [(Met, usize); 21] = [
+const LEAST: [(Met, usize); 24] = [
     (Met::Refusals, 80_000),
     (Met::BegunAnew, 300),
-    (Met::FreshRefused, 1_000),
+    (Met::Blank, 150),
+    (Met::StartRefused, 1_000),
     (Met::Circuits, 10_000),
     (Met::Local, 3_000),
     (Met::Landed, 3_000),
@@ -27,6 +29,8 @@ const LEAST: [(Met, usize); 21] = [
     (Met::NoRoute, 1_700),
     (Met::TurnedBack, 280),
     (Met::Circles, 2_000),
+    (Met::Joined, 100),
+    (Met::JoinedLanded, 30),
     (Met::Carried, 50_000),
     (Met::Handed, 35_000),
     (Met::Dropped, 17_000),
@@ -75,7 +79,7 @@ const LEAST_IN_LISTS: [(Met, usize); 12] = [
 #[test]
 fn streams_arrive_whole_where_lists_are_made() {
     let mut met = Figures::default();
-    for seed in 0..15 {
+    for seed in 0..18 {
         match watched_lists(seed, 600) {
             Ok(figures) => met += figures.watched,
             Err(Found::Watched(broken)) => panic!("seed {seed}: {}", broken.how),
@@ -319,21 +323,37 @@ fn gives_two_circuits_one_name(books: &mut Books, seen: &Seen) -> Result<Touched
     Ok(touched)
 }
 
-/// Goes on with the books of another network.
-fn forgets_fresh(books: &mut Books, seen: &Seen) -> Result<Touched, Broken> {
-    if matches!(seen.call, Call::Fresh { .. }) {
+/// Goes on with the books of another network, where it is begun in one of the two ways.
+fn forgets(start: Start, books: &mut Books, seen: &Seen) -> Result<Touched, Broken> {
+    if seen.call.start() == Some(start) {
         return Ok(Touched::default());
     }
     books::note(books, seen)
 }
 
-/// Opens new books at a Fresh that is refused.
-fn heeds_a_refused_fresh(books: &mut Books, seen: &Seen) -> Result<Touched, Broken> {
+fn forgets_fresh(books: &mut Books, seen: &Seen) -> Result<Touched, Broken> {
+    forgets(Start::Fresh, books, seen)
+}
+
+fn forgets_blank(books: &mut Books, seen: &Seen) -> Result<Touched, Broken> {
+    forgets(Start::Blank, books, seen)
+}
+
+/// Opens new books at a start of one of the two ways that is refused.
+fn heeds_refused(start: Start, books: &mut Books, seen: &Seen) -> Result<Touched, Broken> {
     then(books, seen, |books, _| {
-        if matches!(seen.call, Call::Fresh { .. }) {
+        if seen.call.start() == Some(start) {
             *books = Books::default();
         }
     })
+}
+
+fn heeds_a_refused_fresh(books: &mut Books, seen: &Seen) -> Result<Touched, Broken> {
+    heeds_refused(Start::Fresh, books, seen)
+}
+
+fn heeds_a_refused_blank(books: &mut Books, seen: &Seen) -> Result<Touched, Broken> {
+    heeds_refused(Start::Blank, books, seen)
 }
 
 /// Does not have a circuit ended by PAUSE.
@@ -404,11 +424,13 @@ fn wrong_watchers_complain() {
         (takes_the_number_at_sending, Sentence::Door, Sentence::Door),
         (
             gives_two_circuits_one_name,
-            Sentence::Outputs,
+            Sentence::Order,
             Sentence::Outputs,
         ),
         (forgets_fresh, Sentence::Hearing, Sentence::Cells),
+        (forgets_blank, Sentence::Aims, Sentence::Cells),
         (heeds_a_refused_fresh, Sentence::Hearing, Sentence::Inputs),
+        (heeds_a_refused_blank, Sentence::Hearing, Sentence::Inputs),
         (goes_on_behind_pause, Sentence::Outputs, Sentence::Outputs),
         (counts_refused_outputs, Sentence::Outputs, Sentence::Outputs),
         (logs_at_another_door, Sentence::Places, Sentence::Inputs),

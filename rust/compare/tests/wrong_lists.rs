@@ -241,9 +241,9 @@ fn wrong_models_are_found_and_reduced() {
         ),
         (
             model_is_one_place_off,
-            4,
-            "steps 2 0 8 0 8",
-            "opened control, the model moved",
+            2,
+            "steps 2 0 0 1 0",
+            "the library idle, the model no 2",
         ),
         (
             model_skips_the_last,

@@ -1,7 +1,7 @@
 //! The two boards of a run that asks control units.
 
 use model::calls::Call;
-use model::network::{memory_words, LinkEnd, Network};
+use model::network::{memory_words, LinkEnd, Network, Start};
 use model::set::Setting;
 
 pub(super) const NODES: usize = 2;
@@ -19,14 +19,12 @@ pub(super) const OWN_BIT: u32 = 8;
 const TO_OTHER: u32 = 1;
 const TO_SELF: u32 = 2;
 
-/// Fresh and the cables.
-pub(super) fn cabling() -> Vec<Call> {
+/// The start and the cables.
+pub(super) fn cabling(start: Start) -> Vec<Call> {
     let end = |slot, link| LinkEnd { slot, link };
     let wire = |one, other| Call::Wire { one, other };
-    let mut calls = vec![Call::Fresh {
-        nodes: NODES,
-        memory_words: memory_words(NODES).unwrap_or(0),
-    }];
+    let words = memory_words(NODES).unwrap_or(0);
+    let mut calls = vec![Call::beginning(start, NODES, words)];
     calls.extend(JOINED.map(|link| wire(end(0, link), end(1, link))));
     calls.extend((0..NODES).map(|slot| wire(end(slot, OWN[0]), end(slot, OWN[1]))));
     calls

@@ -26,8 +26,8 @@ Exit status: 0 no difference, 1 a difference, 2 words that are not understood.
 ";
 
 /// Calls of each random run, most of them behind the setting up of its network, of each run that
-/// fills buffers, of each that asks control units, of each in which settings change, of each with
-/// lists of Steps, and of each other that is watched.
+/// fills buffers, of each that asks control units, of each in which settings change, with cables from
+/// the start or without, of each with lists of Steps, and of each other that is watched.
 const CALLS: usize = 1500;
 const FILLING: usize = 1500;
 const ASKING: usize = 3000;
@@ -116,6 +116,7 @@ fn compare_with(seed: u64) -> Result<Figures, Found> {
         filling::calls(seed, FILLING),
         asking::calls(seed, ASKING),
         changing::calls(seed, CHANGING),
+        changing::calls_without_cables(seed, CHANGING),
         runs::calls_with_lists(seed, LISTED),
         asking::calls_with_lists(seed, LISTED),
         changing::calls_with_lists(seed, LISTED),

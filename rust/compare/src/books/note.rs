@@ -9,7 +9,7 @@ use model::calls::Call;
 use model::{tokens, Answer};
 
 use super::words::{self, ends_circuit, is_pause, plain};
-use super::{Books, Circuit, Door, End, Fate, Happening, Port, Sender, Touched, Way};
+use super::{Books, Cell, Circuit, Door, End, Fate, Happening, Port, Sender, Touched, Way};
 use crate::watch::{Broken, Glimpse, Seen, Sentence};
 
 /// How a watcher writes its books: [`note`], or another where it is to be wrong on purpose.
@@ -21,17 +21,37 @@ pub fn note(books: &mut Books, seen: &Seen) -> Result<Touched, Broken> {
     match (&seen.call, &seen.answer) {
         (&Call::Step { slot, port }, _) => super::step::step(books, seen, Port { slot, port }),
         (call, Answer::No(_)) => Ok(named(books, call)),
-        (Call::Fresh { .. }, Answer::Done) => {
+        (call, Answer::Done) if call.start().is_some() => {
             *books = Books::default();
             Ok(Touched::default())
         }
-        (Call::Wire { .. }, Answer::Done)
-        | (Call::Set { .. }, Answer::Done | Answer::Granted(_)) => Ok(Touched::default()),
+        (Call::Wire { .. }, Answer::Done) => Ok(wire(books, seen)),
+        (Call::Set { .. }, Answer::Done | Answer::Granted(_)) => Ok(Touched::default()),
         (call, _) => match end_of(call) {
             Some(end) => of_end(books, seen, end),
             None => Err(seen.odd("no such call answers so")),
         },
     }
+}
+
+/// A cable was plugged in. What is to leave by one of its ends is as it was, and is looked at.
+fn wire(books: &mut Books, seen: &Seen) -> Touched {
+    let mut touched = Touched::default();
+    let Glimpse::Wire { leaving } = seen.before else {
+        return touched;
+    };
+    for at in leaving.into_iter().flatten() {
+        touched.ports.push(at);
+        let Some(Cell { circuit, .. }) = books.front(at) else {
+            continue;
+        };
+        if let Some(joined) = books.circuits.get_mut(circuit) {
+            joined.joined = true;
+        }
+        touched.circuits.push(circuit);
+        touched.happened.push(Happening::Joined { circuit });
+    }
+    touched
 }
 
 /// What a channel-end was asked and did.

@@ -19,10 +19,12 @@ pub enum Met {
     /// Lists, each of them seen as its Steps.
     Lists,
     Refusals,
-    /// A Fresh done that was not the first.
+    /// A start done that was not the first call.
     BegunAnew,
-    /// Fresh refused, with books that stay.
-    FreshRefused,
+    /// Starts done that leave every link disabled, the first of a run among them.
+    Blank,
+    /// A start refused, with books that stay.
+    StartRefused,
     Circuits,
     /// Circuits within a node.
     Local,
@@ -35,6 +37,10 @@ pub enum Met {
     /// their port.
     TurnedBack,
     Circles,
+    /// Circuits that were to leave by a link without a cable when it was given one, and such as
+    /// landed then.
+    Joined,
+    JoinedLanded,
     Carried,
     Handed,
     Dropped,
@@ -57,7 +63,8 @@ impl Met {
             Met::Lists => "lists of Steps",
             Met::Refusals => "refused",
             Met::BegunAnew => "begun anew",
-            Met::FreshRefused => "Fresh refused",
+            Met::Blank => "begun blank",
+            Met::StartRefused => "starts refused",
             Met::Circuits => "circuits",
             Met::Local => "within a node",
             Met::Landed => "landed",
@@ -66,6 +73,8 @@ impl Met {
             Met::NoRoute => "without a route",
             Met::TurnedBack => "turned back",
             Met::Circles => "back into their own port",
+            Met::Joined => "given a cable under way",
+            Met::JoinedLanded => "landed over such a cable",
             Met::Carried => "tokens over cables",
             Met::Handed => "tokens handed",
             Met::Dropped => "tokens dropped",
@@ -105,8 +114,12 @@ impl Figures {
         let refused = matches!(seen.answer, Answer::No(_));
         self.add_if(refused, Met::Refusals);
         match seen.call {
-            Call::Fresh { .. } if refused => self.add(Met::FreshRefused),
+            Call::Fresh { .. } | Call::Blank { .. } if refused => self.add(Met::StartRefused),
             Call::Fresh { .. } => self.add_if(seen.place > 0, Met::BegunAnew),
+            Call::Blank { .. } => {
+                self.add_if(seen.place > 0, Met::BegunAnew);
+                self.add(Met::Blank);
+            }
             Call::Output { .. } if !refused => {
                 let mut circuits = touched.circuits.iter();
                 let paused = circuits.any(|number| books.is_paused(*number));
@@ -130,6 +143,7 @@ impl Figures {
             }
             Happening::Handed { .. } => self.add(Met::Handed),
             Happening::Paused { .. } => self.add(Met::PausesAtDoors),
+            Happening::Joined { .. } => self.add(Met::Joined),
             Happening::Carried { .. } => self.add(Met::Carried),
             Happening::TurnedBack { .. } => self.add(Met::TurnedBack),
             Happening::Circles { .. } => self.add(Met::Circles),
@@ -157,6 +171,7 @@ impl Figures {
         let Some(circuit) = books.circuits.get(number) else {
             return;
         };
+        self.add_if(circuit.joined, Met::JoinedLanded);
         if let Fate::Landed { at, number, .. } = circuit.fate {
             let before = circuit.numbers.get(at.slot);
             let other = before.is_some_and(|before| *before != number);
