@@ -3,7 +3,7 @@
 use bench::raw;
 use model::answers::{Cause, Opening};
 use model::calls::Call;
-use model::network::Network;
+use model::network::{LinkEnd, Network};
 use model::random::Random;
 use model::set::Setting;
 use model::tokens::{Destination, Kind};
@@ -43,10 +43,7 @@ pub fn make(lent: &mut Lent, call: &Call) -> Answer {
             nodes,
             memory_words,
         } => begin(raw::blank, lent, nodes, memory_words),
-        Call::Wire { one, other } => {
-            let (state, memory) = (&mut lent.state, &lent.memory);
-            raw::wire(state, memory, one.slot, one.link, other.slot, other.link)
-        }
+        Call::Wire { one, other } => wire(lent, one, other),
         Call::Set { slot, setting } => set(lent, slot, setting),
         Call::Aim {
             slot,
@@ -75,6 +72,11 @@ pub fn make(lent: &mut Lent, call: &Call) -> Answer {
         }
     };
     of_bench(answer)
+}
+
+fn wire(lent: &mut Lent, one: LinkEnd, other: LinkEnd) -> bench::Answer {
+    let (state, memory) = (&mut lent.state, &lent.memory);
+    raw::wire(state, memory, one.slot, one.link, other.slot, other.link)
 }
 
 fn aim(

@@ -232,8 +232,10 @@ fn is_as_short_as_can_be(apply: Apply, calls: &[Call]) {
     }
 }
 
-/// Each is found, and its run reduced to that many calls and to that last one.
-fn are_found(wrong: &[(Apply, usize, &str, &str)]) {
+/// A model, and what its run is reduced to: how many calls, how the last begins, and how it differs.
+type Wrong = (Apply, usize, &'static str, &'static str);
+
+fn are_found(wrong: &[Wrong]) {
     for (place, (apply, calls, last, expected)) in wrong.iter().enumerate() {
         let found = differing_run(*apply).unwrap_or_else(|| panic!("nothing differs: {place}"));
         let reduced = reduce(*apply, found);
@@ -246,80 +248,36 @@ fn are_found(wrong: &[(Apply, usize, &str, &str)]) {
     }
 }
 
+#[rustfmt::skip]
+const STARTS: [Wrong; 8] = [
+    (enables_d_too, 1, "fresh 1 832", " link 3 enabled: false against true"),
+    (enables_e_to_g, 1, "fresh 1 832", " link 7 enabled: true against false"),
+    (greets_at_the_start, 1, "fresh 1 832", " link 4 greeted: false against true"),
+    (grants_at_the_start, 1, "fresh 1 832", " link 4 credit: 0 against 64"),
+    (knows_the_old_start_alone, 1, "fresh 1 832", " link 4 enabled: true against false"),
+    (blank_enables_e_to_h, 1, "blank 1 832", " link 4 enabled: false against true"),
+    (blank_looks_at_the_memory_first, 1, "blank ", "the library no 2, the model no 1"),
+    (blank_takes_no_sixteenth_node, 1, "blank 16 ", "the library no 1, the model no 2"),
+];
+
 #[test]
 fn wrong_starts_are_found() {
-    are_found(&[
-        (enables_d_too, 1, "fresh 1 832", "link 3 enabled: "),
-        (enables_e_to_g, 1, "fresh 1 832", "link 7 enabled: "),
-        (greets_at_the_start, 1, "fresh 1 832", "link 4 greeted: "),
-        (
-            grants_at_the_start,
-            1,
-            "fresh 1 832",
-            "link 4 credit: 0 against 64",
-        ),
-        (
-            knows_the_old_start_alone,
-            1,
-            "fresh 1 832",
-            "link 4 enabled: ",
-        ),
-        (blank_enables_e_to_h, 1, "blank 1 832", "link 4 enabled: "),
-        (
-            blank_looks_at_the_memory_first,
-            1,
-            "blank ",
-            "the library no 2, the model no 1",
-        ),
-        (
-            blank_takes_no_sixteenth_node,
-            1,
-            "blank 16 ",
-            "the library ",
-        ),
-    ]);
+    are_found(&STARTS);
 }
+
+#[rustfmt::skip]
+const CABLES: [Wrong; 8] = [
+    (is_busy_where_enabled, 2, "wire ", "the library done, the model no 4"),
+    (is_busy_where_in_use, 6, "wire ", "the library done, the model no 4"),
+    (takes_a_wired_end, 3, "wire ", "the library no 4, the model done"),
+    (joining_frees_the_link, 6, "wire ", " user: Some(8) against None"),
+    (joining_disables, 2, "wire ", " enabled: true against false"),
+    (joining_greets, 2, "wire ", " greeted: false against true"),
+    (is_lost_without_a_cable, 6, "step ", "the library waiting, the model moved"),
+    (hello_wants_a_cable, 2, "set ", "the library granted 0, the model no 4"),
+];
 
 #[test]
 fn wrong_cables_are_found() {
-    are_found(&[
-        (
-            is_busy_where_enabled,
-            2,
-            "wire ",
-            "the library done, the model no 4",
-        ),
-        (
-            is_busy_where_in_use,
-            6,
-            "wire ",
-            "the library done, the model no 4",
-        ),
-        (
-            takes_a_wired_end,
-            3,
-            "wire ",
-            "the library no 4, the model done",
-        ),
-        (
-            joining_frees_the_link,
-            6,
-            "wire ",
-            " user: Some(8) against None",
-        ),
-        (joining_disables, 2, "wire ", "enabled: "),
-        (joining_greets, 2, "wire ", "greeted: "),
-        (
-            is_lost_without_a_cable,
-            6,
-            "step ",
-            "the library waiting, the model moved",
-        ),
-        (
-            hello_wants_a_cable,
-            2,
-            "set ",
-            "the library granted 0, the model no 4",
-        ),
-    ]);
+    are_found(&CABLES);
 }

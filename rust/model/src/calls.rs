@@ -117,13 +117,10 @@ fn make(state: &mut Option<Network>, call: &Call) -> Result<Answer, No> {
         Call::Set { slot, setting } => set::set(sound_network(state)?, slot, setting),
         Call::Aim {
             slot,
-            channel_end,
-            destination,
-            network,
-        } => {
-            let aim_at = Aim::new(destination, network);
-            aim(sound_network(state)?, slot, channel_end, aim_at)
-        }
+            channel_end: end,
+            destination: to,
+            network: by,
+        } => aim(sound_network(state)?, slot, end, Aim::new(to, by)),
         Call::Output {
             slot,
             channel_end,

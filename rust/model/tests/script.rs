@@ -21,7 +21,7 @@ fn set(slot: usize, setting: Setting) -> Call {
 }
 
 #[test]
-fn calls_in_words() {
+fn starts_in_words() {
     reads(
         "fresh 2 1664",
         Call::Fresh {
@@ -36,6 +36,10 @@ fn calls_in_words() {
             memory_words: 1664,
         },
     );
+}
+
+#[test]
+fn cables_and_settings_in_words() {
     reads(
         "wire 0 1 2 3",
         Call::Wire {
