@@ -1,5 +1,5 @@
--- Sound for ever: from either start, of any number of boards, over every run of calls, every state is sound and tight and has that number of
--- boards, and no call is refused as Unsound but a start of another number. Assumes nothing.
+-- Sound for ever: from either start, of any number of boards, over every run of calls, every state is sound and tight and has that number
+-- of boards, and no call is refused as Unsound but a start of another number. Assumes nothing.
 use Prim.{tt}
 use Prim.Native.Nat.{ℕ, _+_, _<_, _≤_}
 use mathlib.Core.Path.{_≡_, refl, sym, ap, _∙_}

@@ -1,5 +1,6 @@
 -- Runs of calls on two boards, computed: an update during which circuits are open; the two examples of document 01, "Both sides of the
--- line", that need a network; boards as the boot ROM leaves them (document 02, Ask 7), and the same from blank. What an observer has then written down is in streams/proofs/Runs.antt. Assumes nothing.
+-- line", that need a network; boards as the boot ROM leaves them (document 02, Ask 7), and the same from blank. What an observer has then
+-- written down is in streams/proofs/Runs.antt. Assumes nothing.
 use Prim.Native.Nat.{ℕ}
 use mathlib.Core.Path.{_≡_, refl}
 use mathlib.Core.List.{List, [], _∷_, _++_, map}

@@ -1,5 +1,5 @@
--- WHY TIGHT HAS THE TIE `unsent`: boards that pass the list "Sound" and every other tie, and from which Wire, HELLO and a Step lead to a state
--- that does not pass the list. The answers are computed: Unsound stands at the end. Assumes nothing.
+-- WHY TIGHT HAS THE TIE `unsent`: boards that pass the list "Sound" and every other tie, and from which Wire, HELLO and a Step lead to a
+-- state that does not pass the list. The answers are computed: Unsound stands at the end. Assumes nothing.
 use mathlib.Core.Path.{_≡_, refl}
 use mathlib.Core.Bool.{true, false, _&&_}
 use mathlib.Core.List.{List, [], _∷_}

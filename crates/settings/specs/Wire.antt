@@ -1,5 +1,5 @@
--- "Wire: join two different link ends, both unwired .." (document 01, "Calls"), enabled or not (document 02, Ask 7: "Wire is Busy only for a
--- wired end, no longer for an enabled one")
+-- "Wire: join two different link ends, both unwired .." (document 01, "Calls"), enabled or not (document 02, Ask 7: "Wire is Busy only for
+-- a wired end, no longer for an enabled one")
 use Prim.Native.Nat.{ℕ}
 use mathlib.Core.Bool.{Bool, not, _&&_, _||_}
 use mathlib.Core.List.{List, [], _∷_}

@@ -101,7 +101,9 @@ module _ (on : ℕ → ℕ → Bool) (n : ℕ) (some : 1 ≤ n) (few : n ≤ nod
   pub start-tight : tight (startWorld on n) ≡ true
   unfolding tight
   start-tight =
-      let linked = passes Tied (λ m i h g. by-test (on m i) (λ e. rw (empty-back m i h (omega arith), e)) (λ e. rw (empty-back m i h (omega arith), e))) in
+      let linked = passes Tied (λ m i h g.
+      let back = empty-back m i h (omega arith) in
+      by-test (on m i) (λ e. rw (back, e)) (λ e. rw (back, e))) in
       let replies = passes Replied (λ m i h g. rw (empty-back m replyPort h (lit≤ tt))) in
       rw (linked, passes Sends (λ m i h g. refl), replies)
 

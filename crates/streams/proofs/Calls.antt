@@ -344,7 +344,8 @@ is-event w c l t e = go (isStart c) (sym (anew-done w c) ∙ e)
     go false f = l
 
 -- what a call leaves that opens new books
-pub anew-case : (P : World → Type 0) → ((s : Start) (n : ℕ) → P (startOf s n)) → (w : World) (c : Call) → anew w c ≡ true → P (apply w c .next)
+pub anew-case : (P : World → Type 0) → ((s : Start) (n : ℕ) → P (startOf s n)) → (w : World) (c : Call) → anew w c ≡ true
+    → P (apply w c .next)
 unfolding apply
 anew-case P h w c e = go c (sym (anew-done w c) ∙ e)
   where

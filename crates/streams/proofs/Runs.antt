@@ -197,8 +197,8 @@ pub narrowed-books : Shows narrowed accounts
 unfolding computes alter noBooks
 narrowed-books = shown narrowed accounts refl
 
--- AS THE BOOT ROM LEAVES THEM: the circuit that was open before its cable was there has landed at the lane, whole, by the port of that cable;
--- so has the one back
+-- AS THE BOOT ROM LEAVES THEM: the circuit that was open before its cable was there has landed at the lane, whole, by the port of that
+-- cable; so has the one back
 pub booted-books : Shows booted accounts
     (record {
       opening = three (doorNo 0 0) (Channel (record { 0 = 1 }) 5);

@@ -48,7 +48,9 @@ same-length : tie.Need-same-length Inv-loop μ-loop
 same-length c = c .before .loop .inv .3
 
 returns : tie.Need-returns Inv-loop μ-loop
-returns c = let l = c .before .loop in past-last (λ k e. startNet (bootedTo (k * links)) e) _ _ _ _ (l .inv .0) (l .inv .1) (omega arith) (l .inv .2) ∙ boot-all _
+returns c =
+    let l = c .before .loop in
+    past-last (λ k e. startNet (bootedTo (k * links)) e) _ _ _ _ (l .inv .0) (l .inv .1) (omega arith) (l .inv .2) ∙ boot-all _
 
 pub boot-spec : {M : Type 1} → statement M
 boot-spec =

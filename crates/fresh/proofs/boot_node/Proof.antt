@@ -24,7 +24,9 @@ loop-holds : tie.Need-loop-holds Inv-loop μ-loop
 loop-holds c = (omega arith, omega arith, c .before .pre .1 ∙ boot-begins _ _, refl)
 
 put-requires : tie.Need-put-requires Inv-loop μ-loop
-put-requires c κs = let l = c .before .before .before .loop in (rw (l .inv .2) (c .before .before .before .before .before .pre .0), omega arith)
+put-requires c κs =
+    let l = c .before .before .before .loop in
+    (rw (l .inv .2) (c .before .before .before .before .before .pre .0), omega arith)
 
 add-l : tie.Need-add-l Inv-loop μ-loop
 add-l c = omega arith
