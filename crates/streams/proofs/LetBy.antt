@@ -55,7 +55,8 @@ module _ (makes : Call → Bool) (say : Answer) where
       (flat cs)
 
   module _ (x : Start) (n : ℕ) (some : 1 ≤ n) (few : n ≤ nodes)
-      (unwritten : (o : Notes) (w : World) (c : Call) (k : Books) → makes c ≡ false → write o w c say k ≡ k) (unnoted : (c : Call) (o : Notes) → makes c ≡ false → jot c say o ≡ o)
+      (unwritten : (o : Notes) (w : World) (c : Call) (k : Books) → makes c ≡ false → write o w c say k ≡ k)
+      (unnoted : (c : Call) (o : Notes) → makes c ≡ false → jot c say o ≡ o)
     where
       abbrev machine : Machine isLink
       machine =
