@@ -13,7 +13,7 @@ use Rattle.names.specs.Size.{links}
 use Rattle.cells.specs.View.{withLink}
 use Rattle.cells.specs.Start.{startLink, startLinks, startNet, noneOn}
 use Rattle.cells.specs.declared.link.Setup.{Setup}
-use Rattle.fresh.specs.Fresh.{firstBooted, leavesOn}
+use Rattle.fresh.specs.Fresh.{firstBootLink, leavesOn}
 use Rattle.fresh.specs.Needs.{bootedTo}
 use Rattle.fresh.specs.declared.Start.the-variants.{Fresh}
 
@@ -26,10 +26,10 @@ same-test false false m k h g = refl
 
 -- what is enabled: links E to H, of all links in order those before c
 abbrev Before : ℕ → ℕ → ℕ → Type 0
-Before c m l = ((firstBooted ≤ l) × (l < links)) × (m * links + l < c)
+Before c m l = ((firstBootLink ≤ l) × (l < links)) × (m * links + l < c)
 
 means : (c m l : ℕ) → Means (bootedTo c m l) (Before c m l)
-means c m l = also (also (at-most firstBooted l) (below l links)) (below (m * links + l) c)
+means c m l = also (also (at-most firstBootLink l) (below l links)) (below (m * links + l) c)
 
 same-start : (on on′ : ℕ → ℕ → Bool) (n : ℕ) → ((m l : ℕ) → on m l ≡ on′ m l) → startNet on n ≡ startNet on′ n
 same-start on on′ n h = λ j. startNet (λ m l. h m l j) n
@@ -41,10 +41,10 @@ boot-none n =
     (record { sure = λ e. clash (sym e); back = λ (z : ⊥). absurd z }) (means 0 m l) (λ z. absurd z) (λ z. omega (arith, z .1)))
 
 -- up to link E of a node: all before that node
-pub boot-begins : (k n : ℕ) → startNet (bootedTo (k * links)) n ≡ startNet (bootedTo (k * links + firstBooted)) n
+pub boot-begins : (k n : ℕ) → startNet (bootedTo (k * links)) n ≡ startNet (bootedTo (k * links + firstBootLink)) n
 boot-begins k n =
-    same-start (bootedTo (k * links)) (bootedTo (k * links + firstBooted)) n
-    (λ m l. same-test _ _ (means (k * links) m l) (means (k * links + firstBooted) m l)
+    same-start (bootedTo (k * links)) (bootedTo (k * links + firstBootLink)) n
+    (λ m l. same-test _ _ (means (k * links) m l) (means (k * links + firstBootLink) m l)
     (λ z. (z .0, omega (arith, z .1)))
     (λ z. (z .0, omega (arith, z .0 .0, z .0 .1, z .1))))
 
@@ -56,12 +56,12 @@ boot-ends k n = ap (λ (c : ℕ). startNet (bootedTo c) n) (omega arith)
 pub boot-all : (n : ℕ) → startNet (bootedTo (n * links)) n ≡ startNet (leavesOn Fresh n) n
 boot-all n =
     same-start (bootedTo (n * links)) (leavesOn Fresh n) n
-    (λ m l. same-test _ _ (means (n * links) m l) (also (also (at-most firstBooted l) (below l links)) (below m n))
+    (λ m l. same-test _ _ (means (n * links) m l) (also (also (at-most firstBootLink l) (below l links)) (below m n))
     (λ z. (z .0, omega (arith, z .0 .1, z .1)))
     (λ z. (z .0, omega (arith, z .0 .1, z .1))))
 
 -- one link more
-module _ (k l n : ℕ) (lo : firstBooted ≤ l) (hi : l < links) where
+module _ (k l n : ℕ) (lo : firstBootLink ≤ l) (hi : l < links) where
   abbrev setups : ℕ → ℕ → ℕ → Setup
   setups c m i = startLink (bootedTo c m i) .setup
 

@@ -28,16 +28,16 @@ abbrev pub startRows : World → ℕ → List Row
 startRows w n = refusedIf (not (counted n)) NoSuch ∷ refusedIf (not (fits w n)) Unsound ∷ []
 
 -- link E, the first that the boot ROM enables
-abbrev pub firstBooted : ℕ
-firstBooted = 4
+abbrev pub firstBootLink : ℕ
+firstBootLink = 4
 
 -- "links E to H"
-abbrev pub booted : ℕ → Bool
-booted l = leb firstBooted l && ltb l links
+abbrev pub bootLink : ℕ → Bool
+bootLink l = leb firstBootLink l && ltb l links
 
 -- which links of n nodes are enabled
 abbrev pub leavesOn : Start → ℕ → ℕ → ℕ → Bool
-leavesOn Fresh n m l = booted l && ltb m n
+leavesOn Fresh n m l = bootLink l && ltb m n
 leavesOn Blank n m l = noneOn m l
 
 -- what a start of n nodes leaves

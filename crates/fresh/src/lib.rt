@@ -40,7 +40,7 @@ pub enum Start {
 }
 
 // Link E, the first that the boot ROM enables.
-const FIRST_BOOTED: usize = 4;
+const FIRST_BOOT_LINK: usize = 4;
 
 // Every word of the state is 0.
 fn clear_state(st: &mut [u32])
@@ -85,7 +85,7 @@ fn settle(st: &mut [u32])
 }
 
 // Enabled, and no more: unwired, ungreeted, with no credit.
-fn booted() -> Link
+fn enabled_link() -> Link
     ensures { λ r. ⌜ r ≡ startLink true ⌝ }
 {
     Link {
@@ -112,8 +112,8 @@ fn boot_node(st: &mut [u32], slot: Slot)
     requires { ⌜ (slot .0 < view (now st) .nodes) × (view (now st) ≡ startNet (bootedTo (slot .0 * links)) (view (now st) .nodes)) ⌝ }
     ensures { λ r. ⌜ view (now (st .exit)) ≡ startNet (bootedTo ((slot .0 + 1) * links)) (view (now (st .entry)) .nodes) ⌝ }
 {
-    for l in FIRST_BOOTED..LINKS {
-        link::put(st, slot, l, booted());
+    for l in FIRST_BOOT_LINK..LINKS {
+        link::put(st, slot, l, enabled_link());
     }
 }
 

@@ -7,7 +7,7 @@ use borrow.Author.Needs.{needs}
 use Rattle.names.specs.Size.{links}
 use Rattle.cells.specs.View.{view}
 use Rattle.cells.specs.Start.{startNet}
-use Rattle.fresh.specs.Fresh.{firstBooted}
+use Rattle.fresh.specs.Fresh.{firstBootLink}
 use Rattle.fresh.specs.Needs.{bootedTo}
 use Rattle.fresh.proofs.Links.{boot-begins, boot-next, boot-ends}
 use Rattle.fresh.proofs.boot_node.Statement.{statement}
@@ -15,7 +15,7 @@ use Rattle.fresh.proofs.boot_node.Tie as tie
 
 abbrev Inv-loop : tie.InvT-loop
 Inv-loop st₀ slot l₀ st l =
-    (firstBooted ≤ l) × (l ≤ links) × (view st ≡ startNet (bootedTo (slot .0 * links + l)) (view st₀ .nodes)) × (length st ≡ length st₀)
+    (firstBootLink ≤ l) × (l ≤ links) × (view st ≡ startNet (bootedTo (slot .0 * links + l)) (view st₀ .nodes)) × (length st ≡ length st₀)
 
 abbrev μ-loop : tie.MeasureT-loop
 μ-loop st₀ slot l₀ st l = links - l
@@ -41,7 +41,7 @@ loop-again c =
       omega (arith, l .inv .0),
       omega arith,
       c .before .before .put .ensures
-          ∙ rw (c .before .before .before .booted .ensures, l .inv .2) (boot-next _ (l .l) _ (l .inv .0) (omega arith)),
+          ∙ rw (c .before .before .before .enabled-link .ensures, l .inv .2) (boot-next _ (l .l) _ (l .inv .0) (omega arith)),
       q ∙ l .inv .3,
     )
 
