@@ -103,9 +103,21 @@ impl Clone {
     }
 
     fn command(&self, words: &[&str]) -> Command {
+        self.equipped(Command::new(self.root.join("bench")), words)
+    }
+
+    /// The script as one who can interrupt it starts it. Behind `nohup .. &` the tests themselves run
+    /// with interrupts ignored, and a shell that begins so stays so.
+    fn interruptible(&self) -> Command {
+        let mut command = Command::new("env");
+        command.arg("--default-signal=INT");
+        command.arg(self.root.join("bench"));
+        self.equipped(command, &[])
+    }
+
+    fn equipped(&self, mut command: Command, words: &[&str]) -> Command {
         let path = std::env::var("PATH").expect("a path");
         let tools = self.root.join("tools");
-        let mut command = Command::new(self.root.join("bench"));
         command.args(words).current_dir(self.root.join("elsewhere"));
         command.env("PATH", format!("{}:{path}", tools.display()));
         command.env("NOTES", &tools).stdin(Stdio::null());
@@ -255,7 +267,7 @@ fn interrupted(child: &mut Child) -> (String, Option<i32>) {
 fn an_interrupt_leaves_nothing_running_and_nothing_broken() {
     let clone = Clone::new("interrupted");
     let slow = clone.file("tools/slow", "");
-    let mut child = spawned(&mut clone.command(&[]));
+    let mut child = spawned(&mut clone.interruptible());
     let tool = awaited(&clone.root.join("tools/running"));
     let (errors, status) = interrupted(&mut child);
     assert_eq!(status, Some(130), "{errors}");
