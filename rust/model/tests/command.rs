@@ -1,7 +1,8 @@
 //! The command `model`: its output and its exit status.
 
+use std::io::Read;
 use std::path::PathBuf;
-use std::process::{Command, Output};
+use std::process::{Command, Output, Stdio};
 
 fn model(words: &[&str]) -> Output {
     let program = env!("CARGO_BIN_EXE_model");
@@ -38,6 +39,10 @@ fn random_run_and_check() {
     assert_eq!(text(&run.stdout), printed);
 }
 
+/// The highest number of 64 bits, and one more.
+const HIGHEST: &str = "18446744073709551615";
+const TOO_LARGE: &str = "18446744073709551616";
+
 #[test]
 fn faults_end_with_status_one() {
     let differs = file(
@@ -60,6 +65,8 @@ fn faults_end_with_status_one() {
         ),
         (&["run", "no-such-file"], "no-such-file: "),
         (&["random", "x", "1"], "usage: model run FILE"),
+        (&["random", TOO_LARGE, "1"], "usage: model run FILE"),
+        (&["random", "1", TOO_LARGE], "usage: model run FILE"),
         (&["dance"], "usage: model run FILE"),
         (&[], "usage: model run FILE"),
     ];
@@ -70,4 +77,33 @@ fn faults_end_with_status_one() {
         assert!(complaint.contains(expected), "{complaint}");
         assert!(output.stdout.is_empty());
     }
+}
+
+/// Of a run without an end so much is made as is read.
+#[test]
+fn a_reader_that_goes_away() {
+    let mut command = Command::new(env!("CARGO_BIN_EXE_model"));
+    command.args(["random", HIGHEST, HIGHEST]);
+    let pipes = command.stdout(Stdio::piped()).stderr(Stdio::piped());
+    let mut child = pipes.spawn().expect("the command");
+    let mut first = [0; 6];
+    let mut printed = child.stdout.take().expect("its output");
+    printed.read_exact(&mut first).expect("six bytes");
+    drop(printed);
+    let ended = child.wait_with_output().expect("its end");
+    assert_eq!(
+        (ended.status.code(), text(&ended.stderr)),
+        (Some(0), String::new())
+    );
+}
+
+#[cfg(unix)]
+#[test]
+fn words_that_are_no_text() {
+    use std::os::unix::ffi::OsStrExt;
+    let word = std::ffi::OsStr::from_bytes(b"r\xFFn");
+    let mut command = Command::new(env!("CARGO_BIN_EXE_model"));
+    let ended = command.arg(word).output().expect("an output");
+    assert_eq!(ended.status.code(), Some(1));
+    assert!(text(&ended.stderr).starts_with("usage: model run FILE"));
 }

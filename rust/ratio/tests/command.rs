@@ -1,6 +1,6 @@
 //! What the command prints.
 
-use std::process::Command;
+use std::process::{Command, Stdio};
 
 /// The lines that the command prints, asked for the measures whose names have this in them.
 fn printed(wanted: &str) -> Vec<String> {
@@ -46,4 +46,45 @@ fn a_step_of_a_list() {
 #[test]
 fn a_name_that_no_measure_has() {
     assert!(printed("no such measure").is_empty());
+}
+
+#[cfg(unix)]
+#[test]
+fn a_name_that_is_no_text() {
+    use std::os::unix::ffi::OsStrExt;
+    let mut command = Command::new(env!("CARGO_BIN_EXE_ratio"));
+    let word = std::ffi::OsStr::from_bytes(b"st\xFFp");
+    let ended = command.arg(word).output().expect("the command");
+    assert!(ended.status.success(), "{ended:?}");
+    assert!(ended.stdout.is_empty());
+}
+
+#[test]
+fn words_that_are_not_understood() {
+    let mut command = Command::new(env!("CARGO_BIN_EXE_ratio"));
+    let ended = command.args(["step", "wire"]).output();
+    assert_eq!(ended.expect("the command").status.code(), Some(2));
+    assert!(printed("--help")[0].starts_with("ratio: times "));
+}
+
+/// The writing end of a pipe that nobody reads any more.
+fn unread() -> Stdio {
+    let mut gone = Command::new("true");
+    let mut gone = gone.stdin(Stdio::piped()).spawn().expect("true");
+    let pipe = gone.stdin.take().expect("a pipe");
+    gone.wait().expect("its end");
+    pipe.into()
+}
+
+/// Nobody reads: it ends with its first line, and says nothing.
+#[test]
+fn nobody_reads() {
+    let mut command = Command::new(env!("CARGO_BIN_EXE_ratio"));
+    let ended = command
+        .arg("step-over-cable/1-half-full")
+        .stdout(unread())
+        .output();
+    let ended = ended.expect("an output");
+    assert!(ended.status.success(), "{ended:?}");
+    assert!(ended.stderr.is_empty(), "{ended:?}");
 }

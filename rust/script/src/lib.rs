@@ -28,6 +28,7 @@ pub mod question;
 mod rounds;
 pub mod route;
 pub mod show;
+pub mod source;
 mod waits;
 mod walk;
 mod ways;

@@ -1,14 +1,16 @@
 //! The command `bench`: runs and checks scripts of calls on the proved bench, and says what the
 //! network is like that they leave.
 
+use std::ffi::OsString;
 use std::fmt::Write as _;
-use std::io::{self, Write};
+use std::io::{self, ErrorKind, Write};
+use std::path::{Path, PathBuf};
 use std::process::ExitCode;
 
 use bench::Bench;
 use script::matrix::{self, Matrix};
 use script::question::{read_door, Door, Question};
-use script::{draw, route, show, Made, FORMS};
+use script::{draw, route, show, source, Fault, Made, FORMS};
 
 const USAGE: &str = "\
 usage: bench run FILE
@@ -34,7 +36,8 @@ bench: makes the calls of a script on the proved bench
   bench --help        prints this; bench VERB --help, or bench help VERB, says more of a verb
 
 A script has one call a line, CALL, or with what came of it, CALL -> ANSWER # DIGEST. Empty lines
-and lines that begin with // are passed over. Numbers are decimal, or hexadecimal with 0x.
+and lines that begin with // are passed over. Numbers are decimal, or hexadecimal with 0x. It is text
+in UTF-8 of at most 64 MiB.
 
 ";
 
@@ -51,7 +54,8 @@ there is room for. The answer is no 2 where that is not how many Steps there are
 and what each Step answered, parted by ;.
 
 Exit status: 0 all calls made, and all that is stated agrees; 1 a line differs; 2 a line that is no
-call, or a file that cannot be read.
+call, or a file that cannot be read. Where nobody reads what is printed to its end, as behind head, a
+verb ends without a complaint.
 ";
 
 const ANSWERS: &str = "
@@ -63,7 +67,8 @@ bench run FILE: makes the calls of FILE and prints each with its answer and the 
 
 What is printed is a script again. Where a memory is unsound, standard error says what fails.
 
-Exit status: 0 all calls made; 2 the script was not run to its end.
+Exit status: 0 all calls made, or as many as were read before the reader went away; 2 the script was
+not run to its end.
 ";
 
 const CHECK: &str = "\
@@ -84,29 +89,51 @@ struct Complaint {
 /// Whether what was asked is so: exit status 0 or 1.
 type Ended = Result<bool, Complaint>;
 
+/// A word of the command line. As text it has marks for what is no text, so that it is no verb, no
+/// option and no number then; a file may have such a name all the same.
+struct Word {
+    text: String,
+    path: PathBuf,
+}
+
+impl From<OsString> for Word {
+    fn from(given: OsString) -> Word {
+        Word {
+            text: given.to_string_lossy().into_owned(),
+            path: given.into(),
+        }
+    }
+}
+
 fn main() -> ExitCode {
-    let words: Vec<String> = std::env::args().skip(1).collect();
-    let words: Vec<&str> = words.iter().map(String::as_str).collect();
+    let words: Vec<Word> = std::env::args_os().skip(1).map(Word::from).collect();
     match obey(&words) {
         Ok(true) => ExitCode::SUCCESS,
         Ok(false) => ExitCode::from(1),
         Err(Complaint { status, text }) => {
-            eprintln!("{text}");
+            complain(&text);
             ExitCode::from(status)
         }
     }
 }
 
-fn obey(words: &[&str]) -> Ended {
-    match *words {
+/// Beside the output. Where nobody can be told, the exit status says it.
+fn complain(text: &str) {
+    let _ = writeln!(io::stderr(), "{text}");
+}
+
+fn obey(words: &[Word]) -> Ended {
+    let texts: Vec<&str> = words.iter().map(|word| word.text.as_str()).collect();
+    let file = |at: usize| words[at].path.as_path();
+    match texts[..] {
         ["--help" | "-h" | "help"] => print(&help()),
         [verb, "--help" | "-h"] | ["help", verb] => print(help_for(verb)?),
-        ["run", file] => run(file),
-        ["check", file] => check(file),
-        ["show", file] => print(&show::show(&network(file)?)),
-        ["route", file, ref question @ ..] => follow(file, question),
-        ["matrix", ref rest @ ..] => ask_all(rest),
-        ["draw", file] => print(&draw::draw(&network(file)?)),
+        ["run", _] => run(file(1)),
+        ["check", _] => check(file(1)),
+        ["show", _] => print(&show::show(&network(file(1))?)),
+        ["route", _, ref question @ ..] => follow(file(1), question),
+        ["matrix", ..] => ask_all(&words[1..]),
+        ["draw", _] => print(&draw::draw(&network(file(1))?)),
         _ => Err(complaint(USAGE.to_owned())),
     }
 }
@@ -136,31 +163,41 @@ fn help_for(verb: &str) -> Result<&'static str, Complaint> {
 }
 
 fn print(text: &str) -> Ended {
-    let written = io::stdout().write_all(text.as_bytes());
-    written.map_err(|error| complaint(error.to_string()))?;
+    let mut out = io::stdout();
+    let written = out.write_all(text.as_bytes()).and_then(|()| out.flush());
+    unless_gone(written).map_err(unwritten)?;
     Ok(true)
 }
 
-fn read(file: &str) -> Result<String, Complaint> {
-    std::fs::read_to_string(file).map_err(|error| complaint(format!("{file}: {error}")))
+/// Whoever reads what is printed may go before its end, as head does: that is no fault.
+fn unless_gone(written: io::Result<()>) -> io::Result<()> {
+    match written {
+        Err(error) if error.kind() == ErrorKind::BrokenPipe => Ok(()),
+        other => other,
+    }
 }
 
-fn faulty(file: &str, fault: script::Fault) -> Complaint {
+fn unwritten(error: io::Error) -> Complaint {
+    complaint(format!("cannot write: {error}"))
+}
+
+fn faulty(file: &Path, fault: Fault) -> Complaint {
     Complaint {
         status: fault.exit_status(),
-        text: format!("{file}: {fault}"),
+        text: format!("{}: {fault}", source::name(file)),
     }
 }
 
 /// An unsound memory is not only refused: which clause it fails goes beside the output.
-fn say_what_fails(file: &str, made: &Made) {
+fn say_what_fails(file: &Path, made: &Made) {
     if let Some(clause) = made.failing {
-        eprintln!("{file}: line {}: unsound memory, {clause}", made.line);
+        let (name, line) = (source::name(file), made.line);
+        complain(&format!("{name}: line {line}: unsound memory, {clause}"));
     }
 }
 
-fn run(file: &str) -> Ended {
-    let text = read(file)?;
+fn run(file: &Path) -> Ended {
+    let text = source::read(file).map_err(complaint)?;
     let mut out = io::BufWriter::new(io::stdout().lock());
     let mut head = Some(script::HEAD);
     let ran = script::run(&text, |made| {
@@ -171,14 +208,16 @@ fn run(file: &str) -> Ended {
         }
         writeln!(out, "{made}")
     });
-    let flushed = out.flush();
-    ran.map_err(|fault| faulty(file, fault))?;
-    flushed.map_err(|error| complaint(error.to_string()))?;
+    match ran {
+        Err(Fault::Untold(error)) => unless_gone(Err(error)).map_err(unwritten)?,
+        Err(fault) => return Err(faulty(file, fault)),
+        Ok(_) => unless_gone(out.flush()).map_err(unwritten)?,
+    }
     Ok(true)
 }
 
-fn check(file: &str) -> Ended {
-    let text = read(file)?;
+fn check(file: &Path) -> Ended {
+    let text = source::read(file).map_err(complaint)?;
     let checked = script::check(&text, |made| {
         say_what_fails(file, made);
         Ok(())
@@ -188,8 +227,8 @@ fn check(file: &str) -> Ended {
 }
 
 /// A copy of the network that a script leaves.
-fn network(file: &str) -> Result<Bench, Complaint> {
-    let text = read(file)?;
+fn network(file: &Path) -> Result<Bench, Complaint> {
+    let text = source::read(file).map_err(complaint)?;
     let ran = script::run(&text, |made| {
         say_what_fails(file, made);
         Ok(())
@@ -197,7 +236,8 @@ fn network(file: &str) -> Result<Bench, Complaint> {
     let bench = ran.map_err(|fault| faulty(file, fault))?.copy();
     match bench.looks().nodes() {
         0 => Err(complaint(format!(
-            "{file}: no network: no fresh or blank of it succeeds"
+            "{}: no network: no fresh or blank of it succeeds",
+            source::name(file)
         ))),
         _ => Ok(bench),
     }
@@ -208,7 +248,7 @@ fn unasked(expected: String) -> Complaint {
     complaint(format!("{expected}\n{USAGE}"))
 }
 
-fn follow(file: &str, question: &[&str]) -> Ended {
+fn follow(file: &Path, question: &[&str]) -> Ended {
     let question = Question::read(question).map_err(unasked)?;
     let (text, arrived) = route::route(network(file)?, question);
     print(&text)?;
@@ -216,16 +256,18 @@ fn follow(file: &str, question: &[&str]) -> Ended {
 }
 
 /// `[--csv] FILE [CHANNEL [NETWORK]]`
-fn ask_all(words: &[&str]) -> Ended {
-    let (options, words): (Vec<&str>, Vec<&str>) = words.iter().partition(|word| **word == "--csv");
+fn ask_all(words: &[Word]) -> Ended {
+    let (options, words): (Vec<&Word>, Vec<&Word>) =
+        words.iter().partition(|word| word.text == "--csv");
     let Some((file, door)) = words.split_first() else {
         return Err(complaint(USAGE.to_owned()));
     };
-    let (door, network_number) = match door {
+    let door: Vec<&str> = door.iter().map(|word| word.text.as_str()).collect();
+    let (door, network_number) = match door[..] {
         [] => (Door::Channel(0), 0),
-        _ => read_door(door).map_err(unasked)?,
+        _ => read_door(&door).map_err(unasked)?,
     };
-    let bench = network(file)?;
+    let bench = network(&file.path)?;
     let matrix = Matrix::of(&bench, door, network_number);
     print(&match options.is_empty() {
         true => matrix.table(),

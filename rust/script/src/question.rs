@@ -46,6 +46,7 @@ impl Question {
         let mut words = Words::of(&text);
         let slot = words.number("a slot")?;
         let number = words.number("a number of 32 bits")?;
+        words.end()?;
         let (door, network) = read_door(way)?;
         Ok(Question {
             slot,

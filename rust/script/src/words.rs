@@ -9,9 +9,31 @@ pub type Expected = String;
 /// Words that are still to be read.
 pub struct Words<'a>(SplitWhitespace<'a>);
 
+/// So much of a word is shown: a file that is no script may have words as long as itself.
+const MOST_SHOWN: usize = 60;
+
 /// The complaint that another word was expected.
 pub fn expected(what: &str, found: Option<&str>) -> Expected {
-    format!("expected {what}, found {}", found.unwrap_or("nothing"))
+    let found = found.map_or("nothing".to_owned(), shown);
+    format!("expected {what}, found {found}")
+}
+
+fn shown(word: &str) -> String {
+    match word.char_indices().nth(MOST_SHOWN) {
+        Some((end, _)) => printable(&word[..end]) + "..",
+        None => printable(word),
+    }
+}
+
+/// A text with its letters as they are, and by number what would move the cursor, end the line or
+/// not be seen.
+pub fn printable(text: &str) -> String {
+    let quotes = ['\'', '"', '\\'];
+    let one = |letter: char| match quotes.contains(&letter) {
+        true => letter.to_string(),
+        false => letter.escape_debug().to_string(),
+    };
+    text.chars().map(one).collect()
 }
 
 /// "Numbers are decimal, or hexadecimal with `0x`". No sign, no more than 64 bits.

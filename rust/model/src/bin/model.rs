@@ -1,33 +1,43 @@
 //! The command `model`: runs, checks and makes up scripts.
 
-use std::io::Write;
+use std::io::{self, ErrorKind, Write};
 use std::process::ExitCode;
 
-use model::runs;
+use model::runs::Runner;
 use model::script;
 
 const USAGE: &str = "usage: model run FILE | model check FILE | model random SEED COUNT";
 
 fn main() -> ExitCode {
-    let words: Vec<String> = std::env::args().skip(1).collect();
+    // What is no text has marks in it then, and is no word that is known.
+    let words = std::env::args_os().skip(1);
+    let words: Vec<String> = words.map(|word| word.to_string_lossy().into()).collect();
     let words: Vec<&str> = words.iter().map(String::as_str).collect();
     let result = match words[..] {
-        ["run", file] => run(file),
-        ["check", file] => check(file),
+        ["run", file] => run(file).and_then(|text| print(&text)),
+        ["check", file] => check(file).and_then(|text| print(&text)),
         ["random", seed, count] => random(seed, count),
         _ => Err(USAGE.to_string()),
     };
-    let written = result.and_then(|text| {
-        let mut out = std::io::stdout();
-        out.write_all(text.as_bytes()).map_err(|e| e.to_string())
-    });
-    match written {
+    match result {
         Ok(()) => ExitCode::SUCCESS,
         Err(fault) => {
-            eprintln!("{fault}");
+            let _ = writeln!(io::stderr(), "{fault}");
             ExitCode::FAILURE
         }
     }
+}
+
+/// Whoever reads what is printed may go before its end: that is no fault.
+fn unless_gone(written: io::Result<()>) -> Result<(), String> {
+    match written {
+        Err(error) if error.kind() != ErrorKind::BrokenPipe => Err(error.to_string()),
+        _ => Ok(()),
+    }
+}
+
+fn print(text: &str) -> Result<(), String> {
+    unless_gone(io::stdout().write_all(text.as_bytes()))
 }
 
 fn read(file: &str) -> Result<String, String> {
@@ -43,12 +53,12 @@ fn check(file: &str) -> Result<String, String> {
     Ok(format!("{compared} calls agree\n"))
 }
 
-fn random(seed: &str, count: &str) -> Result<String, String> {
+fn random(seed: &str, count: &str) -> Result<(), String> {
     let seed = seed.parse().map_err(|_| USAGE.to_string())?;
-    let count = count.parse().map_err(|_| USAGE.to_string())?;
-    let lines = runs::run(seed, count);
-    Ok(lines
-        .iter()
-        .map(|(call, found)| format!("{call} -> {found}\n"))
-        .collect())
+    let count: usize = count.parse().map_err(|_| USAGE.to_string())?;
+    let mut runner = Runner::new(seed);
+    let mut out = io::BufWriter::new(io::stdout().lock());
+    let mut lines = (0..count).map(|_| runner.call());
+    let written = lines.try_for_each(|(call, found)| writeln!(out, "{call} -> {found}"));
+    unless_gone(written.and_then(|()| out.flush()))
 }

@@ -4,7 +4,7 @@
 #![allow(dead_code)]
 
 use std::path::{Path, PathBuf};
-use std::process::{Command, Output};
+use std::process::{Command, Output, Stdio};
 
 /// Runs the command with these words.
 pub fn bench(words: &[&str]) -> Output {
@@ -33,4 +33,13 @@ pub fn scripts_in(folder: &str) -> Vec<PathBuf> {
     let mut scripts: Vec<_> = paths.filter(is_script).collect();
     scripts.sort();
     scripts
+}
+
+/// The writing end of a pipe that nobody reads any more.
+pub fn unread() -> Stdio {
+    let mut gone = Command::new("true");
+    let mut gone = gone.stdin(Stdio::piped()).spawn().expect("true");
+    let pipe = gone.stdin.take().expect("a pipe");
+    gone.wait().expect("its end");
+    pipe.into()
 }

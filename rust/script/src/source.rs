@@ -1,0 +1,45 @@
+//! The text of a script, from a file of any size and any contents.
+
+use std::fs::File;
+use std::io::{self, Read};
+use std::path::Path;
+
+use crate::words::printable;
+
+/// The most bytes that a script may have: it is read whole before any call is made.
+pub const MOST_BYTES: u64 = 64 << 20;
+
+/// Reads a script; where there is none, why, in one line that names the file.
+pub fn read(path: &Path) -> Result<String, String> {
+    let text = bytes(path)
+        .map_err(|error| error.to_string())
+        .and_then(|bytes| match bytes {
+            Some(bytes) => String::from_utf8(bytes).map_err(|error| no_text(&error)),
+            None => Err(format!("more than {} MiB, too long", MOST_BYTES >> 20)),
+        });
+    text.map_err(|why| format!("{}: {why}", name(path)))
+}
+
+/// What a file is called in a message, which stays one line whatever the name has in it.
+pub fn name(path: &Path) -> String {
+    printable(&path.to_string_lossy())
+}
+
+/// All bytes of a file; none where they are too many. One that states its length is then not read,
+/// and of an endless one no more than the limit.
+fn bytes(path: &Path) -> io::Result<Option<Vec<u8>>> {
+    let file = File::open(path)?;
+    if file.metadata()?.len() > MOST_BYTES {
+        return Ok(None);
+    }
+    let mut bytes = Vec::new();
+    file.take(MOST_BYTES + 1).read_to_end(&mut bytes)?;
+    Ok((bytes.len() as u64 <= MOST_BYTES).then_some(bytes))
+}
+
+/// The line that has the first bytes that are no text.
+fn no_text(error: &std::string::FromUtf8Error) -> String {
+    let good = &error.as_bytes()[..error.utf8_error().valid_up_to()];
+    let line = 1 + good.iter().filter(|byte| **byte == b'\n').count();
+    format!("line {line}: no text in UTF-8")
+}
