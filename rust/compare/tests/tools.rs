@@ -2,6 +2,7 @@
 
 use compare::filling;
 use model::{runs, Call};
+use script::diff::{diff, Side};
 use script::matrix::Matrix;
 use script::question::{Door, Question};
 use script::{draw, route, show, Host};
@@ -31,6 +32,12 @@ fn ask(host: &Host) {
     assert!(lines.starts_with("sends: END from board ") && lines.contains("\nends: "));
     assert!(show::show(&bench).starts_with("board 0: number "));
     assert!(draw::draw(&bench).starts_with("digraph bench {\n"));
+    let side = || Side {
+        name: "it",
+        bench: &bench,
+    };
+    let (lines, same) = diff(&side(), &side(), Door::Channel(0), 0);
+    assert!(same && lines.contains("\nthe same network: "), "{lines}");
     assert_eq!(bench.looks().digest(), before);
 }
 

@@ -26,7 +26,8 @@ pub fn directions(looks: Looks, slot: usize) -> Vec<String> {
     all.collect()
 }
 
-fn links_towards(looks: Looks, slot: usize, direction: u32) -> Vec<usize> {
+/// The enabled links that have a direction.
+pub fn links_towards(looks: Looks, slot: usize, direction: u32) -> Vec<usize> {
     let ways = (0..LINKS).filter(|link| {
         let seen = looks.link(slot, *link);
         seen.enabled == 1 && seen.direction == direction
@@ -46,7 +47,7 @@ fn bits_lead(bits: &[u32], direction: u32, ways: &[usize]) -> String {
 }
 
 /// Rising numbers, those that follow each other as `FIRST..LAST`.
-fn runs(numbers: &[u32]) -> String {
+pub fn runs(numbers: &[u32]) -> String {
     let joined = numbers.chunk_by(|one, next| one + 1 == *next);
     let written = joined.map(|run| match run {
         [first, .., last] => format!("{first}..{last}"),

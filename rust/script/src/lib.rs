@@ -4,7 +4,7 @@
 //! lines that begin with `//` are passed over. Numbers are decimal, or hexadecimal with `0x`.
 //! [`FORMS`] lists the calls. The command `bench` runs and checks scripts, and says what the network
 //! is like that a script leaves: in words ([`show`]), by an END that is sent on a copy ([`route`],
-//! [`matrix`]) and as a picture ([`draw`]). This is what it is made of.
+//! [`matrix`]), as a picture ([`draw`]) and beside another one ([`diff`]). This is what it is made of.
 //!
 //! ```
 //! let mut lines = Vec::new();
@@ -17,6 +17,7 @@
 
 mod answer;
 mod call;
+pub mod diff;
 pub mod draw;
 mod facts;
 mod host;

@@ -10,7 +10,7 @@ use std::process::ExitCode;
 use bench::Bench;
 use script::matrix::{self, Matrix};
 use script::question::{read_door, Door, Question};
-use script::{draw, route, show, source, Fault, Made, FORMS};
+use script::{diff, draw, route, show, source, Fault, Made, FORMS};
 
 const USAGE: &str = "\
 usage: bench run FILE
@@ -19,6 +19,7 @@ usage: bench run FILE
        bench route FILE SLOT NUMBER CHANNEL [NETWORK]
        bench matrix [--csv] FILE [CHANNEL [NETWORK]]
        bench draw FILE
+       bench diff BEFORE AFTER [CHANNEL [NETWORK]]
        bench help [VERB]";
 
 const ABOUT: &str = "\
@@ -33,6 +34,8 @@ bench: makes the calls of a script on the proved bench
   bench matrix [--csv] FILE [CHANNEL [NETWORK]]
                       sends an END from every board to every board's number
   bench draw FILE     prints the network as Graphviz DOT
+  bench diff BEFORE AFTER [CHANNEL [NETWORK]]
+                      prints what differs between the networks that two scripts leave
   bench --help        prints this; bench VERB --help, or bench help VERB, says more of a verb
 
 A script has one call a line, CALL, or with what came of it, CALL -> ANSWER # DIGEST. Empty lines
@@ -59,7 +62,8 @@ verb ends without a complaint.
 ";
 
 const ANSWERS: &str = "
-route and matrix end with 0 where all arrived and with 1 where something did not.
+route and matrix end with 0 where all arrived and with 1 where something did not; diff with 0 where the
+networks are the same and with 1 where something differs.
 ";
 
 const RUN: &str = "\
@@ -134,6 +138,7 @@ fn obey(words: &[Word]) -> Ended {
         ["route", _, ref question @ ..] => follow(file(1), question),
         ["matrix", ..] => ask_all(&words[1..]),
         ["draw", _] => print(&draw::draw(&network(file(1))?)),
+        ["diff", _, _, ref door @ ..] => compare(file(1), file(2), door),
         _ => Err(complaint(USAGE.to_owned())),
     }
 }
@@ -158,6 +163,7 @@ fn help_for(verb: &str) -> Result<&'static str, Complaint> {
         "route" => Ok(route::HELP),
         "matrix" => Ok(matrix::HELP),
         "draw" => Ok(draw::HELP),
+        "diff" => Ok(diff::HELP),
         _ => Err(complaint(USAGE.to_owned())),
     }
 }
@@ -255,6 +261,26 @@ fn follow(file: &Path, question: &[&str]) -> Ended {
     Ok(arrived)
 }
 
+/// `[CHANNEL [NETWORK]]`: channel 0 of network 0 if nothing is said.
+fn door_or_first(words: &[&str]) -> Result<(Door, u32), Complaint> {
+    match words {
+        [] => Ok((Door::Channel(0), 0)),
+        _ => read_door(words).map_err(unasked),
+    }
+}
+
+/// `BEFORE AFTER [CHANNEL [NETWORK]]`
+fn compare(before: &Path, after: &Path, door: &[&str]) -> Ended {
+    let (door, network_number) = door_or_first(door)?;
+    let names = [before, after].map(source::name);
+    let [before, after] = [network(before)?, network(after)?];
+    let side = |name, bench| diff::Side { name, bench };
+    let (before, after) = (side(&names[0], &before), side(&names[1], &after));
+    let (text, same) = diff::diff(&before, &after, door, network_number);
+    print(&text)?;
+    Ok(same)
+}
+
 /// `[--csv] FILE [CHANNEL [NETWORK]]`
 fn ask_all(words: &[Word]) -> Ended {
     let (options, words): (Vec<&Word>, Vec<&Word>) =
@@ -263,10 +289,7 @@ fn ask_all(words: &[Word]) -> Ended {
         return Err(complaint(USAGE.to_owned()));
     };
     let door: Vec<&str> = door.iter().map(|word| word.text.as_str()).collect();
-    let (door, network_number) = match door[..] {
-        [] => (Door::Channel(0), 0),
-        _ => read_door(&door).map_err(unasked)?,
-    };
+    let (door, network_number) = door_or_first(&door)?;
     let bench = network(&file.path)?;
     let matrix = Matrix::of(&bench, door, network_number);
     print(&match options.is_empty() {

@@ -3,6 +3,8 @@
 use bench::sizes::{LINKS, TILE_PORTS};
 use bench::{Destination, Kind, Looks, Peer, Token};
 
+use crate::facts::runs;
+
 /// The control token that ends a message.
 pub const END: u8 = 1;
 
@@ -16,6 +18,12 @@ pub fn links(links: &[usize]) -> String {
     let letters: Vec<String> = links.iter().map(|link| letter(*link).to_string()).collect();
     let name = if links.len() == 1 { "link" } else { "links" };
     format!("{name} {}", letters.join(" "))
+}
+
+/// Boards together, by their slots: `board 0`, `boards 0..2 5`.
+pub fn boards(slots: &[u32]) -> String {
+    let name = if slots.len() == 1 { "board" } else { "boards" };
+    format!("{name} {}", runs(slots))
 }
 
 /// A board's width in words.

@@ -96,7 +96,7 @@ fn last_switch(looks: Looks, walked: &Walk) -> Option<String> {
 }
 
 /// How it ends, and whether a board of that number got it.
-fn ending(looks: Looks, end: &Ending, number: u32) -> (String, bool) {
+pub fn ending(looks: Looks, end: &Ending, number: u32) -> (String, bool) {
     match end {
         Ending::Unsent { call, refusal } => (format!("{call} is refused, {refusal}"), false),
         Ending::Got { slot, channel } => got(looks, *slot, *channel, number),

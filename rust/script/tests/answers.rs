@@ -403,6 +403,15 @@ fn what_is_no_question_is_named() {
         ),
         (&["matrix", "--csv"], "usage: bench run FILE"),
         (&["draw", &path, "x"], "usage: bench run FILE"),
+        (&["diff", &path], "usage: bench run FILE"),
+        (
+            &["diff", &path, &path, "x"],
+            "expected a channel of 32 bits, or control, found x",
+        ),
+        (
+            &["diff", &path, &path, "0", "0", "0"],
+            "expected no more words, found 0",
+        ),
         (&["help", "dance"], "usage: bench run FILE"),
     ];
     for (words, expected) in cases {
@@ -416,7 +425,7 @@ fn what_is_no_question_is_named() {
 /// Every verb has its help, which names its form and its exit statuses.
 #[test]
 fn each_verb_has_help() {
-    for verb in ["run", "check", "show", "route", "matrix", "draw"] {
+    for verb in ["run", "check", "show", "route", "matrix", "draw", "diff"] {
         let help = bench(&[verb, "--help"]);
         assert!(help.status.success());
         let said = text(&help.stdout);

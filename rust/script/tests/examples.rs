@@ -11,6 +11,7 @@ mod common;
 
 use std::collections::BTreeSet;
 use std::path::{Path, PathBuf};
+use std::process::Command;
 
 use common::{bench, scripts_in, text};
 
@@ -26,6 +27,13 @@ const ROUTES: [(&str, &[&str]); 9] = [
     ("pipeline", &["0 3 5", "3 0 5", "1 4 5", "4 0 5", "0 3 32"]),
     ("ring", &["0 4 7", "0 8 7"]),
     ("update-message", &["0 1 3", "1 0 3", "0 1 control"]),
+];
+
+/// What each of these is compared with.
+const DIFFS: [(&str, &[&str]); 3] = [
+    ("half-update", &["head-after"]),
+    ("head-before", &["half-update", "head-after", "head-before"]),
+    ("pipeline", &["ring"]),
 ];
 
 fn folder() -> PathBuf {
@@ -95,6 +103,22 @@ fn routes(example: &str) -> String {
     answers.collect::<Vec<_>>().join("\n")
 }
 
+/// Each comparison as it is typed in the folder of the examples, what is said and the exit status.
+fn diffs(example: &str, others: &[&str]) -> String {
+    let said = others.iter().map(|other| {
+        let mut command = Command::new(env!("CARGO_BIN_EXE_bench"));
+        let files = [example, *other].map(|name| format!("{name}.txt"));
+        let output = command.arg("diff").args(&files).current_dir(folder());
+        let output = output.output().expect("an output");
+        assert_eq!(text(&output.stderr), "", "{files:?}");
+        let (said, status) = (text(&output.stdout), output.status.code());
+        let asked = files.join(" ");
+        let status = status.expect("a status");
+        format!("$ bench diff {asked}\n{said}exit status {status}\n")
+    });
+    said.collect::<Vec<_>>().join("\n")
+}
+
 /// What is expected of an example, by the name that its file ends with.
 fn found(example: &str) -> [(&'static str, String); 5] {
     [
@@ -128,6 +152,11 @@ fn each_verb_prints_what_is_expected() {
             hold(&name, &text);
             names.insert(name);
         }
+    }
+    for (example, others) in DIFFS {
+        let name = format!("{example}.diffs");
+        hold(&name, &diffs(example, others));
+        names.insert(name);
     }
     let entries = std::fs::read_dir(folder().join("expected")).expect("the folder expected");
     let files = entries.map(|entry| entry.expect("a file").file_name());
