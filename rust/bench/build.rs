@@ -47,7 +47,9 @@ fn main() {
     }
     let out = PathBuf::from(variable("OUT_DIR"));
     let archive = out.join(format!("lib{CRATE}.a"));
-    fs::copy(kept.archive(), archive).expect("the archive, copied for cargo");
+    fs::copy(kept.archive(), &archive).expect("the archive, copied for cargo");
+    // The tests link it into C programs.
+    println!("cargo:rustc-env=TARVELGYO_ARCHIVE={}", archive.display());
     println!("cargo:rustc-link-search=native={}", out.display());
     println!("cargo:rustc-link-lib=static={CRATE}");
 }

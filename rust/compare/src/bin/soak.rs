@@ -21,8 +21,9 @@ soak: compares the proved bench with the model on random runs and damaged memori
 Seeds are taken one after the other, from N or from the clock, until a difference or a stream gone
 wrong is found or the minutes (60 if not given) have passed, or nobody reads what it prints any more.
 A run that differs is made as short as it can be and written as a script, FOLDER/soak-SEED.txt (the
-folder at hand if none is given), with the model's answers stated. The same seed gives the same run. At the end it says how often each call gave each answer,
-and each switch message each of its ends, on both sides.
+folder at hand if none is given), with the model's answers stated. The same seed gives the same run.
+At the end it says how often each call gave each answer, and each switch message each of its ends, on
+both sides.
 
 Exit status: 0 no difference, 1 a difference, 2 words that are not understood, or nothing can be
 printed.
