@@ -5,6 +5,7 @@ use crate::refusal::{Cause, Refusal};
 /// An answer of any call. `crates/answers/specs/Answer.antt` says which number stands for it across
 /// C.
 #[derive(Clone, Copy, Debug, PartialEq, Eq, Hash)]
+#[non_exhaustive]
 pub enum Answer {
     /// Refused, and nothing is changed.
     No(Refusal),
@@ -18,6 +19,7 @@ pub enum Answer {
 
 /// What came of a Step.
 #[derive(Clone, Copy, Debug, PartialEq, Eq, Hash)]
+#[non_exhaustive]
 pub enum Stepped {
     /// The port holds nothing.
     Idle,
@@ -41,6 +43,7 @@ pub enum Stepped {
 
 /// What a circuit was opened to.
 #[derive(Clone, Copy, Debug, PartialEq, Eq, Hash)]
+#[non_exhaustive]
 pub enum Opening {
     /// Outward, by this link.
     Link(usize),

@@ -1,5 +1,6 @@
 //! The clauses of document 01's list "Sound".
 
+use std::error::Error;
 use std::fmt;
 
 /// A clause that a memory fails, by its number (docs/ARCHITECTURE.md, "Sound").
@@ -52,3 +53,6 @@ impl fmt::Display for Clause {
         write!(f, "clause {}: {}", self.number(), self.text())
     }
 }
+
+/// What is wrong with a memory, for a host that goes no further with it.
+impl Error for Clause {}

@@ -135,6 +135,20 @@ impl Bench {
         Bench { state, memory }
     }
 
+    /// The two memories back, state and token memory, as the calls have left them.
+    ///
+    /// ```
+    /// use bench::{raw, Bench};
+    ///
+    /// let (state, memory) = Bench::fresh(2).unwrap().into_parts();
+    /// assert_eq!(raw::node_count(&state), 2);
+    /// let same = Bench::over(state, memory);
+    /// assert!(same.looks().is_sound());
+    /// ```
+    pub fn into_parts(self) -> (Vec<u32>, Vec<u16>) {
+        (self.state, self.memory)
+    }
+
     /// Wire: join two different link ends, both unwired. Enabled or not, in use or not, does not
     /// matter; nobody is greeted by it.
     ///

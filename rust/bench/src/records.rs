@@ -23,6 +23,7 @@ pub enum Peer {
 
 /// Where a port's circuit goes.
 #[derive(Clone, Copy, Debug, PartialEq, Eq)]
+#[non_exhaustive]
 pub enum Hop {
     /// Outward, by this link.
     Link(u32),

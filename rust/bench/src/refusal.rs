@@ -13,6 +13,7 @@ use std::fmt;
 /// assert_eq!(Refusal::Busy.to_string(), "no 4, Busy");
 /// ```
 #[derive(Clone, Copy, Debug, PartialEq, Eq, PartialOrd, Ord, Hash)]
+#[non_exhaustive]
 pub enum Refusal {
     Unsound = 1,
     NoSuch,
@@ -85,12 +86,25 @@ impl Error for Refusal {}
 
 /// Why a circuit was refused: of a Step, and no number.
 #[derive(Clone, Copy, Debug, PartialEq, Eq, Hash)]
+#[non_exhaustive]
 pub enum Cause {
     Split,
     NoRoute,
 }
 
 impl Cause {
+    /// The paper's name.
+    ///
+    /// ```
+    /// assert_eq!(bench::Cause::NoRoute.to_string(), "NoRoute");
+    /// ```
+    pub fn name(self) -> &'static str {
+        match self {
+            Cause::Split => "Split",
+            Cause::NoRoute => "NoRoute",
+        }
+    }
+
     /// The cause that crossed as this number.
     pub(crate) fn from_number(number: u32) -> Option<Cause> {
         match number {
@@ -98,5 +112,12 @@ impl Cause {
             1 => Some(Cause::NoRoute),
             _ => None,
         }
+    }
+}
+
+impl fmt::Display for Cause {
+    /// The paper's name.
+    fn fmt(&self, f: &mut fmt::Formatter<'_>) -> fmt::Result {
+        f.write_str(self.name())
     }
 }

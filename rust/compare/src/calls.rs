@@ -162,6 +162,7 @@ pub(crate) fn of_bench(answer: bench::Answer) -> Answer {
         bench::Answer::Granted(credit) => Answer::Granted(credit as usize),
         bench::Answer::Token(value) => Answer::Token(value),
         bench::Answer::Step(stepped) => of_step(stepped),
+        other => unreachable!("the model has no {other:?}"),
     }
 }
 
@@ -177,6 +178,7 @@ fn of_step(stepped: bench::Stepped) -> Answer {
         bench::Stepped::Dropped(cause) => Answer::Dropped(of_cause(cause)),
         bench::Stepped::Malformed => Answer::Malformed,
         bench::Stepped::Unheard => Answer::Unheard,
+        other => unreachable!("the model has no {other:?}"),
     }
 }
 
@@ -184,6 +186,7 @@ fn of_cause(cause: bench::Cause) -> Cause {
     match cause {
         bench::Cause::Split => Cause::Split,
         bench::Cause::NoRoute => Cause::NoRoute,
+        other => unreachable!("the model has no {other}"),
     }
 }
 

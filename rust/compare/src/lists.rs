@@ -41,6 +41,7 @@ pub fn crossed(answer: Found) -> u64 {
         Found::Step(Stepped::Dropped(cause)) => (11, cause as u32),
         Found::Step(Stepped::Malformed) => (12, 0),
         Found::Step(Stepped::Unheard) => (13, 0),
+        other => unreachable!("{other:?} is not written down here"),
     };
     case << 32 | u64::from(carried)
 }

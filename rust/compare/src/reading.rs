@@ -118,7 +118,7 @@ fn hop(words: bench::Port) -> Read<Option<Hop>> {
         Some(bench::Hop::Dropped(bench::Cause::Split)) => Hop::Dropped(Cause::Split),
         Some(bench::Hop::Dropped(bench::Cause::NoRoute)) => Hop::Dropped(Cause::NoRoute),
         None if words.circuit.kind == 0 => return Ok(None),
-        None => return unreadable(format!("{:?} for a hop", words.circuit)),
+        _ => return unreadable(format!("{:?} for a hop", words.circuit)),
     }))
 }
 

@@ -224,7 +224,7 @@ fn both_name_the_same_line() {
         let place = random.below(lines.len());
         lines[place] = damaged(&mut random, &lines[place], &NAMES);
         let text = lines.join("\n");
-        let library = script::parse(&text).map_err(|(line, _)| line);
+        let library = script::parse(&text).map_err(|bad| bad.line);
         let model = model::script::parse(&text).map_err(|fault| match fault {
             model::script::Fault::Unreadable { line, .. } => line,
             other => panic!("{other}"),

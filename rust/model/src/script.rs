@@ -35,6 +35,8 @@ pub enum Fault {
     },
 }
 
+impl std::error::Error for Fault {}
+
 /// Makes one call and gives what came of it.
 pub fn outcome(network: &mut Option<Network>, call: &Call) -> Outcome {
     let answer = apply(network, call);

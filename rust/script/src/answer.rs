@@ -50,6 +50,8 @@ impl From<bench::Answer> for Answer {
             bench::Answer::Granted(credit) => Answer::Granted(credit),
             bench::Answer::Token(value) => Answer::Token(value),
             bench::Answer::Step(stepped) => stepped.into(),
+            // tests/text.rs has every answer of the library.
+            other => unreachable!("a script has no words for {other:?}"),
         }
     }
 }
@@ -69,15 +71,14 @@ impl From<bench::Stepped> for Answer {
             bench::Stepped::Dropped(cause) => Answer::Dropped(cause),
             bench::Stepped::Malformed => Answer::Malformed,
             bench::Stepped::Unheard => Answer::Unheard,
+            other => unreachable!("a script has no words for {other:?}"),
         }
     }
 }
 
-fn cause_word(cause: Cause) -> &'static str {
-    match cause {
-        Cause::Split => "split",
-        Cause::NoRoute => "noroute",
-    }
+/// The word for a cause: `split`, `noroute`.
+fn cause_word(cause: Cause) -> String {
+    cause.name().to_lowercase()
 }
 
 /// `results ANSWER; ANSWER; ..`.

@@ -1,7 +1,7 @@
 //! What is so on a board, a sentence a fact; what is at rest has none.
 
 use bench::sizes::{BITS, LINKS};
-use bench::{Bench, Cause, Hop, Link, Looks, Peer};
+use bench::{Bench, Hop, Link, Looks, Peer};
 
 use crate::names::{channel, counted, destination, headers, letter, links, peer, port, tokens};
 use crate::waits::wait;
@@ -99,15 +99,8 @@ fn circuit(hop: Hop) -> String {
         Hop::Link(link) => format!("circuit out by link {}", letter(link as usize)),
         Hop::Channel(end) => format!("circuit to {}", channel(end)),
         Hop::Control => "circuit to the control unit".to_owned(),
-        Hop::Dropped(cause) => format!("circuit refused as {}, is dropped", cause_name(cause)),
-    }
-}
-
-/// The paper's name of a cause.
-pub fn cause_name(cause: Cause) -> &'static str {
-    match cause {
-        Cause::Split => "Split",
-        Cause::NoRoute => "NoRoute",
+        Hop::Dropped(cause) => format!("circuit refused as {cause}, is dropped"),
+        _ => "circuit elsewhere".to_owned(),
     }
 }
 

@@ -38,5 +38,6 @@ mod words;
 pub use answer::{Answer, Opening};
 pub use call::{Call, FORMS};
 pub use host::{Host, Made, Outcome};
-pub use parse::{parse, Line};
+pub use parse::{parse, BadLine, Line};
 pub use play::{check, run, Fault, HEAD};
+pub use words::Expected;

@@ -10,7 +10,7 @@ use std::process::ExitCode;
 use bench::Bench;
 use script::matrix::{self, Matrix};
 use script::question::{read_door, Door, Question};
-use script::{diff, draw, route, show, source, Fault, Made, FORMS};
+use script::{diff, draw, route, show, source, Expected, Fault, Made, FORMS};
 
 const USAGE: &str = "\
 usage: bench run FILE
@@ -187,6 +187,10 @@ fn unwritten(error: io::Error) -> Complaint {
     complaint(format!("cannot write: {error}"))
 }
 
+fn read(file: &Path) -> Result<String, Complaint> {
+    source::read(file).map_err(|unread| complaint(format!("{}: {unread}", source::name(file))))
+}
+
 fn faulty(file: &Path, fault: Fault) -> Complaint {
     Complaint {
         status: fault.exit_status(),
@@ -203,7 +207,7 @@ fn say_what_fails(file: &Path, made: &Made) {
 }
 
 fn run(file: &Path) -> Ended {
-    let text = source::read(file).map_err(complaint)?;
+    let text = read(file)?;
     let mut out = io::BufWriter::new(io::stdout().lock());
     let mut head = Some(script::HEAD);
     let ran = script::run(&text, |made| {
@@ -223,7 +227,7 @@ fn run(file: &Path) -> Ended {
 }
 
 fn check(file: &Path) -> Ended {
-    let text = source::read(file).map_err(complaint)?;
+    let text = read(file)?;
     let checked = script::check(&text, |made| {
         say_what_fails(file, made);
         Ok(())
@@ -234,7 +238,7 @@ fn check(file: &Path) -> Ended {
 
 /// A copy of the network that a script leaves.
 fn network(file: &Path) -> Result<Bench, Complaint> {
-    let text = source::read(file).map_err(complaint)?;
+    let text = read(file)?;
     let ran = script::run(&text, |made| {
         say_what_fails(file, made);
         Ok(())
@@ -250,7 +254,7 @@ fn network(file: &Path) -> Result<Bench, Complaint> {
 }
 
 /// What was asked is not a question.
-fn unasked(expected: String) -> Complaint {
+fn unasked(expected: Expected) -> Complaint {
     complaint(format!("{expected}\n{USAGE}"))
 }
 

@@ -2,7 +2,6 @@
 
 use bench::{Bench, Looks};
 
-use crate::facts::cause_name;
 use crate::question::{Door, Question};
 use crate::walk::{walk, Ending};
 
@@ -115,7 +114,7 @@ fn pair(looks: Looks, from: usize, to: usize, end: Ending) -> Pair {
         Ending::Unsent { refusal, .. } => (format!("no {}", refusal.number()), None),
         Ending::Got { slot, .. } if number(slot) == number(to) => (ARRIVED.to_owned(), Some(slot)),
         Ending::Got { slot, .. } => ("Elsewhere".to_owned(), Some(slot)),
-        Ending::Refused { place, cause } => (cause_name(cause).to_owned(), Some(place.slot)),
+        Ending::Refused { place, cause } => (cause.to_string(), Some(place.slot)),
         Ending::Waiting { place, .. } => ("Waiting".to_owned(), Some(place.slot)),
         Ending::Steps => ("Steps".to_owned(), None),
     };

@@ -1,5 +1,8 @@
 //! Reading lines, calls and answers.
 
+use std::error::Error;
+use std::fmt;
+
 use bench::{Cause, Destination, Kind, LinkEnd, Refusal, Setting, StepRecord};
 
 use crate::answer::{Answer, Opening};
@@ -16,13 +19,27 @@ pub struct Line {
     pub stated: Option<Outcome>,
 }
 
-/// Reads a script: its calls, or the number of the first line that is none, with what was expected
-/// there.
-pub fn parse(text: &str) -> Result<Vec<Line>, (usize, Expected)> {
+/// The first line that is no call, or that names a value that no call can take.
+#[derive(Clone, Debug, PartialEq, Eq)]
+pub struct BadLine {
+    pub line: usize,
+    pub expected: Expected,
+}
+
+impl fmt::Display for BadLine {
+    fn fmt(&self, f: &mut fmt::Formatter<'_>) -> fmt::Result {
+        write!(f, "line {}: {}", self.line, self.expected)
+    }
+}
+
+impl Error for BadLine {}
+
+/// Reads a script: its calls, or what is wrong with the first line that has none.
+pub fn parse(text: &str) -> Result<Vec<Line>, BadLine> {
     let numbered = (1..).zip(text.lines().map(str::trim));
     let calls = numbered.filter(|(_, line)| !line.is_empty() && !line.starts_with("//"));
     calls
-        .map(|(number, line)| read_line(number, line).map_err(|expected| (number, expected)))
+        .map(|(line, text)| read_line(line, text).map_err(|expected| BadLine { line, expected }))
         .collect()
 }
 
@@ -49,7 +66,7 @@ fn read_call(text: &str) -> Result<Call, Expected> {
     };
     let read = call_named(name, &mut words);
     read.and_then(|call| words.end().map(|()| call))
-        .map_err(|complaint| format!("{complaint} ({form})"))
+        .map_err(|complaint| complaint.in_form(form))
 }
 
 fn call_named(name: &str, words: &mut Words) -> Result<Call, Expected> {

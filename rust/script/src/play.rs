@@ -5,17 +5,17 @@ use std::io;
 
 use crate::call::Call;
 use crate::host::{Host, Made, Outcome};
-use crate::parse::{parse, Line};
-use crate::words::Expected;
+use crate::parse::{parse, BadLine, Line};
 
 /// What a trace begins with: the Asks of document 02 that it was made with. A comment to every reader.
 pub const HEAD: &str = "// asks 1,7";
 
 /// Why a script was not run to its end.
 #[derive(Debug)]
+#[non_exhaustive]
 pub enum Fault {
-    /// A line that is no call, or names a value that no call can take.
-    BadLine { line: usize, expected: Expected },
+    /// A line that is no call: none was made.
+    BadLine(BadLine),
     /// A line that states another outcome than the one found.
     Differs {
         line: usize,
@@ -40,7 +40,7 @@ impl Fault {
 impl fmt::Display for Fault {
     fn fmt(&self, f: &mut fmt::Formatter<'_>) -> fmt::Result {
         match self {
-            Fault::BadLine { line, expected } => write!(f, "line {line}: {expected}"),
+            Fault::BadLine(bad) => write!(f, "{bad}"),
             Fault::Differs {
                 line,
                 call,
@@ -52,7 +52,15 @@ impl fmt::Display for Fault {
     }
 }
 
-impl std::error::Error for Fault {}
+impl std::error::Error for Fault {
+    fn source(&self) -> Option<&(dyn std::error::Error + 'static)> {
+        match self {
+            Fault::BadLine(bad) => Some(bad),
+            Fault::Differs { .. } => None,
+            Fault::Untold(error) => Some(error),
+        }
+    }
+}
 
 /// Makes the calls of a script and tells of each as it is made; answers the network that they
 /// leave. A bad line is found before any call is made.
@@ -80,7 +88,7 @@ pub fn check(text: &str, mut tell: impl FnMut(&Made) -> io::Result<()>) -> Resul
 }
 
 fn lines(text: &str) -> Result<Vec<Line>, Fault> {
-    parse(text).map_err(|(line, expected)| Fault::BadLine { line, expected })
+    parse(text).map_err(Fault::BadLine)
 }
 
 /// Holds what was found to what a line states, if it states anything.

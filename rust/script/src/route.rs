@@ -2,7 +2,7 @@
 
 use bench::{Bench, Cause, Hop, Looks};
 
-use crate::facts::{self, cause_name};
+use crate::facts;
 use crate::names::{channel, counted, destination, letter, port};
 use crate::question::Question;
 use crate::walk::{walk, Ending, Place, Switch, Walk, MOST_STEPS};
@@ -127,8 +127,9 @@ fn refused(looks: Looks, slot: usize, cause: Cause) -> String {
         (Cause::NoRoute, _) => "no enabled link of that network leads there",
         (Cause::Split, 1) => "a header of three bytes, read at one byte",
         (Cause::Split, _) => "a header of one byte, read at three bytes",
+        _ => "a cause of its own",
     };
-    format!("{} at board {slot}, {why}", cause_name(cause))
+    format!("{cause} at board {slot}, {why}")
 }
 
 fn queued(place: Place, ahead: usize) -> String {

@@ -1,23 +1,46 @@
 //! The text of a script, from a file of any size and any contents.
 
+use std::error::Error;
+use std::fmt;
 use std::fs::File;
 use std::io::{self, Read};
 use std::path::Path;
+use std::string::FromUtf8Error;
 
 use crate::words::printable;
 
 /// The most bytes that a script may have: it is read whole before any call is made.
 pub const MOST_BYTES: u64 = 64 << 20;
 
-/// Reads a script; where there is none, why, in one line that names the file.
-pub fn read(path: &Path) -> Result<String, String> {
-    let text = bytes(path)
-        .map_err(|error| error.to_string())
-        .and_then(|bytes| match bytes {
-            Some(bytes) => String::from_utf8(bytes).map_err(|error| no_text(&error)),
-            None => Err(format!("more than {} MiB, too long", MOST_BYTES >> 20)),
-        });
-    text.map_err(|why| format!("{}: {why}", name(path)))
+/// Why a file has no script.
+#[derive(Debug)]
+#[non_exhaustive]
+pub enum Unread {
+    /// It cannot be opened or read.
+    File(io::Error),
+    /// It has more than [`MOST_BYTES`].
+    TooLong,
+    /// From this line on it is no text in UTF-8.
+    NoText { line: usize },
+}
+
+impl fmt::Display for Unread {
+    fn fmt(&self, f: &mut fmt::Formatter<'_>) -> fmt::Result {
+        match self {
+            Unread::File(error) => write!(f, "{error}"),
+            Unread::TooLong => write!(f, "more than {} MiB, too long", MOST_BYTES >> 20),
+            Unread::NoText { line } => write!(f, "line {line}: no text in UTF-8"),
+        }
+    }
+}
+
+impl Error for Unread {}
+
+/// Reads a script.
+pub fn read(path: &Path) -> Result<String, Unread> {
+    let bytes = bytes(path).map_err(Unread::File)?;
+    let bytes = bytes.ok_or(Unread::TooLong)?;
+    String::from_utf8(bytes).map_err(|error| no_text(&error))
 }
 
 /// What a file is called in a message, which stays one line whatever the name has in it.
@@ -38,8 +61,8 @@ fn bytes(path: &Path) -> io::Result<Option<Vec<u8>>> {
 }
 
 /// The line that has the first bytes that are no text.
-fn no_text(error: &std::string::FromUtf8Error) -> String {
+fn no_text(error: &FromUtf8Error) -> Unread {
     let good = &error.as_bytes()[..error.utf8_error().valid_up_to()];
     let line = 1 + good.iter().filter(|byte| **byte == b'\n').count();
-    format!("line {line}: no text in UTF-8")
+    Unread::NoText { line }
 }

@@ -1,10 +1,28 @@
 //! The words of a line, read from left to right. An error says what was expected and what stands
 //! there.
 
+use std::error::Error;
+use std::fmt;
 use std::str::SplitWhitespace;
 
-/// What was expected, and what was found instead.
-pub type Expected = String;
+/// What was expected, and what was found instead: `expected a link, found nothing`.
+#[derive(Clone, Debug, PartialEq, Eq)]
+pub struct Expected(String);
+
+impl Expected {
+    /// The same, with how the whole is written.
+    pub fn in_form(self, form: &str) -> Expected {
+        Expected(format!("{self} ({form})"))
+    }
+}
+
+impl fmt::Display for Expected {
+    fn fmt(&self, f: &mut fmt::Formatter<'_>) -> fmt::Result {
+        f.write_str(&self.0)
+    }
+}
+
+impl Error for Expected {}
 
 /// Words that are still to be read.
 pub struct Words<'a>(SplitWhitespace<'a>);
@@ -15,7 +33,7 @@ const MOST_SHOWN: usize = 60;
 /// The complaint that another word was expected.
 pub fn expected(what: &str, found: Option<&str>) -> Expected {
     let found = found.map_or("nothing".to_owned(), shown);
-    format!("expected {what}, found {found}")
+    Expected(format!("expected {what}, found {found}"))
 }
 
 fn shown(word: &str) -> String {

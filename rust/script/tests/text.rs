@@ -144,6 +144,27 @@ fn every_answer_in_words() {
     }
 }
 
+/// Every answer that the library can give has its words, and they are read back.
+#[test]
+fn every_answer_of_the_library_has_words() {
+    let mut met = 0;
+    for (case, value) in (0..64).flat_map(|case| (0..16).map(move |value| (case, value))) {
+        let Some(answer) = bench::Answer::from_crossed(case << 32 | value) else {
+            continue;
+        };
+        met += 1;
+        let line = format!("step 0 0 -> {} # 00000000000000ff", Answer::from(answer));
+        let is_grant = matches!(answer, bench::Answer::Granted(_));
+        let is_far = line.contains("opened link") && value > 7;
+        assert_eq!(
+            parse(&line).is_err(),
+            is_far || (is_grant && ![0, 8].contains(&value)),
+            "{line}"
+        );
+    }
+    assert_eq!(met, 12 + 16 + 16 + 16 + 2 + 2 + 8);
+}
+
 #[test]
 fn lines_that_differ_in_spaces_and_digits_alone() {
     let plain = parse("set 0 number 0 293 -> no 3 # 00000000000000ff");
@@ -224,7 +245,8 @@ const BAD_LINES: [(&str, &str); 46] = [
 fn bad_lines_are_named() {
     for (line, expected) in BAD_LINES {
         let text = format!("fresh 1 832\n\n// next\n{line}\nnor is this\n");
-        let (number, complaint) = parse(&text).expect_err(line);
+        let bad = parse(&text).expect_err(line);
+        let (number, complaint) = (bad.line, bad.expected.to_string());
         assert_eq!(number, 4);
         assert!(complaint.starts_with(expected), "{complaint}");
     }
