@@ -23,9 +23,9 @@ use Rattle.cells.specs.World.{World}
 use Rattle.cells.specs.declared.port.Leg.{Leg}
 use Rattle.cells.specs.declared.end.Buffer.{Buffer}
 
--- the state changed, and every word of token memory as it was
+-- the state changed, and every word of both memories as it was
 abbrev pub withNet : World → Net → World
-withNet w s = record { net = s; memory = w .memory }
+withNet w s = record { net = s; memory = w .memory; lineMemory = w .lineMemory }
 
 -- the width and the number that a node has at this moment
 abbrev pub widthAt : Net → ℕ → Width
@@ -40,6 +40,7 @@ pushed w n p t =
     record {
       net = withCounters (w .net) n p (putCounters (w .net .ports .counters n p));
       memory = putMemory (w .net .ports .counters n p) (w .memory) (place n p) t;
+      lineMemory = w .lineMemory;
     }
 
 -- tokens are put into a port, one after the other
@@ -60,6 +61,7 @@ popped w n p =
     record {
       net = withCounters (w .net) n p (takeCounters (w .net .ports .counters n p));
       memory = takeMemory (w .net .ports .counters n p) (w .memory) (place n p);
+      lineMemory = w .lineMemory;
     }
 
 -- a port's circuit goes this way

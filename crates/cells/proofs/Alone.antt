@@ -7,6 +7,7 @@ use Rattle.ports.specs.declared.Counters.{Counters}
 use Rattle.cells.specs.View.{Net, withLink, withCable, withSetup, withFlow, withUser}
 use Rattle.cells.specs.View.{withPort, withCounters, withLeg, withNetwork, withSender}
 use Rattle.cells.specs.View.{withEnd, withAim, withSending, withClaim, withBuffer, withUnit, withServing, withHearing}
+use Rattle.cells.specs.View.{withLine, withRing, withIssued}
 use Rattle.cells.specs.declared.link.Cable.{Cable}
 use Rattle.cells.specs.declared.link.Setup.{Setup}
 use Rattle.cells.specs.declared.link.Flow.{Flow}
@@ -90,3 +91,10 @@ module _ (s : Net) (n : ℕ) where
       → withUnit s n (record { serves = s .units .serving n 0; hearing = x })
       ≡ withHearing s n x
   hearing-alone x = rw (upd-own (s .units .serving) n 0)
+
+module _ (s : Net) (n l : ℕ) where
+  pub ring-alone : (x : Counters) → withLine s n l (record { ring = x; issued = s .lines .issued n l }) ≡ withRing s n l x
+  ring-alone x = rw (upd-own (s .lines .issued) n l)
+
+  pub issued-alone : (x : ℕ) → withLine s n l (record { ring = s .lines .rings n l; issued = x }) ≡ withIssued s n l x
+  issued-alone x = rw (upd-own (s .lines .rings) n l)

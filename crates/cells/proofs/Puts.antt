@@ -10,12 +10,12 @@ use borrow.Rule.Slice.PartMut.{putMid}
 use Rattle.laws.specs.Row.{Same}
 use Rattle.laws.specs.Table.{upd}
 use Rattle.laws.proofs.Row.{row-put, same-put, rest-kept, listed}
-use Rattle.cells.specs.Layout.{stride, Within, begins, nodesIn, table, node, link, port, tile, end, unit}
-use Rattle.cells.specs.Records.{toNode, toLink, toPort, toTile, toEnd, toUnit}
-use Rattle.cells.specs.Records.{fromNode, fromLink, fromPort, fromTile, fromEnd, fromUnit}
+use Rattle.cells.specs.Layout.{stride, Within, begins, nodesIn, table, node, link, port, tile, end, unit, line}
+use Rattle.cells.specs.Records.{toNode, toLink, toPort, toTile, toEnd, toUnit, toLine}
+use Rattle.cells.specs.Records.{fromNode, fromLink, fromPort, fromTile, fromEnd, fromUnit, fromLine}
 use Rattle.names.specs.Size.{endBuffer, unitBuffer}
-use Rattle.cells.specs.View.{view, linkTables, portTables, endTables, unitTables}
-use Rattle.cells.specs.View.{withNode, withLink, withPort, withTile, withEnd, withUnit}
+use Rattle.cells.specs.View.{view, linkTables, portTables, endTables, unitTables, lineTables}
+use Rattle.cells.specs.View.{withNode, withLink, withPort, withTile, withEnd, withUnit, withLine}
 use Rattle.cells.specs.declared.layout.Kind.{Kind}
 use Rattle.cells.specs.declared.node.Node.{Node}
 use Rattle.cells.specs.declared.link.Link.{Link}
@@ -23,6 +23,7 @@ use Rattle.cells.specs.declared.port.Port.{Port}
 use Rattle.cells.specs.declared.tile.Tile.{Tile}
 use Rattle.cells.specs.declared.end.End.{End}
 use Rattle.cells.specs.declared.unit.Unit.{Unit}
+use Rattle.cells.specs.declared.line.Line.{Line}
 use Rattle.cells.proofs.Tables.{Clear, in-node, in-state, nodes-same, table-kept, table-set}
 
 -- ys is xs with the words of record i of node n replaced by ws
@@ -102,6 +103,12 @@ module _ {k : Kind} {xs ys ws : List ℕ} {n i : ℕ} (z : Written k xs ys ws n 
     hearings = z .there unit (λ r. toUnit r .hearing) (lit≤ tt) c j;
   }
 
+  lines-kept : Clear k line → lineTables ys ≡ lineTables xs
+  lines-kept c = λ j. record {
+    rings = z .there line (λ r. toLine r .ring) (lit≤ tt) c j;
+    issued = z .there line (λ r. toLine r .issued) (lit≤ tt) c j;
+  }
+
 -- The view after each kind of record is written
 
 pub node-put : (xs ws : List ℕ) (n a e : ℕ) (k : Node) → n < nodesIn xs
@@ -118,6 +125,7 @@ node-put xs ws n a e k hn ha he h =
       tiles = z .there tile toTile (lit≤ tt) (inl (lit≤ tt)) j;
       ends = ends-kept z (inl (lit≤ tt)) j;
       units = units-kept z (inl (lit≤ tt)) j;
+      lines = lines-kept z (inl (lit≤ tt)) j;
       rest = z .rest j;
     }
 
@@ -140,6 +148,7 @@ link-put xs ws n i a e k hn hi ha he h =
       tiles = z .there tile toTile (lit≤ tt) (inl (lit≤ tt)) j;
       ends = ends-kept z (inl (lit≤ tt)) j;
       units = units-kept z (inl (lit≤ tt)) j;
+      lines = lines-kept z (inl (lit≤ tt)) j;
       rest = z .rest j;
     }
 
@@ -162,6 +171,7 @@ port-put xs ws n i a e k hn hi ha he h =
       tiles = z .there tile toTile (lit≤ tt) (inl (lit≤ tt)) j;
       ends = ends-kept z (inl (lit≤ tt)) j;
       units = units-kept z (inl (lit≤ tt)) j;
+      lines = lines-kept z (inl (lit≤ tt)) j;
       rest = z .rest j;
     }
 
@@ -179,6 +189,7 @@ tile-put xs ws n i a e k hn hi ha he h =
       tiles = set-as z toTile (fromTile k) k h refl j;
       ends = ends-kept z (inl (lit≤ tt)) j;
       units = units-kept z (inl (lit≤ tt)) j;
+      lines = lines-kept z (inl (lit≤ tt)) j;
       rest = z .rest j;
     }
 
@@ -201,6 +212,7 @@ end-put xs ws n i a e k hn hi ha he full h =
         buffers = set-as z (λ r. toEnd r .buffer) (fromEnd k) (k .buffer) h (buffer-back k full) j;
       };
       units = units-kept z (inl (lit≤ tt)) j;
+      lines = lines-kept z (inl (lit≤ tt)) j;
       rest = z .rest j;
     }
 
@@ -220,6 +232,28 @@ unit-put xs ws n a e k hn ha he full h =
       units = record {
         serving = set-as z (λ r. toUnit r .serves) (fromUnit k) (k .serves) h refl j;
         hearings = set-as z (λ r. toUnit r .hearing) (fromUnit k) (k .hearing) h (hearing-back k full) j;
+      };
+      lines = lines-kept z (inl (lit≤ tt)) j;
+      rest = z .rest j;
+    }
+
+pub line-put : (xs ws : List ℕ) (n i a e : ℕ) (k : Line) → n < nodesIn xs → i < line .many
+    → a ≡ begins line n i → e ≡ a + line .size → ws ≡ fromLine k
+    → view (putMid a (e - a) xs ws) ≡ withLine (view xs) n i k
+unfolding view
+line-put xs ws n i a e k hn hi ha he h =
+    let z = written line (lit≤ tt) xs ws n i a e hn hi ha he (ap length h) in
+    λ j. record {
+      nodes = z .nodes j;
+      own = z .there node toNode (lit≤ tt) (inr (lit≤ tt)) j;
+      links = links-kept z (inr (lit≤ tt)) j;
+      ports = ports-kept z (inr (lit≤ tt)) j;
+      tiles = z .there tile toTile (lit≤ tt) (inr (lit≤ tt)) j;
+      ends = ends-kept z (inr (lit≤ tt)) j;
+      units = units-kept z (inr (lit≤ tt)) j;
+      lines = record {
+        rings = set-as z (λ r. toLine r .ring) (fromLine k) (k .ring) h refl j;
+        issued = set-as z (λ r. toLine r .issued) (fromLine k) (k .issued) h refl j;
       };
       rest = z .rest j;
     }

@@ -11,10 +11,10 @@ use lib.Seq.{ext-getD, getD-drop}
 use Rattle.laws.specs.Row.{row}
 use Rattle.laws.proofs.Order.{order}
 use Rattle.laws.proofs.Row.{row-long, row-at, listed}
-use Rattle.cells.specs.Layout.{stride, Within, begins, nodesIn, table, node, link, port, tile, end, unit}
-use Rattle.cells.specs.Records.{toNode, toLink, toPort, toTile, toEnd, toUnit}
-use Rattle.cells.specs.Records.{fromNode, fromLink, fromPort, fromTile, fromEnd, fromUnit}
-use Rattle.cells.specs.View.{view, Net, linkTables, portTables, endTables, unitTables}
+use Rattle.cells.specs.Layout.{stride, Within, begins, nodesIn, table, node, link, port, tile, end, unit, line}
+use Rattle.cells.specs.Records.{toNode, toLink, toPort, toTile, toEnd, toUnit, toLine}
+use Rattle.cells.specs.Records.{fromNode, fromLink, fromPort, fromTile, fromEnd, fromUnit, fromLine}
+use Rattle.cells.specs.View.{view, Net, linkTables, portTables, endTables, unitTables, lineTables}
 use Rattle.cells.specs.declared.layout.Kind.{Kind}
 use Rattle.cells.proofs.Tables.{in-state, inside-is}
 
@@ -32,6 +32,9 @@ end-table xs ys e =
 
 unit-table : (xs ys : List ℕ) → unitTables xs ≡ unitTables ys → table unit toUnit xs ≡ table unit toUnit ys
 unit-table xs ys e = λ j. λ n i. record { serves = e j .serving n i; hearing = e j .hearings n i }
+
+line-table : (xs ys : List ℕ) → lineTables xs ≡ lineTables ys → table line toLine xs ≡ table line toLine ys
+line-table xs ys e = λ j. λ n i. record { ring = e j .rings n i; issued = e j .issued n i }
 
 module _ (xs ys : List ℕ) (e : view xs ≡ view ys) where
   nodes-same : nodesIn xs ≡ nodesIn ys
@@ -103,8 +106,23 @@ module _ (xs ys : List ℕ) (e : view xs ≡ view ys) where
   unit-rows =
       rows-same unit (lit≤ tt) toUnit fromUnit (λ r h. rw (listed (unit .size) r 0 h)) (unit-table xs ys (ap (λ (v : Net). v .units) e))
 
+  line-rows : Rows line
+  unfolding view
+  line-rows =
+      rows-same line (lit≤ tt) toLine fromLine (λ r h. rw (listed (line .size) r 0 h)) (line-table xs ys (ap (λ (v : Net). v .lines) e))
+
   -- a word of a whole node: r is its place among the node's words
   module _ (i n r : ℕ) (at : i ≡ n * stride + r) (hn : n < nodesIn xs) (hr : r < stride) where
+    from-unit : unit .from ≤ r → getD xs i 0 ≡ getD ys i 0
+    from-unit h =
+        ⊎-elim
+        (λ l. in-row (unit .size) (begins unit n 0) (r - unit .from) i (omega arith) (omega arith) (unit-rows n 0 hn (lit≤ tt)))
+        (λ l.
+        let q = (r - line .from) / line .size in
+        let j = (r - line .from) % line .size in
+        in-row (line .size) (begins line n q) j i (omega arith) (omega arith) (line-rows n q hn (omega arith)))
+        (order r (line .from))
+
     from-end : end .from ≤ r → getD xs i 0 ≡ getD ys i 0
     from-end h =
         ⊎-elim
@@ -112,7 +130,7 @@ module _ (xs ys : List ℕ) (e : view xs ≡ view ys) where
         let q = (r - end .from) / end .size in
         let j = (r - end .from) % end .size in
         in-row (end .size) (begins end n q) j i (omega arith) (omega arith) (end-rows n q hn (omega arith)))
-        (λ l. in-row (unit .size) (begins unit n 0) (r - unit .from) i (omega arith) (omega arith) (unit-rows n 0 hn (lit≤ tt)))
+        from-unit
         (order r (unit .from))
 
     from-port : port .from ≤ r → r < end .from → getD xs i 0 ≡ getD ys i 0

@@ -10,8 +10,8 @@ use borrow.Author.Tests.{le-ltb}
 use Rattle.laws.specs.Row.{row}
 use Rattle.laws.proofs.Order.{by-test}
 use Rattle.laws.proofs.Row.{row-long, row-at}
-use Rattle.cells.specs.Layout.{stride, Within, begins, nodesIn, table, inside, node, link, port, tile, end, unit}
-use Rattle.cells.specs.Records.{toNode, toLink, toPort, toTile, toEnd, toUnit}
+use Rattle.cells.specs.Layout.{stride, Within, begins, nodesIn, table, inside, node, link, port, tile, end, unit, line}
+use Rattle.cells.specs.Records.{toNode, toLink, toPort, toTile, toEnd, toUnit, toLine}
 use Rattle.cells.specs.View.{view}
 use Rattle.cells.specs.Start.{startTo, noneOn}
 use Rattle.cells.specs.declared.layout.Kind.{Kind}
@@ -82,6 +82,10 @@ module _ (n : ℕ) where
     units = record {
       serving = λ m i. zero-table unit (lit≤ tt) (λ r. toUnit r .serves) refl m i j;
       hearings = λ m i. zero-table unit (lit≤ tt) (λ r. toUnit r .hearing) refl m i j;
+    };
+    lines = record {
+      rings = λ m i. zero-table line (lit≤ tt) (λ r. toLine r .ring) refl m i j;
+      issued = λ m i. zero-table line (lit≤ tt) (λ r. toLine r .issued) refl m i j;
     };
     rest = zero-rest j;
   }

@@ -25,3 +25,6 @@ networkAs k v = record { enabled = k .enabled; direction = k .direction; network
 
 abbrev pub creditAs : Flow → ℕ → Flow
 creditAs k v = record { greeted = k .greeted; credit = v }
+
+abbrev pub greetedAs : Flow → ℕ → Flow
+greetedAs k v = record { greeted = v; credit = k .credit }

@@ -8,7 +8,7 @@ use Rattle.laws.specs.Pick.{pick}
 use Rattle.laws.specs.Row.{row}
 use Rattle.names.specs.Size as Size
 use Rattle.circuits.specs.Circuit.{circuitWords}
-use Rattle.cells.specs.Records.{nodeOwn, linkOwn, portOwn, endOwn, unitOwn}
+use Rattle.cells.specs.Records.{nodeOwn, linkOwn, portOwn, endOwn, unitOwn, lineOwn}
 use Rattle.cells.specs.declared.layout.Kind.{Kind}
 
 -- the kinds of record, one after the other: each begins where the one before it ends
@@ -33,9 +33,12 @@ end = record { many = Size.ends; from = after tile; size = endOwn + 2 * circuitW
 abbrev pub unit : Kind
 unit = record { many = 1; from = after end; size = unitOwn + circuitWords }
 
+abbrev pub line : Kind
+line = record { many = Size.links; from = after unit; size = lineOwn }
+
 -- the words of a node
 abbrev pub stride : ℕ
-stride = after unit
+stride = after line
 
 -- all records of a kind lie among the node's words
 abbrev pub Within : Kind → Type 0

@@ -11,6 +11,7 @@ use Rattle.cells.specs.declared.port.Port.{Port}
 use Rattle.cells.specs.declared.tile.Tile.{Tile}
 use Rattle.cells.specs.declared.end.End.{End}
 use Rattle.cells.specs.declared.unit.Unit.{Unit}
+use Rattle.cells.specs.declared.line.Line.{Line}
 
 -- a node's own settings
 abbrev pub nodeOwn : ℕ
@@ -103,3 +104,13 @@ toUnit r =
 
 abbrev pub fromUnit : Unit → List ℕ
 fromUnit k = k .hearing .heard ∷ tab unitBuffer (λ i. getD (k .hearing .tokens) i 0) ++ fromCircuit (k .serves)
+
+-- the line that starts at a link, and what that link has issued and not yet received
+abbrev pub lineOwn : ℕ
+lineOwn = 3
+
+abbrev pub toLine : List ℕ → Line
+toLine r = record { ring = record { head = getD r 0 0; held = getD r 1 0 }; issued = getD r 2 0 }
+
+abbrev pub fromLine : Line → List ℕ
+fromLine k = k .ring .head ∷ k .ring .held ∷ k .issued ∷ []

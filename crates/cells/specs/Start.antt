@@ -9,8 +9,8 @@ use lib.ListN.{replicate}
 use Rattle.laws.specs.Pick.{pick}
 use Rattle.names.specs.Size.{ports}
 use Rattle.ports.specs.Queue.{capacity}
-use Rattle.cells.specs.Records.{toNode, toLink, toPort, toTile, toEnd, toUnit}
-use Rattle.cells.specs.View.{Net, LinkTables, PortTables, EndTables, UnitTables}
+use Rattle.cells.specs.Records.{toNode, toLink, toPort, toTile, toEnd, toUnit, toLine}
+use Rattle.cells.specs.View.{Net, LinkTables, PortTables, EndTables, UnitTables, LineTables}
 use Rattle.cells.specs.World.{World}
 use Rattle.cells.specs.declared.node.Node.{Node}
 use Rattle.cells.specs.declared.link.Link.{Link}
@@ -60,6 +60,9 @@ noEnds =
 abbrev pub noUnits : UnitTables
 noUnits = record { serving = λ m i. toUnit [] .serves; hearings = λ m i. toUnit [] .hearing }
 
+abbrev pub noLines : LineTables
+noLines = record { rings = λ m i. toLine [] .ring; issued = λ m i. toLine [] .issued }
+
 -- n nodes, of which the first k have their settings, and the links in the set are enabled; all other words are 0
 abbrev pub startTo : ℕ → (ℕ → ℕ → Bool) → ℕ → Net
 startTo k on n =
@@ -71,6 +74,7 @@ startTo k on n =
       tiles = λ m i. toTile [];
       ends = noEnds;
       units = noUnits;
+      lines = noLines;
       rest = [];
     }
 
@@ -78,7 +82,7 @@ abbrev pub startNet : (ℕ → ℕ → Bool) → ℕ → Net
 startNet on n = startTo n on n
 
 abbrev pub startWorld : (ℕ → ℕ → Bool) → ℕ → World
-startWorld on n = record { net = startNet on n; memory = replicate (n * (ports * capacity)) 0 }
+startWorld on n = record { net = startNet on n; memory = replicate (n * (ports * capacity)) 0; lineMemory = [] }
 
 -- no link is enabled
 abbrev pub noneOn : ℕ → ℕ → Bool

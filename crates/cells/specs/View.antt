@@ -7,8 +7,8 @@ use lib.ListN.{drop}
 use Rattle.laws.specs.Table.{upd}
 use Rattle.circuits.specs.declared.Circuit.{Circuit}
 use Rattle.ports.specs.declared.Counters.{Counters}
-use Rattle.cells.specs.Layout.{stride, nodesIn, table, node, link, port, tile, end, unit}
-use Rattle.cells.specs.Records.{toNode, toLink, toPort, toTile, toEnd, toUnit}
+use Rattle.cells.specs.Layout.{stride, nodesIn, table, node, link, port, tile, end, unit, line}
+use Rattle.cells.specs.Records.{toNode, toLink, toPort, toTile, toEnd, toUnit, toLine}
 use Rattle.cells.specs.declared.node.Node.{Node}
 use Rattle.cells.specs.declared.link.Link.{Link}
 use Rattle.cells.specs.declared.link.Cable.{Cable}
@@ -22,6 +22,7 @@ use Rattle.cells.specs.declared.end.Aim.{Aim}
 use Rattle.cells.specs.declared.end.Buffer.{Buffer}
 use Rattle.cells.specs.declared.unit.Unit.{Unit}
 use Rattle.cells.specs.declared.unit.Hearing.{Hearing}
+use Rattle.cells.specs.declared.line.Line.{Line}
 
 pub record LinkTables : Type 0 where
   pub cables : ℕ → ℕ → Cable
@@ -45,6 +46,10 @@ pub record UnitTables : Type 0 where
   pub serving : ℕ → ℕ → Circuit
   pub hearings : ℕ → ℕ → Hearing
 
+pub record LineTables : Type 0 where
+  pub rings : ℕ → ℕ → Counters
+  pub issued : ℕ → ℕ → ℕ
+
 -- one record a node stands at place 0
 pub record Net : Type 0 where
   pub nodes : ℕ
@@ -54,6 +59,7 @@ pub record Net : Type 0 where
   pub tiles : ℕ → ℕ → Tile
   pub ends : EndTables
   pub units : UnitTables
+  pub lines : LineTables
   -- words past the last whole node: none in a state of the right length
   pub rest : List ℕ
 
@@ -89,6 +95,9 @@ endTables ws =
 abbrev pub unitTables : List ℕ → UnitTables
 unitTables ws = record { serving = table unit (λ r. toUnit r .serves) ws; hearings = table unit (λ r. toUnit r .hearing) ws }
 
+abbrev pub lineTables : List ℕ → LineTables
+lineTables ws = record { rings = table line (λ r. toLine r .ring) ws; issued = table line (λ r. toLine r .issued) ws }
+
 unfoldable pub view : List ℕ → Net
 view ws =
     record {
@@ -99,6 +108,7 @@ view ws =
       tiles = table tile toTile ws;
       ends = endTables ws;
       units = unitTables ws;
+      lines = lineTables ws;
       rest = drop (nodesIn ws * stride) ws;
     }
 
@@ -124,6 +134,9 @@ wholeEnd s n c =
 abbrev pub wholeUnit : Net → ℕ → Unit
 wholeUnit s n = record { serves = s .units .serving n 0; hearing = s .units .hearings n 0 }
 
+abbrev pub wholeLine : Net → ℕ → ℕ → Line
+wholeLine s n l = record { ring = s .lines .rings n l; issued = s .lines .issued n l }
+
 -- One group of tables changed
 
 abbrev pub withNode : Net → ℕ → Node → Net
@@ -136,6 +149,7 @@ withNode s n k =
       tiles = s .tiles;
       ends = s .ends;
       units = s .units;
+      lines = s .lines;
       rest = s .rest;
     }
 
@@ -149,6 +163,7 @@ withLinks s x =
       tiles = s .tiles;
       ends = s .ends;
       units = s .units;
+      lines = s .lines;
       rest = s .rest;
     }
 
@@ -162,6 +177,7 @@ withPorts s x =
       tiles = s .tiles;
       ends = s .ends;
       units = s .units;
+      lines = s .lines;
       rest = s .rest;
     }
 
@@ -175,6 +191,7 @@ withTile s n i k =
       tiles = upd (s .tiles) n i k;
       ends = s .ends;
       units = s .units;
+      lines = s .lines;
       rest = s .rest;
     }
 
@@ -188,6 +205,7 @@ withEnds s x =
       tiles = s .tiles;
       ends = x;
       units = s .units;
+      lines = s .lines;
       rest = s .rest;
     }
 
@@ -201,6 +219,21 @@ withUnits s x =
       tiles = s .tiles;
       ends = s .ends;
       units = x;
+      lines = s .lines;
+      rest = s .rest;
+    }
+
+abbrev pub withLines : Net → LineTables → Net
+withLines s x =
+    record {
+      nodes = s .nodes;
+      own = s .own;
+      links = s .links;
+      ports = s .ports;
+      tiles = s .tiles;
+      ends = s .ends;
+      units = s .units;
+      lines = x;
       rest = s .rest;
     }
 
@@ -236,6 +269,10 @@ withEnd s n c k = let t = s .ends in
 abbrev pub withUnit : Net → ℕ → Unit → Net
 withUnit s n k = let t = s .units in
     withUnits s (record { serving = upd (t .serving) n 0 (k .serves); hearings = upd (t .hearings) n 0 (k .hearing) })
+
+abbrev pub withLine : Net → ℕ → ℕ → Line → Net
+withLine s n l k = let t = s .lines in
+    withLines s (record { rings = upd (t .rings) n l (k .ring); issued = upd (t .issued) n l (k .issued) })
 
 -- One entry of one table of a group changed
 
@@ -292,3 +329,9 @@ withServing s n x = withUnits s (record { serving = upd (s .units .serving) n 0 
 
 abbrev pub withHearing : Net → ℕ → Hearing → Net
 withHearing s n x = withUnits s (record { serving = s .units .serving; hearings = upd (s .units .hearings) n 0 x })
+
+abbrev pub withRing : Net → ℕ → ℕ → Counters → Net
+withRing s n l x = withLines s (record { rings = upd (s .lines .rings) n l x; issued = s .lines .issued })
+
+abbrev pub withIssued : Net → ℕ → ℕ → ℕ → Net
+withIssued s n l x = withLines s (record { rings = s .lines .rings; issued = upd (s .lines .issued) n l x })

@@ -1,6 +1,7 @@
 // Where each record of a node lies. The records of a node stand in the order node, links, ports, tile
-// links, channel-ends, control unit.
+// links, channel-ends, control unit, lines.
 use crate::end;
+use crate::line;
 use crate::link;
 use crate::node;
 use crate::port;
@@ -18,9 +19,6 @@ ghost use lib.ListN.{length};
 ghost use Rattle.cells.specs.World.{world, shaped};
 ghost use Rattle.cells.specs.Layout.{stride, Within, begins, nodesIn, wordsOf};
 
-// The words of a node.
-pub const STRIDE: usize = UNIT.from + UNIT.size;
-
 // The words of token memory of a node: its ports' stretches.
 pub const TOKEN_WORDS: usize = PORTS * Counters::CAPACITY as usize;
 
@@ -32,6 +30,31 @@ pub struct Kind {
     pub size: usize,
 }
 
+// The words of a record: its own and those of its circuits.
+const LINK_WORDS: usize = link::OWN + circuits::WORDS;
+
+const PORT_WORDS: usize = port::OWN + 2 * circuits::WORDS;
+
+const END_WORDS: usize = end::OWN + 2 * circuits::WORDS;
+
+const UNIT_WORDS: usize = unit::OWN + circuits::WORDS;
+
+// Where the first of a kind begins: where the kind before it ends.
+const FIRST_LINK: usize = node::OWN;
+
+const FIRST_PORT: usize = FIRST_LINK + LINKS * LINK_WORDS;
+
+const FIRST_TILE: usize = FIRST_PORT + PORTS * PORT_WORDS;
+
+const FIRST_END: usize = FIRST_TILE + TILE_LINKS * circuits::WORDS;
+
+const FIRST_UNIT: usize = FIRST_END + ENDS * END_WORDS;
+
+const FIRST_LINE: usize = FIRST_UNIT + UNIT_WORDS;
+
+// The words of a node.
+pub const STRIDE: usize = FIRST_LINE + LINKS * line::OWN;
+
 pub const NODE: Kind = Kind {
     many: 1,
     from: 0,
@@ -40,32 +63,38 @@ pub const NODE: Kind = Kind {
 
 pub const LINK: Kind = Kind {
     many: LINKS,
-    from: NODE.from + NODE.many * NODE.size,
-    size: link::OWN + circuits::WORDS,
+    from: FIRST_LINK,
+    size: LINK_WORDS,
 };
 
 pub const PORT: Kind = Kind {
     many: PORTS,
-    from: LINK.from + LINK.many * LINK.size,
-    size: port::OWN + 2 * circuits::WORDS,
+    from: FIRST_PORT,
+    size: PORT_WORDS,
 };
 
 pub const TILE: Kind = Kind {
     many: TILE_LINKS,
-    from: PORT.from + PORT.many * PORT.size,
+    from: FIRST_TILE,
     size: circuits::WORDS,
 };
 
 pub const END: Kind = Kind {
     many: ENDS,
-    from: TILE.from + TILE.many * TILE.size,
-    size: end::OWN + 2 * circuits::WORDS,
+    from: FIRST_END,
+    size: END_WORDS,
 };
 
 pub const UNIT: Kind = Kind {
     many: 1,
-    from: END.from + END.many * END.size,
-    size: unit::OWN + circuits::WORDS,
+    from: FIRST_UNIT,
+    size: UNIT_WORDS,
+};
+
+pub const LINE: Kind = Kind {
+    many: LINKS,
+    from: FIRST_LINE,
+    size: line::OWN,
 };
 
 // How many nodes a state has: what its length says.

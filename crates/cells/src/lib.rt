@@ -3,6 +3,7 @@
 // all-zero one where there is none, and `put`, which writes one that is there.
 pub mod end;
 pub mod layout;
+pub mod line;
 pub mod link;
 pub mod node;
 pub mod port;

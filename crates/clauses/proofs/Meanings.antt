@@ -34,11 +34,13 @@ use Rattle.cells.specs.declared.link.Far.{Far}
 use Rattle.cells.specs.declared.link.Far.the-variants.{Nowhere, At}
 use Rattle.cells.specs.declared.port.Port.{Port}
 use Rattle.cells.specs.declared.tile.Tile.{Tile}
+use Rattle.cells.specs.declared.line.Line.{Line}
+use Rattle.lines.specs.Line.{lineCapacity}
 use Rattle.cells.specs.declared.end.End.{End}
 use Rattle.cells.specs.declared.end.Aim.{Aim}
 use Rattle.cells.specs.declared.unit.Unit.{Unit}
 use Rattle.cells.specs.declared.unit.Hearing.{Hearing}
-use Rattle.clauses.specs.Counts.{nodeCounts, linkCounts, tilePort, isFree, portCounts, tileCounts, aimCounts, endCounts, unitCounts}
+use Rattle.clauses.specs.Counts.{nodeCounts, linkCounts, tilePort, isFree, portCounts, tileCounts, aimCounts, endCounts, unitCounts, lineCounts}
 use Rattle.clauses.specs.Cables.{onFar, leadsTo, cable, credited, greeted, enabled, room}
 use Rattle.clauses.specs.Contents.{legalWord, filled, legalWords, heldTokens, heardTokens}
 use Rattle.clauses.specs.Pairs.{portOf, endOf, claimable, straightTo, linkOf, tileOf, unitOf, claimOf}
@@ -103,6 +105,19 @@ free k = also (equal _ _) (equal _ _)
 
 pub tile-counts : (k : Tile) → Means (tileCounts k) (k .user .kind ≤ 1)
 tile-counts k = at-most _ _
+
+-- an empty line, and nothing issued
+pub record LineFacts (k : Line) : Type 0 where
+  pub head : k .ring .head < lineCapacity
+  pub held : k .ring .held ≡ 0
+  pub issued : k .issued ≡ 0
+
+pub line-counts : (k : Line) → Means (lineCounts k) (LineFacts k)
+line-counts k =
+    same-as
+    (λ z. record { head = z .0; held = z .1 .0; issued = z .1 .1 })
+    (λ z. (z .head, (z .held, z .issued)))
+    (also (below _ _) (also (equal _ _) (equal _ _)))
 
 -- a destination that is there
 pub record AimFacts (k : Aim) : Type 0 where

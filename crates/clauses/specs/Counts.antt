@@ -16,6 +16,8 @@ use Rattle.cells.specs.declared.tile.Tile.{Tile}
 use Rattle.cells.specs.declared.end.End.{End}
 use Rattle.cells.specs.declared.end.Aim.{Aim}
 use Rattle.cells.specs.declared.unit.Unit.{Unit}
+use Rattle.cells.specs.declared.line.Line.{Line}
+use Rattle.lines.specs.Line.{lineCapacity}
 
 -- 0 or 1
 abbrev pub flag : ℕ → Bool
@@ -75,3 +77,8 @@ endCounts k = aimCounts (k .aim) && (legalPeer (k .sending) && (legalPeer (k .cl
 -- what a control unit has kept of a message, while it listens
 abbrev pub unitCounts : Unit → Bool
 unitCounts k = byPort (k .serves) && (eqb (k .serves .kind) 0 || leb (k .hearing .heard) unitBuffer)
+
+-- "a line of up to 66 tokens" (document 02, Ask 4). While a token crosses a cable at once, and a grant with it, nothing is on a line and
+-- nothing issued is on its way
+abbrev pub lineCounts : Line → Bool
+lineCounts k = ltb (k .ring .head) lineCapacity && (eqb (k .ring .held) 0 && eqb (k .issued) 0)

@@ -1,11 +1,13 @@
 // "counts within their limits", record by record.
 use cells::end::Aim;
 use cells::end::End;
+use cells::line::Line;
 use cells::link::Link;
 use cells::node::Node;
 use cells::port::Port;
 use cells::tile::Tile;
 use cells::unit::Unit;
+use lines::CAPACITY;
 use names::size::DIRECTIONS;
 use names::size::END_BUFFER;
 use names::size::FIRST_TILE_PORT;
@@ -16,7 +18,7 @@ use names::size::UNIT_BUFFER;
 use ports::Counters;
 use tokens::header::is_channel;
 ghost use mathlib.Core.Path.{_≡_};
-ghost use Rattle.clauses.specs.Counts.{nodeCounts, linkCounts, portNetwork, portCounts, tileCounts, endCounts, unitCounts, aimCounts};
+ghost use Rattle.clauses.specs.Counts.{nodeCounts, linkCounts, portNetwork, portCounts, tileCounts, endCounts, unitCounts, aimCounts, lineCounts};
 
 // What a channel-end holds at most, beside words of 32 bits.
 const BUFFER: u32 = END_BUFFER as u32;
@@ -78,4 +80,11 @@ pub fn unit_counts(k: Unit) -> bool
     ensures { λ r. ⌜ r ≡ unitCounts k ⌝ }
 {
     (k.serves.kind <= 1) & ((k.serves.kind == 0) | (k.hearing.heard <= UNIT_BUFFER))
+}
+
+// Nothing is on a line, and nothing issued is on its way, while tokens cross at once.
+pub fn line_counts(k: Line) -> bool
+    ensures { λ r. ⌜ r ≡ lineCounts k ⌝ }
+{
+    (k.ring.head < CAPACITY) & ((k.ring.held == 0) & (k.issued == 0))
 }

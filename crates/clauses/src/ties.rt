@@ -18,7 +18,7 @@ ghost use Rattle.cells.specs.World.{world};
 ghost use Rattle.clauses.specs.Ties.{carriedFor, fedTo, fed, unfed, unsent, idle, inBody, sends, replied};
 
 // What a link has carried: as much as has left the port that uses it, or nothing unfinished.
-fn carried_for(st: &[u32], mem: &[u16], slot: Slot, x: Peer) -> Stage
+pub fn carried_for(st: &[u32], mem: &[u16], slot: Slot, x: Peer) -> Stage
     ensures { λ r. ⌜ r ≡ carriedFor (world (now (st .entry)) (now (mem .entry))) (slot .0) x ⌝ }
 {
     match x {

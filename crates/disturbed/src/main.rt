@@ -14,6 +14,7 @@ use states::write::set_credit;
 use states::write::set_heard;
 use states::write::set_held;
 use states::write::set_hop;
+use states::write::set_line;
 use states::write::set_sending;
 use states::write::set_serves;
 use states::write::set_tile_user;
@@ -89,6 +90,16 @@ fn unit_counts() {
     report(b"2 twelve tokens heard", &st, &mem);
     set_heard(&mut st, 1, UNIT_BUFFER, 0x01C1);
     report(b"2 eleven tokens heard", &st, &mem);
+}
+
+fn line_counts() {
+    let mut st = [0u32; WORDS];
+    let mem = [0u16; TOKENS];
+    blank(&mut st);
+    set_line(&mut st, 1, 7, 0, 1);
+    report(b"2 a token issued and not received", &st, &mem);
+    set_line(&mut st, 1, 7, 0, 0);
+    report(b"2 nothing issued", &st, &mem);
 }
 
 // Link 0 of slot 0 and link 3 of slot 1, joined and enabled, the first greeted with some credit.
@@ -201,6 +212,7 @@ fn counts() {
     tile_counts();
     end_counts();
     unit_counts();
+    line_counts();
 }
 
 fn links() {

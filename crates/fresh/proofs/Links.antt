@@ -107,5 +107,6 @@ module _ (k l n : ℕ) (lo : firstBootLink ≤ l) (hi : l < links) where
         tiles = startNet noneOn n .tiles;
         ends = startNet noneOn n .ends;
         units = startNet noneOn n .units;
+        lines = startNet noneOn n .lines;
         rest = startNet noneOn n .rest;
       }

@@ -46,7 +46,7 @@ module _ (w : World) (n k : ℕ) (e : k ≡ refusal (startRows w n)) where
     -- both memories written
     pub start-goes-on : (s : Net) (m : List ℕ) → k ≡ passes → s ≡ startNet (leavesOn x (w .net .nodes)) (w .net .nodes)
         → m ≡ replicate (length (w .memory)) 0
-        → out Done (record { net = s; memory = m }) ≡ begin w x n
+        → out Done (record { net = s; memory = m; lineMemory = [] }) ≡ begin w x n
     unfolding begin
     start-goes-on s m h a b =
         let f = fitting h in

@@ -52,6 +52,7 @@ settle-next k n =
       tiles = startTo k noneOn n .tiles;
       ends = startTo k noneOn n .ends;
       units = startTo k noneOn n .units;
+      lines = startTo k noneOn n .lines;
       rest = startTo k noneOn n .rest;
     }
 

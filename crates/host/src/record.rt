@@ -2,11 +2,13 @@
 // true where the buffer has exactly as many; a buffer of another length is left as it is.
 use cells::end;
 use cells::layout::END;
+use cells::layout::LINE;
 use cells::layout::LINK;
 use cells::layout::NODE;
 use cells::layout::PORT;
 use cells::layout::TILE;
 use cells::layout::UNIT;
+use cells::line;
 use cells::link;
 use cells::node;
 use cells::port;
@@ -14,8 +16,8 @@ use cells::tile;
 use cells::unit;
 use names::Slot;
 ghost use mathlib.Core.Path.{_≡_};
-ghost use Rattle.cells.specs.Records.{fromNode, fromLink, fromPort, fromTile, fromEnd, fromUnit};
-ghost use Rattle.cells.specs.View.{view, wholeLink, wholePort, wholeEnd, wholeUnit};
+ghost use Rattle.cells.specs.Records.{fromNode, fromLink, fromPort, fromTile, fromEnd, fromUnit, fromLine};
+ghost use Rattle.cells.specs.View.{view, wholeLink, wholePort, wholeEnd, wholeUnit, wholeLine};
 ghost use Rattle.host.specs.Crossed.{shown, showing};
 
 #[no_mangle]
@@ -81,5 +83,17 @@ pub extern "C" fn tarvelgyo_control_unit(st: &[u32], slot: usize, out: &mut [u32
         return false;
     }
     unit::write(out, unit::at(st, Slot(slot)));
+    true
+}
+
+// The line that starts at a link, and what that link has issued.
+#[no_mangle]
+pub extern "C" fn tarvelgyo_line(st: &[u32], slot: usize, l: usize, out: &mut [u32]) -> bool
+    ensures { λ r. ⌜ shown r (now (out .exit)) ≡ showing (fromLine (wholeLine (view (now (st .entry))) slot l)) (now (out .entry)) ⌝ }
+{
+    if out.len() != LINE.size {
+        return false;
+    }
+    line::write(out, line::at(st, Slot(slot), l));
     true
 }

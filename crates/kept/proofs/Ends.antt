@@ -95,6 +95,7 @@ keep-ends w x k z =
       endPort = z .endPort;
       aimed = z .aimed;
       goes = z .goes;
+      lines = k .lines;
       silent = k .silent;
       backs = record { walks = k .backs .walks; unfed = k .backs .unfed; sends = z .sends; replied = k .backs .replied };
       idle = k .idle;

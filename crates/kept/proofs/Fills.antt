@@ -22,6 +22,7 @@ pub record Filled (w z : World) (n p : ℕ) (ts : List ℕ) : Type 0 where
   pub net : z .net ≡ withCounters (w .net) n p (z .net .ports .counters n p)
   pub shape : shaped z ≡ shaped w
   pub long : length (z .memory) ≡ length (w .memory)
+  pub lines : z .lineMemory ≡ w .lineMemory
   pub fair : Fair (z .net .ports .counters n p)
   pub held : z .net .ports .counters n p .held ≡ w .net .ports .counters n p .held + length ts
   pub here : queue z n p ≡ queue w n p ++ ts
@@ -33,6 +34,7 @@ filled-none w n p h =
       net = counters-own (w .net) n p;
       shape = refl;
       long = refl;
+      lines = refl;
       fair = h;
       held = omega arith;
       here = sym (append-nil (queue w n p));
@@ -49,6 +51,7 @@ filled-one w n p t r =
       net = ap (λ (k : Counters). withCounters (w .net) n p k) (sym (pushed-counters w n p t));
       shape = shape-as w z refl refl same;
       long = same;
+      lines = refl;
       fair = room-left w n p t 0 r .fair;
       held = ap (λ (k : Counters). k .held) (pushed-counters w n p t);
       here = pushed-queue w n p t r;
@@ -62,6 +65,7 @@ filled-then {w} {z} {y} {n} {p} {ts} {us} a b =
       net = b .net ∙ ap (λ (s : Net). withCounters s n p c) (a .net) ∙ counters-again (w .net) n p (z .net .ports .counters n p) c;
       shape = b .shape ∙ a .shape;
       long = b .long ∙ a .long;
+      lines = b .lines ∙ a .lines;
       fair = b .fair;
       held = omega (arith, a .held, b .held, length-append ts us);
       here = b .here ∙ ap (λ (q : List ℕ). q ++ us) (a .here) ∙ append-assoc (queue w n p) ts us;

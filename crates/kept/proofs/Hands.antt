@@ -121,6 +121,7 @@ module _ (w : World) (k : Kept w) (n p c t : ℕ) (r : Holds w n p 1) (e : hop (
         endPort = k .endPort;
         aimed = k .aimed;
         goes = k .goes;
+        lines = k .lines;
         silent = lf .silent;
         backs = lf .backs;
         idle = k .idle;

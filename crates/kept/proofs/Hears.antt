@@ -114,6 +114,7 @@ module _ (w : World) (k : Kept w) (n p : ℕ) (r : Holds w n p 1) (e : hop (w .n
         endPort = k .endPort;
         aimed = k .aimed;
         goes = k .goes;
+        lines = k .lines;
         silent = silent;
         backs = lf .backs;
         idle = k .idle;

@@ -85,6 +85,7 @@ landsAt s n p h x =
       tiles = x .tiles;
       ends = record { aims = s .ends .aims; sendings = s .ends .sendings; claims = x .claims; buffers = s .ends .buffers };
       units = x .units;
+      lines = s .lines;
       rest = s .rest;
     }
 
@@ -217,6 +218,7 @@ module _ (w : World) (k : Kept w) (n p : ℕ) (z : Headed w n p) (x : Width) (si
         endPort = k .endPort;
         aimed = k .aimed;
         goes = k .goes;
+        lines = k .lines;
         silent = silent-after;
         backs = same-ends back-same (k .goes) (k .backs);
         idle = k .idle;

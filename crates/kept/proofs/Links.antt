@@ -41,6 +41,7 @@ settledAs w o c s f =
       tiles = t .tiles;
       ends = t .ends;
       units = t .units;
+      lines = t .lines;
       rest = t .rest;
     })
 
@@ -87,6 +88,7 @@ resettled w o c s f k z =
       endPort = k .endPort;
       aimed = k .aimed;
       goes = k .goes;
+      lines = k .lines;
       silent = k .silent;
       backs = record { walks = k .backs .walks; unfed = z .unfed; sends = k .backs .sends; replied = k .backs .replied };
       idle = z .idle;

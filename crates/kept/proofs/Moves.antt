@@ -79,6 +79,7 @@ keep-drops w k n p c r e =
       endPort = k .endPort;
       aimed = k .aimed;
       goes = k .goes;
+      lines = k .lines;
       silent = gone .silent;
       backs = gone .backs;
       idle = k .idle;
@@ -266,6 +267,7 @@ module _ (w : World) (k : Kept w) (n p l : ℕ) (m : Slot) (j : ℕ) (r : Holds 
         endPort = k .endPort;
         aimed = k .aimed;
         goes = k .goes;
+        lines = k .lines;
         silent = λ a ha. ⊎-elim inl
             (λ none. inr (ap (λ (q : Counters). q .held)
             (upd-miss (y .net .ports .counters) (m .0) j more a replyPort (beyond a replyPort (omega arith))) ∙ none))

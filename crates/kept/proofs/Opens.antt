@@ -186,6 +186,7 @@ module _ (w : World) (k : Kept w) (n p : ℕ) (z : Headed w n p) (h : Hop) (on :
         endPort = k .endPort;
         aimed = k .aimed;
         goes = k .goes;
+        lines = k .lines;
         silent = k .silent;
         backs = same-ends back-same (k .goes) (k .backs);
         idle = idle;

@@ -61,16 +61,21 @@ use Rattle.kept.proofs.Stages.{tile-there, carried-same, carries-still,
 use Rattle.kept.proofs.Ends.{Sender, until, pair-until, sending-ok, sending-aimed, sending-goes}
 
 -- A PORT THAT NO CABLE LEADS TO IS FILLED
--- the world then, of which the port's counters and the memory are new
+-- the world then, of which the port's counters and the token memory are new
 abbrev after : World → ℕ → ℕ → Counters → List ℕ → World
-after w n p c m = record { net = withCounters (w .net) n p c; memory = m }
+after w n p c m = record { net = withCounters (w .net) n p c; memory = m; lineMemory = w .lineMemory }
 
 filled-as : {w z : World} {n p : ℕ} {ts : List ℕ} → Filled w z n p ts → (P : World → Type 0)
     → ((c : Counters) (m : List ℕ) → Filled w (after w n p c m) n p ts → P (after w n p c m))
     → P z
 filled-as {w} {z} {n} {p} {ts} f P h =
-    let over : Net → World = λ s. record { net = s; memory = z .memory } in
-    subst (λ s. P (over s)) (sym (f .net)) (h (z .net .ports .counters n p) (z .memory) (subst (λ s. Filled w (over s) n p ts) (f .net) f))
+    let c = z .net .ports .counters n p in
+    let over : Net → List ℕ → World = λ s g. record { net = s; memory = z .memory; lineMemory = g } in
+    let there : Filled w (after w n p c (z .memory)) n p ts =
+    subst (λ g. Filled w (over (withCounters (w .net) n p c) g) n p ts) (f .lines)
+    (subst (λ s. Filled w (over s (z .lineMemory)) n p ts) (f .net) f) in
+    subst (λ s. P (over s (z .lineMemory))) (sym (f .net))
+    (subst (λ g. P (over (withCounters (w .net) n p c) g)) (sym (f .lines)) (h c (z .memory) there))
 
 -- .. with the networks, the senders and the sendings that there are then
 abbrev with : World → (ℕ → ℕ → ℕ) → (ℕ → ℕ → Circuit) → (ℕ → ℕ → Circuit) → World
@@ -138,6 +143,7 @@ module _ (w : World) (n p : ℕ) (c : Counters) {m ts : List ℕ} (f : Filled w 
         endPort = x .endPort;
         aimed = x .aimed;
         goes = x .goes;
+        lines = k .lines;
         silent = λ a ha.
             upd-all (λ a j y. j ≡ replyPort → (w .net .units .serving a 0 .kind ≡ 0) ⊎ (y .held ≡ 0)) counters n p c a replyPort
             (λ ea ej e. inl (rw ea (x .silent (sym ej))))

@@ -23,7 +23,7 @@ use Rattle.ports.specs.Queue.{capacity, Fair}
 use Rattle.grammar.specs.Stage.{stageNumber, sameStage}
 use Rattle.grammar.specs.declared.stage.Stage.{Stage}
 use Rattle.grammar.specs.declared.stage.Stage.the-variants.{Bad, Fresh, Body, OneDue, ThreeDue, TwoDue, LastDue}
-use Rattle.cells.specs.View.{wholeLink, wholePort, wholeEnd, wholeUnit}
+use Rattle.cells.specs.View.{wholeLink, wholePort, wholeEnd, wholeUnit, wholeLine}
 use Rattle.cells.specs.World.{World, shaped, isEmpty, farOf}
 use Rattle.cells.specs.declared.link.Far.{Far}
 use Rattle.cells.specs.declared.link.Far.the-variants.{Nowhere, At}
@@ -37,7 +37,7 @@ use Rattle.clauses.specs.declared.pairs.Named.the-variants.{One}
 use Rattle.clauses.specs.declared.pairs.Role.{Role}
 use Rattle.clauses.specs.declared.pairs.Role.the-variants as Roles
 use Rattle.clauses.proofs.Meanings.{node-counts, link-counts, end-counts, unit-counts, cables, credits, greetings, rooms, pairs, silences}
-use Rattle.clauses.proofs.Meanings.{filled-all, helds, heards}
+use Rattle.clauses.proofs.Meanings.{filled-all, helds, heards, line-counts}
 use Rattle.sound.specs.Tests.{holdsAt, places}
 use Rattle.sound.specs.Questions.{answerAt, placesOf, everywhere}
 use Rattle.sound.specs.Sound.{sound, tight}
@@ -47,7 +47,7 @@ use Rattle.sound.specs.declared.questions.Question.{Question}
 use Rattle.sound.specs.declared.questions.Question.the-variants as Questions
 use Rattle.sound.proofs.Sounds.{sound-shaped, sound-says, sound-from}
 use Rattle.sound.proofs.Facts.{node-facts, link-facts, tile-facts, end-facts, unit-facts, credit-facts, greeting-facts, room-facts}
-use Rattle.sound.proofs.Facts.{cable-facts, contents-facts, held-facts, open-facts, pair-facts, silent-facts}
+use Rattle.sound.proofs.Facts.{cable-facts, contents-facts, held-facts, open-facts, pair-facts, silent-facts, line-facts}
 use Rattle.kept.specs.Kept.{All, EndOk, LegOk, TilePort, NetworkOk, Cabled, Half, legLink, portIn, endIn, GoesBy, frontAt, backAt}
 use Rattle.kept.specs.Kept.{reachedAt, carried, Fed, Unfed, Unsent, Idle, Sends, Replied, Kept}
 
@@ -330,6 +330,7 @@ sound-kept w s t =
       endPort = record { out = backed Roles.EndPort; back = backed Roles.PortEnd };
       aimed = λ n e hn he. opened n e hn he .0;
       goes = λ n e hn he. opened n e hn he .1;
+      lines = λ n l hn hl. line-facts w s n hn l hl;
       silent = λ n hn. silent-facts w s n hn;
       backs = record {
         walks = λ n p hn hp. contents-facts w s n hn p hp;
@@ -415,6 +416,7 @@ module _ (w : World) (k : Kept w) where
   kept-says (Tests.Agrees r) n i hn hi = pairs r (w .net) n i .back (kept-backed r n i hn hi)
   kept-says Tests.OpenEnd n e hn he = open-means w (k .backs .sends) n e hn he .back (k .aimed n e hn he, k .goes n e hn he)
   kept-says Tests.Silent n i hn hi = silences (w .net) n 0 .back (k .silent n hn)
+  kept-says Tests.Lines n l hn hl = line-counts (wholeLine (w .net) n l) .back (k .lines n l hn hl)
   kept-says Tests.Heard n i hn hi =
       heards (w .net) n 0 .back
       (⊎-elim (λ z. inl z) (λ z. inr (λ j l. z .1 j (filled-held unitBuffer _ j l))) (k .hearings n 0 hn (lit≤ tt)))

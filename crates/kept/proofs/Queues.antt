@@ -36,7 +36,7 @@ shape-as w z a b c = rw (a, b, c)
 pub stored-away : (w : World) (s : Net) (n p i v : ℕ) (c : Counters) → p < ports → i < capacity
     → s .ports .counters ≡ upd (w .net .ports .counters) n p c
     → (m j : ℕ) → j < ports → Off n p m j
-    → queue (record { net = s; memory = set (w .memory) (place n p + i) v }) m j ≡ queue w m j
+    → queue (record { net = s; memory = set (w .memory) (place n p + i) v; lineMemory = w .lineMemory }) m j ≡ queue w m j
 stored-away w s n p i v c hp hi e m j hj o =
     let k = w .net .ports .counters in
     ap (λ (t : ℕ → ℕ → Counters). held (t m j) (set (w .memory) (place n p + i) v) (place m j)) e

@@ -36,7 +36,8 @@ use Rattle.clauses.specs.Contents.{legalWord}
 use Rattle.clauses.specs.Pairs.{portOf, endOf, straightTo, linkOf, tileOf, unitOf, claimOf}
 use Rattle.clauses.specs.declared.pairs.Named.{Named}
 use Rattle.clauses.specs.declared.pairs.Named.the-variants.{One}
-use Rattle.clauses.proofs.Meanings.{AimFacts}
+use Rattle.cells.specs.View.{wholeLine}
+use Rattle.clauses.proofs.Meanings.{AimFacts, LineFacts}
 
 -- P holds at every place of N nodes with k places each
 abbrev pub All : ℕ → ℕ → (ℕ → ℕ → Type 0) → Type 0
@@ -267,6 +268,7 @@ pub record Kept (w : World) : Type 0 where
   pub endPort : Pair (w .net .nodes) ends ports portIn endIn (w .net .ends .sendings) (w .net .ports .senders)
   pub aimed : Aimed (w .net .nodes) (w .net .ends .sendings) (w .net .ends .aims)
   pub goes : All (w .net .nodes) ends (λ n e. GoesBy (peerOf (w .net .ends .sendings n e)))
+  pub lines : All (w .net .nodes) links (λ n l. LineFacts (wholeLine (w .net) n l))
   pub silent : Silent (w .net .nodes) (w .net .units .serving) (w .net .ports .counters)
   pub backs : Ends (w .net .nodes) (w .net .links .cables) (w .net .ends .sendings) (backAt w) (reachedAt w)
   pub idle : Idle (w .net .nodes) (w .net .links .setups) (w .net .links .users)

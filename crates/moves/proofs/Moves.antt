@@ -19,7 +19,7 @@ use Rattle.acts.proofs.Queues.{pushed-queue}
 use Rattle.grants.specs.Grants.{considered}
 use Rattle.moves.specs.Moves.{took, closesOut, arrives, pays, crosses, movesOut}
 use Rattle.moves.proofs.Takes.{up-ports}
-use Rattle.moves.proofs.After.{closed-counters, room-after, far-after}
+use Rattle.moves.proofs.After.{took-is, closed-counters, room-after, far-after}
 
 module _ (w : World) (n p m j : ℕ) (h : Holds w n p 1) (r : Room w m j 1) (o : Off n p m j) where
   took-counters : took w n p .net .ports .counters m j ≡ w .net .ports .counters m j
@@ -48,8 +48,10 @@ moved w n p l m j h e r o =
     let z = took w n p in
     let x = firstAt w n p in
     let y : World = withNet z (closesOut (z .net) n p l x) in
-    let far : farOf (y .net .links .cables n l) ≡ At m j = far-after w (z .net) (z .memory) n p refl l x ∙ e in
-    let room : Room y (m .0) j 1 = room-after w (z .net) (z .memory) n p refl l x (At m j) h r in
+    let far : farOf (y .net .links .cables n l) ≡ At m j = far-after w (z .net) (z .memory) n p (took-is w n p) l x ∙ e in
+    let left = room-after w (z .net) (z .memory) n p (took-is w n p) l x (At m j) h r in
+    let room : Room y (m .0) j 1 =
+    record { node = left .node; port = left .port; fair = left .fair; room = left .room; reaches = left .reaches } in
     let kept : queue y (m .0) j ≡ queue w (m .0) j =
     ap (λ (t : ℕ → ℕ → Counters). held (t (m .0) j) (z .memory) (place (m .0) j)) (closed-counters (z .net) n p l x)
     ∙ took-queue w n p (m .0) j h r o in

@@ -16,7 +16,7 @@ use Rattle.ports.specs.Queue.{capacity, Fair}
 use Rattle.ports.specs.Memory.{place}
 use Rattle.grammar.specs.Stage.{isBad}
 use Rattle.grammar.specs.Walk.{backOf}
-use Rattle.cells.specs.View.{wholeLink, wholePort, wholeEnd, wholeUnit}
+use Rattle.cells.specs.View.{wholeLink, wholePort, wholeEnd, wholeUnit, wholeLine}
 use Rattle.cells.specs.World.{World, shaped, isEmpty, farOf, hop, queue}
 use Rattle.cells.specs.declared.link.Far.the-variants.{At}
 use Rattle.clauses.specs.Contents.{ready, legalWord}
@@ -25,11 +25,12 @@ use Rattle.clauses.specs.declared.pairs.Named.the-variants.{One}
 use Rattle.clauses.specs.declared.pairs.Role.{Role}
 use Rattle.clauses.proofs.Meanings.{node-counts, LinkFacts, link-counts, PortFacts, port-counts, EndFacts, end-counts, unit-counts}
 use Rattle.clauses.proofs.Meanings.{Joined, cables, credits, Hears, greetings, rooms, pairs, silences, filled-all, helds, heards, plain}
+use Rattle.clauses.proofs.Meanings.{LineFacts, line-counts}
 use Rattle.sound.specs.Tests.{holdsAt, places}
 use Rattle.sound.specs.Sound.{sound}
 use Rattle.sound.specs.declared.tests.Test.{Test}
 use Rattle.sound.specs.declared.tests.Test.the-variants.{Nodes, Links, Ports, Tiles, Ends, Units, Credited, Greeted, Room, Cable}
-use Rattle.sound.specs.declared.tests.Test.the-variants.{Contents, Held, Agrees, OpenEnd, Silent, Heard}
+use Rattle.sound.specs.declared.tests.Test.the-variants.{Contents, Held, Agrees, OpenEnd, Silent, Heard, Lines}
 use Rattle.sound.proofs.Sounds.{sound-shaped, sound-says}
 
 module _ (w : World) (s : sound w ≡ true) where
@@ -63,6 +64,9 @@ module _ (w : World) (s : sound w ≡ true) where
 
     pub tile-facts : (t : ℕ) → t < tileLinks → w .net .tiles n t .user .kind ≤ 1
     tile-facts t h = at-most (w .net .tiles n t .user .kind) 1 .sure (says Tiles t h)
+
+    pub line-facts : (l : ℕ) → l < links → LineFacts (wholeLine (w .net) n l)
+    line-facts l h = line-counts (wholeLine (w .net) n l) .sure (says Lines l h)
 
     pub end-facts : (c : ℕ) → c < ends → EndFacts (wholeEnd (w .net) n c)
     end-facts c h = end-counts (wholeEnd (w .net) n c) .sure (says Ends c h)

@@ -11,7 +11,7 @@ use Rattle.laws.proofs.Order.{never, clash}
 use Rattle.names.specs.Size.{nodes, ports, endBuffer, unitBuffer, replyPort, numbers}
 use Rattle.names.specs.declared.Slot.{Slot}
 use Rattle.ports.specs.Queue.{capacity}
-use Rattle.cells.specs.View.{wholeLink, wholePort, wholeEnd, wholeUnit}
+use Rattle.cells.specs.View.{wholeLink, wholePort, wholeEnd, wholeUnit, wholeLine}
 use Rattle.cells.specs.World.{World, shaped, isEmpty, farOf, hop, queue}
 use Rattle.cells.specs.declared.link.Far.the-variants.{At}
 use Rattle.clauses.specs.Pairs.{backward, players}
@@ -19,6 +19,7 @@ use Rattle.clauses.specs.Sentences.{Plain, Holds}
 use Rattle.clauses.proofs.Readies.{Ready}
 use Rattle.clauses.proofs.Spoken.{ports-hold}
 use Rattle.clauses.proofs.Meanings.{node-counts, LinkFacts, link-counts, PortFacts, port-counts, tile-counts, EndFacts, end-counts}
+use Rattle.clauses.proofs.Meanings.{LineFacts, line-counts}
 use Rattle.clauses.proofs.Meanings.{unit-counts, Joined, cables, credits, Hears, greetings, rooms, Held, held-tokens, heard-tokens}
 use Rattle.clauses.proofs.Meanings.{Names, each-names-back, Opened, open-ends, silences}
 use Rattle.sound.specs.Tests.{holdsAt, places}
@@ -54,6 +55,7 @@ Meaning Tests.Silent w n i = (w .net .units .serving n 0 .kind ≡ 0) ⊎ (w .ne
 Meaning Tests.Heard w n i =
     let k = w .net .units .hearings n 0 in
     (w .net .units .serving n 0 .kind ≡ 0) ⊎ ((j : ℕ) → j < k .heard → j < unitBuffer → Plain (getD (k .tokens) j 0))
+Meaning Tests.Lines w n i = LineFacts (wholeLine (w .net) n i)
 
 pub each-test : (t : Test) (w : World) (n i : ℕ) → Means (holdsAt t w n i) (Meaning t w n i)
 each-test Tests.Nodes w n i = node-counts (w .net .own n 0)
@@ -72,6 +74,7 @@ each-test (Tests.Agrees r) w n i = each-names-back r (w .net) n i
 each-test Tests.OpenEnd w n i = open-ends (w .net) n i
 each-test Tests.Silent w n i = silences (w .net) n 0
 each-test Tests.Heard w n i = heard-tokens (w .net) n 0
+each-test Tests.Lines w n i = line-counts (wholeLine (w .net) n i)
 
 -- "A network of 1 to 16 nodes", with no word past the last, and "nodes × 13 ports × 64 words, exactly"
 pub record Fitting (w : World) : Type 0 where

@@ -29,7 +29,7 @@ use Rattle.sound.specs.Questions.{answerAt, placesOf, everywhere}
 use Rattle.sound.specs.Sound.{sound, tight, quiet}
 use Rattle.sound.specs.declared.tests.Test.{Test}
 use Rattle.sound.specs.declared.tests.Test.the-variants.{Nodes, Links, Ports, Tiles, Ends, Units, Credited, Greeted, Room, Cable}
-use Rattle.sound.specs.declared.tests.Test.the-variants.{Contents, Held, Agrees, OpenEnd, Silent, Heard}
+use Rattle.sound.specs.declared.tests.Test.the-variants.{Contents, Held, Agrees, OpenEnd, Silent, Heard, Lines}
 use Rattle.sound.specs.declared.questions.Question.{Question}
 use Rattle.sound.specs.declared.questions.Question.the-variants.{Tied, Sends, Replied, QuietPort, QuietEnd}
 use Rattle.sound.proofs.Sounds.{sound-from}
@@ -81,6 +81,7 @@ module _ (on : ℕ → ℕ → Bool) (n : ℕ) (some : 1 ≤ n) (few : n ≤ nod
   start-passes OpenEnd m i h g = refl
   start-passes Silent m i h g = refl
   start-passes Heard m i h g = refl
+  start-passes Lines m i h g = refl
 
   pub start-shaped : shaped (startWorld on n) ≡ true
   unfolding shaped

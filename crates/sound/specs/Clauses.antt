@@ -11,7 +11,7 @@ use Rattle.clauses.specs.declared.pairs.Role.the-variants.{PortClaim, ClaimPort
 use Rattle.sound.specs.Tests.{holds, holdsAt, places}
 use Rattle.sound.specs.declared.tests.Test.{Test}
 use Rattle.sound.specs.declared.tests.Test.the-variants.{Nodes, Links, Ports, Tiles, Ends, Units, Credited, Greeted, Room, Cable}
-use Rattle.sound.specs.declared.tests.Test.the-variants.{Contents, Held, Agrees, OpenEnd, Silent, Heard}
+use Rattle.sound.specs.declared.tests.Test.the-variants.{Contents, Held, Agrees, OpenEnd, Silent, Heard, Lines}
 
 pub record Clause : Type 0 where
   pub number : ℕ
@@ -29,6 +29,7 @@ counts =
     ∷ clause 2 Tiles
     ∷ clause 2 Ends
     ∷ clause 2 Units
+    ∷ clause 2 Lines
     ∷ []
 
 -- 3: "credit only where greeted"; 4: "greeted only where wired with both ends enabled"; 5: "credit plus tokens held at the far end at

@@ -3,15 +3,15 @@ use Prim.Native.Nat.{ℕ}
 use mathlib.Core.Bool.{Bool}
 use Rattle.laws.specs.All.{every}
 use Rattle.names.specs.Size.{links, ports, tileLinks, ends}
-use Rattle.cells.specs.View.{wholeLink, wholePort, wholeEnd, wholeUnit}
+use Rattle.cells.specs.View.{wholeLink, wholePort, wholeEnd, wholeUnit, wholeLine}
 use Rattle.cells.specs.World.{World}
-use Rattle.clauses.specs.Counts.{nodeCounts, linkCounts, portCounts, tileCounts, endCounts, unitCounts}
+use Rattle.clauses.specs.Counts.{nodeCounts, linkCounts, portCounts, tileCounts, endCounts, unitCounts, lineCounts}
 use Rattle.clauses.specs.Cables.{cable, credited, greeted, room}
 use Rattle.clauses.specs.Contents.{contents, heldTokens, heardTokens}
 use Rattle.clauses.specs.Pairs.{agrees, players, openEnd, silent}
 use Rattle.sound.specs.declared.tests.Test.{Test}
 use Rattle.sound.specs.declared.tests.Test.the-variants.{Nodes, Links, Ports, Tiles, Ends, Units, Credited, Greeted, Room, Cable}
-use Rattle.sound.specs.declared.tests.Test.the-variants.{Contents, Held, Agrees, OpenEnd, Silent, Heard}
+use Rattle.sound.specs.declared.tests.Test.the-variants.{Contents, Held, Agrees, OpenEnd, Silent, Heard, Lines}
 
 -- the test at place i of node n
 abbrev pub holdsAt : Test → World → ℕ → ℕ → Bool
@@ -31,6 +31,7 @@ holdsAt (Agrees r) w n i = agrees r (w .net) n i
 holdsAt OpenEnd w n i = openEnd (w .net) n i
 holdsAt Silent w n i = silent (w .net) n 0
 holdsAt Heard w n i = heardTokens (w .net) n 0
+holdsAt Lines w n i = lineCounts (wholeLine (w .net) n i)
 
 -- how many places of a node it is made at: those of one table
 abbrev pub places : Test → ℕ
@@ -50,6 +51,7 @@ places (Agrees r) = players r
 places OpenEnd = ends
 places Silent = 1
 places Heard = 1
+places Lines = links
 
 -- the test at every place of every node
 unfoldable pub holds : Test → World → Bool

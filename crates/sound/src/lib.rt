@@ -37,7 +37,8 @@ fn counts(st: &[u32], mem: &[u16], after: u32, found: u32) -> u32
     let c = ask(st, mem, after, c, 2, Test::Ports);
     let c = ask(st, mem, after, c, 2, Test::Tiles);
     let c = ask(st, mem, after, c, 2, Test::Ends);
-    ask(st, mem, after, c, 2, Test::Units)
+    let c = ask(st, mem, after, c, 2, Test::Units);
+    ask(st, mem, after, c, 2, Test::Lines)
 }
 
 // Credits and cables.

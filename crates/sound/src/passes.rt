@@ -2,6 +2,7 @@
 // once for all of it, since the tests stand side by side; one that has no circuit names nobody, and is not
 // asked for whom.
 use cells::end;
+use cells::line;
 use cells::link;
 use cells::node;
 use cells::port;
@@ -15,6 +16,7 @@ use clauses::contents::contents;
 use clauses::contents::heard_tokens;
 use clauses::contents::held_tokens;
 use clauses::counts::end_counts;
+use clauses::counts::line_counts;
 use clauses::counts::link_counts;
 use clauses::counts::node_counts;
 use clauses::counts::port_counts;
@@ -42,7 +44,9 @@ pub fn of_link(st: &[u32], mem: &[u16], slot: Slot, l: usize) -> bool
     ensures { λ r. ⌜ r ≡ asked soundClauses links (world (now (st .entry)) (now (mem .entry))) (slot .0) l ⌝ }
 {
     let cabled = room(st, slot, l) & (cable(st, slot, l) & agrees(st, slot, Role::LinkPort, l));
-    link_counts(link::at(st, slot, l)) & (credited(st, slot, l) & (greeted(st, slot, l) & cabled))
+    let lined = line_counts(line::at(st, slot, l))
+        & (credited(st, slot, l) & (greeted(st, slot, l) & cabled));
+    link_counts(link::at(st, slot, l)) & lined
 }
 
 // What a port names names it back.

@@ -1,5 +1,6 @@
 // The tests of the Sound list, place by place.
 use cells::end;
+use cells::line;
 use cells::link;
 use cells::node;
 use cells::port;
@@ -13,6 +14,7 @@ use clauses::contents::contents;
 use clauses::contents::heard_tokens;
 use clauses::contents::held_tokens;
 use clauses::counts::end_counts;
+use clauses::counts::line_counts;
 use clauses::counts::link_counts;
 use clauses::counts::node_counts;
 use clauses::counts::port_counts;
@@ -65,6 +67,8 @@ pub enum Test {
     Silent,
     // what a control unit has heard
     Heard,
+    // the counts of a line
+    Lines,
 }
 
 // The test at one place.
@@ -88,6 +92,7 @@ pub fn holds_at(st: &[u32], mem: &[u16], t: Test, slot: Slot, i: usize) -> bool
         Test::OpenEnd => open_end(st, slot, i),
         Test::Silent => silent(st, slot),
         Test::Heard => heard_tokens(st, slot),
+        Test::Lines => line_counts(line::at(st, slot, i)),
     }
 }
 
@@ -112,5 +117,6 @@ pub fn places(t: Test) -> usize
         Test::OpenEnd => ENDS,
         Test::Silent => 1,
         Test::Heard => 1,
+        Test::Lines => LINKS,
     }
 }

@@ -4,6 +4,8 @@ use cells::end::Buffer;
 use cells::end::End;
 use cells::layout::STRIDE;
 use cells::layout::TOKEN_WORDS;
+use cells::line;
+use cells::line::Line;
 use cells::link;
 use cells::link::Link;
 use cells::node;
@@ -61,6 +63,16 @@ pub fn put_end(st: &mut [u32], n: usize, c: usize, k: End) {
     if n < node::count(st) {
         if c < ENDS {
             end::put(st, Slot(n), c, k);
+        }
+    }
+}
+
+// What is on a line, and what its link has issued.
+pub fn set_line(st: &mut [u32], n: usize, l: usize, held: u32, issued: u32) {
+    if n < node::count(st) {
+        if l < LINKS {
+            let ring = Counters { head: 0, held };
+            line::put(st, Slot(n), l, Line { ring, issued });
         }
     }
 }

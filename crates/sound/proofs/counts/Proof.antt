@@ -5,14 +5,16 @@ use Rattle.sound.proofs.counts.Tie as tie
 
 returns : tie.Need-returns
 returns c =
-    let third = c .before .before .before in
-    rw (c .ask6 .ensures, c .before .ask5 .ensures, c .before .before .ask4 .ensures)
+    let fourth = c .before .before .before in
+    let third = fourth .before in
+    rw (c .ask7 .ensures, c .before .ask6 .ensures, c .before .before .ask5 .ensures, fourth .ask4 .ensures)
     (rw (third .ask3 .ensures, third .before .ask2 .ensures, third .before .before .ask .ensures))
 
 pub counts-spec : {M : Type 1} → statement M
 counts-spec =
     tie.close
     (tie.spec
+    (λ c κs. search needs)
     (λ c κs. search needs)
     (λ c κs. search needs)
     (λ c κs. search needs)

@@ -1,0 +1,4 @@
+-- Laws of lines.
+pub mod Queues
+pub mod Loads
+pub mod Ends

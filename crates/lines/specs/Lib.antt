@@ -1,0 +1,3 @@
+-- The definitions that contracts cite for the lines of cables.
+pub mod Line
+pub mod Load
