@@ -1,0 +1,45 @@
+-- What a receiver grants: none where the count says so, what its count of 32 bits can take, and for what its line has room. Assumes nothing.
+use Prim.Native.Nat.{ℕ, _+_, _^_, _<_, _≤_}
+use mathlib.Core.Path.{_≡_, refl, _∙_}
+use mathlib.Core.Bool.{false}
+use native.Mathlib.Omega.{arith}
+use lib.Dec.{ltb}
+use borrow.Author.Tests.{ltb-true}
+use Rattle.laws.proofs.Order.{by-test}
+use Rattle.lines.specs.Line.{lineCapacity}
+use Rattle.credits.proofs.Grants.{most}
+use Rattle.cells.specs.World.{World, farOf}
+use Rattle.cells.specs.declared.link.Far.{Far}
+use Rattle.cells.specs.declared.link.Far.the-variants.{Nowhere, At}
+use Rattle.travel.specs.Travel.{mayGrant, byCount, grantTo, grantDue}
+
+module _ (w : World) (m k : ℕ) where
+  pub none-due : (f : Far) → byCount w m k ≡ 0 → 0 ≡ grantTo w m k f
+  none-due Nowhere e = refl
+  none-due (At n l) e = by-test (mayGrant w (n .0) l) (λ t. rw (t, e)) (λ t. rw t)
+
+  count-most : byCount w m k ≤ 64
+  count-most =
+      by-test (ltb (w .net .lines .rings m k .held) lineCapacity)
+      (λ t. rw t (most (w .net .lines .issued m k) (w .net .ports .counters m k .held)))
+      (λ t. rw t (omega arith))
+
+  to-most : (f : Far) → grantTo w m k f ≤ 64
+  to-most Nowhere = omega arith
+  to-most (At n l) = by-test (mayGrant w (n .0) l) (λ t. rw t count-most) (λ t. rw t (omega arith))
+
+  -- where there is a grant the line back has room for it
+  no-room : (f : Far) → ltb (w .net .lines .rings m k .held) lineCapacity ≡ false → grantTo w m k f ≡ 0
+  no-room Nowhere e = refl
+  no-room (At n l) e = by-test (mayGrant w (n .0) l) (λ t. rw (t, e)) (λ t. rw t)
+
+  pub due-room : (g : ℕ) → g ≡ grantDue w m k → (g ≡ 0 → ⊥) → w .net .lines .rings m k .held < lineCapacity
+  unfolding grantDue
+  due-room g e some =
+      by-test (ltb (w .net .lines .rings m k .held) lineCapacity)
+      (ltb-true _ _)
+      (λ t. absurd (some (e ∙ no-room (farOf (w .net .links .cables m k)) t)))
+
+  pub due-fits : (g : ℕ) → g ≡ grantDue w m k → w .net .lines .issued m k + 64 < 2 ^ 32 → w .net .lines .issued m k + g < 2 ^ 32
+  unfolding grantDue
+  due-fits g e h = omega (arith, to-most (farOf (w .net .links .cables m k)))
