@@ -32,7 +32,7 @@ extern "C" {
 
 /* ---- sizes ---- */
 
-#define TARVELGYO_STATE_WORDS 754   /* words of state for each node; tarvelgyo_state_words() says it too */
+#define TARVELGYO_STATE_WORDS 778   /* words of state for each node; tarvelgyo_state_words() says it too */
 #define TARVELGYO_MEMORY_WORDS 832  /* words of token memory for each node; tarvelgyo_memory_words() says it too */
 #define TARVELGYO_MOST_NODES 16     /* nodes of a network, at most */
 #define TARVELGYO_LINKS 8           /* links A..H of a node, which are its ports 0..7 */
@@ -282,6 +282,16 @@ bool tarvelgyo_channel_end(const uint32_t *state, size_t words, size_t slot, siz
 
 /* The record of the node's control unit, into `out` of `room` words, TARVELGYO_CONTROL_UNIT_WORDS. */
 bool tarvelgyo_control_unit(const uint32_t *state, size_t words, size_t slot, uint32_t *out, size_t room);
+
+/* The line that starts at a link, and that link's count: where in the line's ring the first to arrive lies, how much is on it (nothing, as
+ * long as tokens cross at once), and what the link has issued to the far end and not yet received. */
+#define TARVELGYO_LINE_HEAD 0
+#define TARVELGYO_LINE_HELD 1
+#define TARVELGYO_LINE_ISSUED 2
+#define TARVELGYO_LINE_WORDS 3
+
+/* The record of the line that starts at link `link`, 0..7, into `out` of `room` words, TARVELGYO_LINE_WORDS. */
+bool tarvelgyo_line(const uint32_t *state, size_t words, size_t slot, size_t link, uint32_t *out, size_t room);
 
 /* The node's direction entry for bit `bit`, 0..15. */
 uint32_t tarvelgyo_direction(const uint32_t *state, size_t words, size_t slot, uint32_t bit);

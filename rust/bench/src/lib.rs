@@ -31,7 +31,7 @@ pub use list::{StepRecord, StepResult};
 pub use looks::Looks;
 pub use network::{Bench, LinkEnd, Setting};
 pub use records::{
-    ChannelEnd, Circuit, ControlUnit, Destination, Hop, Link, Node, Peer, Port, TileLink,
+    ChannelEnd, Circuit, ControlUnit, Destination, Hop, Line, Link, Node, Peer, Port, TileLink,
 };
 pub use refusal::{Cause, Refusal};
 pub use token::{Kind, Token, Width};

@@ -3,7 +3,7 @@
 use crate::clause::Clause;
 use crate::digest;
 use crate::raw;
-use crate::records::{ChannelEnd, ControlUnit, Link, Node, Port, Record, TileLink};
+use crate::records::{ChannelEnd, ControlUnit, Line, Link, Node, Port, Record, TileLink};
 
 /// A view of two lent memories, which may be of any length and hold anything.
 ///
@@ -89,6 +89,11 @@ impl<'a> Looks<'a> {
 
     pub fn control_unit(self, slot: usize) -> ControlUnit {
         record(|out| raw::control_unit(self.state, slot, out))
+    }
+
+    /// The line that starts at a link.
+    pub fn line(self, slot: usize, link: usize) -> Line {
+        record(|out| raw::line(self.state, slot, link, out))
     }
 
     /// The direction entry of a node for a bit 0..15.

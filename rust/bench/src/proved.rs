@@ -234,6 +234,14 @@ extern "C" {
         out: *mut u32,
         room: usize,
     ) -> bool;
+    pub fn tarvelgyo_line(
+        state: *const u32,
+        words: usize,
+        slot: usize,
+        link: usize,
+        out: *mut u32,
+        room: usize,
+    ) -> bool;
     pub fn tarvelgyo_direction(state: *const u32, words: usize, slot: usize, bit: u32) -> u32;
     pub fn tarvelgyo_port_token(
         state: *const u32,

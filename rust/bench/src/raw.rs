@@ -560,6 +560,22 @@ pub fn control_unit(state: &[u32], slot: usize, out: &mut [u32]) -> bool {
     }
 }
 
+/// The words of the record of the line that starts at a link, [`crate::Line`].
+/// False, and nothing written, where `out` has another length.
+pub fn line(state: &[u32], slot: usize, link: usize, out: &mut [u32]) -> bool {
+    // SAFETY: as said above.
+    unsafe {
+        proved::tarvelgyo_line(
+            state.as_ptr(),
+            state.len(),
+            slot,
+            link,
+            out.as_mut_ptr(),
+            out.len(),
+        )
+    }
+}
+
 /// A node's direction entry for a bit 0..15.
 pub fn direction(state: &[u32], slot: usize, bit: u32) -> u32 {
     // SAFETY: as said above.

@@ -169,6 +169,17 @@ pub struct ControlUnit {
     pub tokens: [u32; UNIT_BUFFER],
 }
 
+/// One direction of a cable, at the link that it starts at, and what that link has issued.
+#[derive(Clone, Copy, Debug, Default, PartialEq, Eq)]
+pub struct Line {
+    /// Where in the line's ring the first to arrive lies.
+    pub head: u32,
+    /// How much is on it: nothing, as long as tokens cross at once.
+    pub held: u32,
+    /// What the link has issued to the far end and not yet received.
+    pub issued: u32,
+}
+
 /// Takes the next words of a record.
 pub(crate) struct Words<'a>(std::slice::Iter<'a, u32>);
 
@@ -264,6 +275,16 @@ impl Record<14> for ControlUnit {
             heard: words.one(),
             tokens: words.many(),
             serves: words.circuit(),
+        }
+    }
+}
+
+impl Record<3> for Line {
+    fn take(words: &mut Words) -> Line {
+        Line {
+            head: words.one(),
+            held: words.one(),
+            issued: words.one(),
         }
     }
 }

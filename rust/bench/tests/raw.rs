@@ -6,7 +6,7 @@ use bench::raw;
 type Look = fn(&[u32], usize, usize, &mut [u32]) -> bool;
 
 /// Each look with how many words its record has, and how many records of it a node has.
-const LOOKS: [(Look, usize, usize); 6] = [
+const LOOKS: [(Look, usize, usize); 7] = [
     (|state, slot, _, out| raw::node(state, slot, out), 4, 1),
     (raw::link, 10, 8),
     (raw::port, 8, 13),
@@ -17,6 +17,7 @@ const LOOKS: [(Look, usize, usize); 6] = [
         14,
         1,
     ),
+    (raw::line, 3, 8),
 ];
 
 /// A state whose every word is its own place, from 1 on.

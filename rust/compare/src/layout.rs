@@ -20,6 +20,7 @@ pub const PORT: usize = 4 + 2 * CIRCUIT;
 const TILE_LINK: usize = CIRCUIT;
 const CHANNEL_END: usize = 5 + CHANNEL_END_CAPACITY + 2 * CIRCUIT;
 const CONTROL_UNIT: usize = 1 + HEARD + CIRCUIT;
+const LINE: usize = 3;
 /// Where the first record of each kind lies among a node's words.
 const FIRST_LINK: usize = OWN;
 pub const FIRST_PORT: usize = FIRST_LINK + LINKS * LINK;
@@ -28,16 +29,18 @@ const FIRST_CHANNEL_END: usize = FIRST_TILE_LINK + TILE_LINKS * TILE_LINK;
 const FIRST_CONTROL_UNIT: usize = FIRST_CHANNEL_END + CHANNEL_ENDS * CHANNEL_END;
 /// Where what a control unit has heard lies among a node's words.
 pub const FIRST_HEARD: usize = FIRST_CONTROL_UNIT + 1;
+const FIRST_LINE: usize = FIRST_CONTROL_UNIT + CONTROL_UNIT;
 /// The words of a node.
-pub const NODE_WORDS: usize = FIRST_CONTROL_UNIT + CONTROL_UNIT;
+pub const NODE_WORDS: usize = FIRST_LINE + LINKS * LINE;
 /// The records of each kind: where they begin among a node's words, and how many words they have.
-pub const KINDS: [(usize, usize); 6] = [
+pub const KINDS: [(usize, usize); 7] = [
     (0, OWN),
     (FIRST_LINK, LINKS * LINK),
     (FIRST_PORT, PORTS * PORT),
     (FIRST_TILE_LINK, TILE_LINKS * TILE_LINK),
     (FIRST_CHANNEL_END, CHANNEL_ENDS * CHANNEL_END),
     (FIRST_CONTROL_UNIT, CONTROL_UNIT),
+    (FIRST_LINE, LINKS * LINE),
 ];
 /// The words of token memory of a node.
 pub const NODE_TOKENS: usize = PORTS * PORT_CAPACITY;
@@ -72,7 +75,7 @@ fn write_tokens(port: &Port, head: usize, ring: &mut [u16]) {
     }
 }
 
-/// own | links | ports | tile links | channel-ends | control unit
+/// own | links | ports | tile links | channel-ends | control unit | lines, on which nothing is
 fn node_words(node: &Node, heads: &[usize; PORTS]) -> Words {
     let mut words = own_words(node);
     words.extend(node.links.iter().flat_map(link_words));
@@ -80,6 +83,7 @@ fn node_words(node: &Node, heads: &[usize; PORTS]) -> Words {
     words.extend(node.tile_links.iter().flat_map(|user| named(1, *user)));
     words.extend(node.channel_ends.iter().flat_map(channel_end_words));
     words.extend(control_unit_words(&node.control_unit));
+    words.extend([0; LINKS * LINE]);
     assert_eq!(words.len(), NODE_WORDS);
     words
 }

@@ -33,6 +33,8 @@ impl Network {
     fn make_on_sound(&mut self, call: &Call) -> Result<Answer, No> {
         match *call {
             Call::Fresh { .. } | Call::Blank { .. } | Call::Steps { .. } => Err(No::Unsound),
+            // Here tokens cross at once.
+            Call::WithLines { .. } | Call::Line { .. } => Err(No::Unsound),
             Call::Wire { one, other } => self.wire(one, other),
             Call::Set { slot, setting } => self.set(slot, setting),
             Call::Aim {

@@ -87,6 +87,14 @@ pub struct Unit {
     pub tokens: [u32; HEARD],
 }
 
+/// The line that starts at a link, and what that link has issued.
+#[derive(Clone, Copy, Debug, Default, PartialEq, Eq)]
+pub struct Line {
+    pub head: u32,
+    pub held: u32,
+    pub issued: u32,
+}
+
 #[derive(Clone, Copy, Debug, Default, PartialEq, Eq)]
 pub struct Node {
     pub number: u32,
@@ -97,6 +105,7 @@ pub struct Node {
     pub tile_users: [Circuit; TILE_LINKS],
     pub ends: [ChannelEnd; CHANNEL_ENDS],
     pub unit: Unit,
+    pub lines: [Line; LINKS],
 }
 
 /// 1 to 16 nodes; those behind the count are no part of the network.

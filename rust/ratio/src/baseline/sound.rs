@@ -7,11 +7,12 @@ use model::sizes::{
 use model::tokens::SINK;
 
 use super::records::{
-    is_channel, ChannelEnd, Circuit, Hop, Link, Network, Node, Peer, Port, Unit, END, NO_ROUTE,
-    OUTWARD, PAUSE, TO_CHANNEL, TO_UNIT,
+    is_channel, ChannelEnd, Circuit, Hop, Line, Link, Network, Node, Peer, Port, Unit, END,
+    NO_ROUTE, OUTWARD, PAUSE, TO_CHANNEL, TO_UNIT,
 };
 
 const PORT_CAPACITY: u32 = model::sizes::PORT_CAPACITY as u32;
+const LINE_CAPACITY: u32 = model::sizes::LINE_CAPACITY as u32;
 const END_CAPACITY: u32 = model::sizes::CHANNEL_END_CAPACITY as u32;
 
 /// Where a walk over a port's tokens is.
@@ -75,6 +76,7 @@ impl Node {
                 .zip(&self.tile_users)
                 .all(|(t, x)| self.tile_is_sound(t, *x))
             && (0..).zip(&self.ends).all(|(c, x)| self.end_is_sound(c, x))
+            && self.lines.iter().all(Line::is_empty)
     }
 
     fn user_agrees(&self, place: usize, link: &Link) -> bool {
@@ -275,6 +277,13 @@ impl ChannelEnd {
 /// No header, no privileged token but 0xC0 and 0xC1, no PAUSE.
 fn may_be_kept(token: u32) -> bool {
     token <= 0x01C1 && token != u32::from(PAUSE)
+}
+
+impl Line {
+    /// Tokens cross at once, so that nothing is on a line and nothing issued is on its way.
+    fn is_empty(&self) -> bool {
+        self.head < LINE_CAPACITY && self.held == 0 && self.issued == 0
+    }
 }
 
 impl Unit {

@@ -4,7 +4,7 @@ use model::sizes::{MOST_NODES, PORT_CAPACITY};
 
 use compare::layout::{NODE_TOKENS, NODE_WORDS};
 
-use super::records::{ChannelEnd, Circuit, Link, Network, Node, Port, Unit};
+use super::records::{ChannelEnd, Circuit, Line, Link, Network, Node, Port, Unit};
 
 impl Network {
     /// The network of these words; none where their lengths are not those of 1 to 16 nodes.
@@ -71,6 +71,15 @@ fn read_node(words: &mut impl Words) -> Node {
             tokens: words.words(),
             serves: words.circuit(),
         },
+        lines: std::array::from_fn(|_| read_line(words)),
+    }
+}
+
+fn read_line(words: &mut impl Words) -> Line {
+    Line {
+        head: words.word(),
+        held: words.word(),
+        issued: words.word(),
     }
 }
 
@@ -123,6 +132,8 @@ fn node_words(node: &Node) -> Vec<u32> {
     words.push(node.unit.heard);
     words.extend(node.unit.tokens);
     words.extend(circuit_words(&node.unit.serves));
+    let lines = node.lines.iter();
+    words.extend(lines.flat_map(|line| [line.head, line.held, line.issued]));
     words
 }
 
