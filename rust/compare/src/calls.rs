@@ -7,7 +7,7 @@ use model::network::{LinkEnd, Network};
 use model::random::Random;
 use model::set::Setting;
 use model::tokens::{Destination, Kind};
-use model::{Answer, No};
+use model::{Answer, No, StepRecord};
 
 use crate::difference;
 use crate::layout;
@@ -66,12 +66,15 @@ pub fn make(lent: &mut Lent, call: &Call) -> Answer {
         Call::Steps {
             results,
             ref records,
-        } => {
-            let made = lists::make(lists::library, lent, results, records);
-            return made.unwrap_or_else(|how| panic!("{call}: {how}"));
-        }
+        } => return list(lent, call, results, records),
+        Call::WithLines { .. } | Call::Line { .. } => panic!("{call}: the library has no lines"),
     };
     of_bench(answer)
+}
+
+fn list(lent: &mut Lent, call: &Call, results: usize, records: &[StepRecord]) -> Answer {
+    let made = lists::make(lists::library, lent, results, records);
+    made.unwrap_or_else(|how| panic!("{call}: {how}"))
 }
 
 fn wire(lent: &mut Lent, one: LinkEnd, other: LinkEnd) -> bench::Answer {

@@ -25,6 +25,7 @@ fn facts(network: &Network) -> Vec<Fact> {
     let mut facts = vec![
         fact("nodes", &network.nodes.len()),
         fact("memory words", &network.memory_words),
+        fact("crossing", &network.crossing),
     ];
     for (slot, node) in network.nodes.iter().enumerate() {
         let of_node = node_facts(node).into_iter();
@@ -73,6 +74,8 @@ fn link_facts(link: &Link) -> Vec<Fact> {
         fact("greeted", &link.greeted),
         fact("credit", &link.credit),
         fact("user", &link.used_by),
+        fact("issued", &link.issued),
+        fact("line", &link.line),
     ]
 }
 

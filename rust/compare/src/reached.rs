@@ -179,6 +179,8 @@ fn call_name(call: &Call) -> &'static str {
         Call::Input { .. } => "input",
         Call::Step { .. } => "step",
         Call::Steps { .. } => "steps",
+        Call::WithLines { .. } => "start with lines",
+        Call::Line { .. } => "line",
     }
 }
 
@@ -213,6 +215,8 @@ fn answer_name(answer: &Answer) -> &'static str {
         Answer::Dropped(Cause::NoRoute) => "dropped noroute",
         Answer::Malformed => "malformed",
         Answer::Unheard => "unheard",
+        Answer::Arrived(0) => "moved 0",
+        Answer::Arrived(_) => "moved with a grant",
         Answer::Results(each) if each.is_empty() => "results of none",
         Answer::Results(_) => "results",
     }

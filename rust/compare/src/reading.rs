@@ -10,10 +10,11 @@
 use bench::sizes::TILE_PORTS;
 use bench::{raw, Circuit, Looks, Peer};
 use model::answers::Cause;
+use model::lines::Crossing;
 use model::network::{
     Aim, ChannelEnd, Claim, ControlUnit, Hop, Link, LinkEnd, Network, Node, Port, Sending,
 };
-use model::sizes::{CHANNEL_END_CAPACITY, HEARD, PORT_CAPACITY};
+use model::sizes::{CHANNEL_END_CAPACITY, HEARD, LINE_CAPACITY, PORT_CAPACITY};
 use model::tokens::{Destination, Kind, Token};
 
 /// Why words are no state of the model.
@@ -36,6 +37,7 @@ pub fn read(state: &[u32], memory: &[u16]) -> Read<Network> {
     Ok(Network {
         nodes: nodes?,
         memory_words: memory.len(),
+        crossing: Crossing::AtOnce,
     })
 }
 
@@ -53,6 +55,9 @@ fn node(looks: Looks, slot: usize) -> Read<Node> {
     };
     for port in 0..node.ports.len() {
         extra_words_agree(looks, slot, port, &node)?;
+    }
+    for link in 0..node.links.len() {
+        line_is_empty(looks, slot, link)?;
     }
     Ok(node)
 }
@@ -97,6 +102,7 @@ fn link(looks: Looks, slot: usize, link: usize) -> Read<Link> {
         greeted: flag(words.greeted)?,
         credit: words.credit as usize,
         used_by: user(words.user)?,
+        ..Link::default()
     })
 }
 
@@ -234,6 +240,15 @@ fn extra_words_agree(looks: Looks, slot: usize, port: usize, node: &Node) -> Rea
     let to_channel = matches!(node.ports[port].hop, Some(Hop::Channel(_)));
     if to_channel && !users.is_empty() && !users.contains(&words.tile) {
         return unreadable(format!("port {port} names tile link {}", words.tile));
+    }
+    Ok(())
+}
+
+/// Tokens cross at once: nothing is on a line, and nothing issued is on its way.
+fn line_is_empty(looks: Looks, slot: usize, link: usize) -> Read<()> {
+    let words = looks.line(slot, link);
+    if words.head as usize >= LINE_CAPACITY || words.held != 0 || words.issued != 0 {
+        return unreadable(format!("{words:?} at link {link}"));
     }
     Ok(())
 }

@@ -149,8 +149,18 @@ fn read_by_library(line: &str) -> Option<String> {
     Some(written.collect())
 }
 
+/// What only a network with lines has; the library has none yet.
+fn asks_for_lines(line: &model::script::Line) -> bool {
+    let arrived = |stated: &model::script::Outcome| matches!(stated.answer, Answer::Arrived(_));
+    matches!(line.call, Call::WithLines { .. } | Call::Line { .. })
+        || line.stated.as_ref().is_some_and(arrived)
+}
+
 fn read_by_model(line: &str) -> Option<String> {
     let lines = model::script::parse(line).ok()?;
+    if lines.iter().any(asks_for_lines) {
+        return None;
+    }
     let written = lines.iter().map(|line| match &line.stated {
         Some(stated) => format!("{} -> {stated}", line.call),
         None => line.call.to_string(),

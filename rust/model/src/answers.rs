@@ -99,6 +99,8 @@ pub enum Answer {
     Dropped(Cause),
     Malformed,
     Unheard,
+    /// A line step that took one off: "Moved, with any grant".
+    Arrived(usize),
     /// A list of steps: the whole answer of each record's Step, in their order.
     Results(Vec<Answer>),
 }

@@ -1,6 +1,8 @@
 //! The calls, and the door through which each is made.
 
 use crate::answers::{Answer, No};
+use crate::credits::by_line;
+use crate::lines::{line_words, Crossing};
 use crate::network::{memory_words, Aim, LinkEnd, Network, Start};
 use crate::output;
 use crate::set::{self, Setting};
@@ -62,6 +64,18 @@ pub enum Call {
         results: usize,
         records: Vec<StepRecord>,
     },
+    /// A start that is lent a second memory, for lines (document 02, Ask 4).
+    WithLines {
+        start: Start,
+        nodes: usize,
+        memory_words: usize,
+        line_words: usize,
+    },
+    /// "a line step", of the line that starts at that end.
+    Line {
+        slot: usize,
+        link: usize,
+    },
 }
 
 impl From<StepRecord> for Call {
@@ -71,8 +85,38 @@ impl From<StepRecord> for Call {
     }
 }
 
+/// A start with its arguments.
+#[derive(Clone, Copy, Debug, PartialEq, Eq)]
+pub struct Beginning {
+    pub start: Start,
+    pub nodes: usize,
+    pub memory_words: usize,
+    /// The length of the second memory; none where tokens are to cross at once.
+    pub line_words: Option<usize>,
+}
+
+impl From<Beginning> for Call {
+    fn from(beginning: Beginning) -> Call {
+        let Beginning {
+            start,
+            nodes,
+            memory_words,
+            line_words,
+        } = beginning;
+        match line_words {
+            None => Call::beginning(start, nodes, memory_words),
+            Some(line_words) => Call::WithLines {
+                start,
+                nodes,
+                memory_words,
+                line_words,
+            },
+        }
+    }
+}
+
 impl Call {
-    /// The call that begins a network so.
+    /// The call that begins a network so, in which tokens cross at once.
     pub fn beginning(start: Start, nodes: usize, memory_words: usize) -> Call {
         match start {
             Start::Fresh => Call::Fresh {
@@ -86,13 +130,36 @@ impl Call {
         }
     }
 
+    /// What the call begins a network with, if it is one that does.
+    pub fn begins(&self) -> Option<Beginning> {
+        let (start, nodes, memory_words, line_words) = match *self {
+            Call::Fresh {
+                nodes,
+                memory_words,
+            } => (Start::Fresh, nodes, memory_words, None),
+            Call::Blank {
+                nodes,
+                memory_words,
+            } => (Start::Blank, nodes, memory_words, None),
+            Call::WithLines {
+                start,
+                nodes,
+                memory_words,
+                line_words,
+            } => (start, nodes, memory_words, Some(line_words)),
+            _ => return None,
+        };
+        Some(Beginning {
+            start,
+            nodes,
+            memory_words,
+            line_words,
+        })
+    }
+
     /// How the call begins a network, if it is one that does.
     pub fn start(&self) -> Option<Start> {
-        match self {
-            Call::Fresh { .. } => Some(Start::Fresh),
-            Call::Blank { .. } => Some(Start::Blank),
-            _ => None,
-        }
+        self.begins().map(|beginning| beginning.start)
     }
 }
 
@@ -101,45 +168,46 @@ pub fn apply(network: &mut Option<Network>, call: &Call) -> Answer {
     make(network, call).unwrap_or_else(Answer::No)
 }
 
-/// Every call but the two starts and a list of steps looks first at whether the
-/// state is sound.
+/// Every call but the starts and a list of steps looks first at whether the state is
+/// sound.
 fn make(state: &mut Option<Network>, call: &Call) -> Result<Answer, No> {
+    if let Some(beginning) = call.begins() {
+        return begin(state, beginning);
+    }
+    match call {
+        Call::Steps { results, records } => steps(state, *results, records),
+        _ => make_on(sound_network(state)?, call),
+    }
+}
+
+/// Makes a call on a network that is known to be sound.
+fn make_on(network: &mut Network, call: &Call) -> Result<Answer, No> {
     match *call {
-        Call::Fresh {
-            nodes,
-            memory_words,
-        } => start(state, Start::Fresh, nodes, memory_words),
-        Call::Blank {
-            nodes,
-            memory_words,
-        } => start(state, Start::Blank, nodes, memory_words),
-        Call::Wire { one, other } => wire(sound_network(state)?, one, other),
-        Call::Set { slot, setting } => set::set(sound_network(state)?, slot, setting),
+        Call::Wire { one, other } => wire(network, one, other),
+        Call::Set { slot, setting } => set::set(network, slot, setting),
         Call::Aim {
             slot,
-            channel_end: end,
-            destination: to,
+            channel_end,
+            destination,
             network: by,
-        } => aim(sound_network(state)?, slot, end, Aim::new(to, by)),
+        } => aim(network, slot, channel_end, Aim::new(destination, by)),
         Call::Output {
             slot,
             channel_end,
             kind,
             value,
-        } => {
-            let token = Token::plain(kind, value);
-            output::output(sound_network(state)?, slot, channel_end, token)
-        }
+        } => output::output(network, slot, channel_end, Token::plain(kind, value)),
         Call::Input {
             slot,
             channel_end,
             kind,
-        } => input(sound_network(state)?, slot, channel_end, kind),
-        Call::Step { slot, port } => step::step(sound_network(state)?, slot, port),
-        Call::Steps {
-            results,
-            ref records,
-        } => steps(state, results, records),
+        } => input(network, slot, channel_end, kind),
+        Call::Step { slot, port } => step::step(network, slot, port),
+        Call::Line { slot, link } => by_line::step(network, LinkEnd { slot, link }),
+        // They ask nothing of the state, and are not made here.
+        Call::Fresh { .. } | Call::Blank { .. } | Call::WithLines { .. } | Call::Steps { .. } => {
+            Err(No::Unsound)
+        }
     }
 }
 
@@ -158,20 +226,22 @@ fn sound_network(state: &mut Option<Network>) -> Result<&mut Network, No> {
 /// "Fresh: all nodes number 0, width three, directions 0, links unwired, disabled,
 /// network 0; channel-ends unaimed; every token word 0. A node count outside 1..16
 /// is NoSuch at any memory length." Both starts do that, and [`Start`] says in what
-/// they differ.
-fn start(
-    network: &mut Option<Network>,
-    start: Start,
-    nodes: usize,
-    words: usize,
-) -> Result<Answer, No> {
+/// they differ. Where a second memory is lent it has its own length, and tokens cross
+/// by line.
+fn begin(network: &mut Option<Network>, beginning: Beginning) -> Result<Answer, No> {
+    let Beginning { start, nodes, .. } = beginning;
     if !(1..=MOST_NODES).contains(&nodes) {
         return Err(No::NoSuch);
     }
-    if memory_words(nodes) != Some(words) {
+    let words = beginning.memory_words;
+    let lines = beginning.line_words;
+    if memory_words(nodes) != Some(words) || lines.is_some_and(|l| line_words(nodes) != Some(l)) {
         return Err(No::Unsound);
     }
-    *network = Some(Network::at(start, nodes, words));
+    let crossing = lines.map_or(Crossing::AtOnce, |line_words| Crossing::ByLine {
+        line_words,
+    });
+    *network = Some(Network::crossed(start, nodes, words, crossing));
     Ok(Answer::Done)
 }
 

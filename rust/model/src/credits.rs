@@ -1,11 +1,19 @@
-//! Credits: how they are granted, and when a grant is considered.
+//! Credits: how they are granted, and when a grant is considered. What happens at
+//! once in document 01 and what travels in document 02, Ask 4, stand beside each
+//! other in [`at_once`] and [`by_line`].
 
+mod at_once;
+pub(crate) mod by_line;
+
+use crate::lines::Crossing;
 use crate::network::{LinkEnd, Network};
 use crate::sizes::PORT_CAPACITY;
 use crate::tokens::Token;
 
 /// "if credit is below 8, let room = 64 − tokens held at the far end − credit;
-/// grant the largest of 64, 16, 8 that room covers, else none."
+/// grant the largest of 64, 16, 8 that room covers, else none." By line what was
+/// issued takes the place of the credit: "room = 64 − held − issued, below 8 as
+/// before".
 pub fn grant(credit: usize, held: usize) -> usize {
     if credit >= 8 {
         return 0;
@@ -16,61 +24,58 @@ pub fn grant(credit: usize, held: usize) -> usize {
 }
 
 impl Network {
-    /// "A grant is considered [...] on a greeted link": gives what the far end
-    /// grants and answers how much that is.
-    pub(crate) fn consider_grant(&mut self, end: LinkEnd) -> usize {
-        let link = &self.nodes[end.slot].links[end.link];
-        let Some(far) = link.far.filter(|_| link.greeted) else {
-            return 0;
-        };
-        let granted = grant(link.credit, self.held_at(far));
-        self.link_mut(end).credit += granted;
-        granted
-    }
-
-    /// Takes the oldest token of a port. If it came over a cable the link that
-    /// sent it has a grant considered: "after each token [...] taken from the far
-    /// buffer".
+    /// Takes the oldest token of a port. If that is a link's, a grant is considered.
     pub(crate) fn take(&mut self, slot: usize, port: usize) -> Option<Token> {
         let node = &mut self.nodes[slot];
         let token = node.ports[port].tokens.pop_front()?;
-        if let Some(sender) = node.links.get(port).and_then(|link| link.far) {
-            self.consider_grant(sender);
+        if port < node.links.len() {
+            let receiver = LinkEnd { slot, link: port };
+            match self.crossing {
+                Crossing::AtOnce => at_once::taken(self, receiver),
+                Crossing::ByLine { .. } => by_line::taken(self, receiver),
+            }
         }
         Some(token)
     }
 
-    /// Puts a token into the port at the far end of a link. "Each token moved over
-    /// a link, header included, costs one credit", and then a grant is considered:
-    /// "after each token sent over it".
+    /// Sends a token over a link. "Each token moved over a link, header included,
+    /// costs one credit."
     pub(crate) fn send(&mut self, end: LinkEnd, token: Token) {
         let link = self.link_mut(end);
         let Some(far) = link.far else { return };
         link.credit = link.credit.saturating_sub(1);
-        self.nodes[far.slot].ports[far.link].tokens.push_back(token);
-        self.consider_grant(end);
+        match self.crossing {
+            Crossing::AtOnce => at_once::send(self, end, far, token),
+            Crossing::ByLine { .. } => by_line::send(self, end, token),
+        }
     }
 
-    /// "HELLO on an enabled link sets its own credit to 0; if the far end exists
-    /// and is enabled, the link becomes greeted and the far end may grant."
-    /// Answers the grant. The far end's own credit and greeting are untouched
-    /// (open point 28); a HELLO that nobody hears greets nobody (open point 29).
+    /// HELLO on an enabled link, and what it answers: "The answer to HELLO gives the
+    /// grant."
     pub(crate) fn say_hello(&mut self, end: LinkEnd) -> usize {
-        let far = self.nodes[end.slot].links[end.link].far;
-        let heard = far.is_some_and(|far| self.link(far).is_ok_and(|link| link.enabled));
-        let link = self.link_mut(end);
-        link.credit = 0;
-        link.greeted = heard;
-        self.consider_grant(end)
+        self.link_mut(end).credit = 0;
+        match self.crossing {
+            Crossing::AtOnce => at_once::hello(self, end),
+            Crossing::ByLine { .. } => by_line::hello(self, end),
+        }
     }
 
-    /// "Disabling zeroes and un-greets both ends."
+    /// Does a HELLO that is sent over a link reach anyone? "if the far end exists and
+    /// is enabled"; "one sent to an absent or disabled end is lost".
+    fn is_heard(&self, end: LinkEnd) -> bool {
+        let link = &self.nodes[end.slot].links[end.link];
+        self.far_link(link).is_some_and(|far| far.enabled)
+    }
+
+    /// "Disabling zeroes and un-greets both ends", and sets the count of what was
+    /// issued to 0 at both (A4.11).
     pub(crate) fn forget_credit(&mut self, end: LinkEnd) {
         let far = self.link_mut(end).far;
         for each in [Some(end), far].into_iter().flatten() {
             let link = self.link_mut(each);
             link.credit = 0;
             link.greeted = false;
+            link.issued = 0;
         }
     }
 }

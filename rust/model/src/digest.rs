@@ -2,6 +2,7 @@
 //! them.
 
 use crate::answers::Cause;
+use crate::lines::Crossing;
 use crate::network::{Aim, ChannelEnd, Claim, Hop, Link, Network, Node, Port, Sending};
 use crate::sizes::TILE_PORTS;
 use crate::tokens::{low_byte, Destination, Kind, Token, THREE_BYTES};
@@ -25,12 +26,33 @@ pub fn fnv1a(bytes: &[u8]) -> u64 {
 }
 
 /// "Every item is one byte, but for node numbers, which are two, high byte first."
+/// "The bytes of trace-format.md first, for all nodes; then [...] what landed Asks
+/// append."
 pub fn bytes(network: &Network) -> Vec<u8> {
+    let mut out = base_bytes(network);
+    if network.crossing != Crossing::AtOnce {
+        let links = network.nodes.iter().flat_map(|node| &node.links);
+        links.for_each(|link| line_bytes(link, &mut out));
+    }
+    out
+}
+
+/// The bytes that every network has, however its tokens cross.
+pub fn base_bytes(network: &Network) -> Vec<u8> {
     let mut out = vec![byte(network.nodes.len())];
     for node in &network.nodes {
         node_bytes(node, &mut out);
     }
     out
+}
+
+/// "issued: what this end has issued and not yet received; how much is on the line
+/// that starts here, and for each, that nearest the far end first: kind, value".
+fn line_bytes(link: &Link, out: &mut Vec<u8>) {
+    out.extend([byte(link.issued), byte(link.line.len())]);
+    for token in &link.line {
+        out.extend([kind_byte(token), token.value]);
+    }
 }
 
 fn node_bytes(node: &Node, out: &mut Vec<u8>) {

@@ -1,7 +1,9 @@
 //! An independent reference model of the bench of document 01, "Full scope and
 //! exact rules": a network of 1 to 16 XS1-L nodes, their links, circuits,
 //! credits and switch messages; with the list of steps and the two starts of
-//! document 02, Asks 1 and 7.
+//! document 02, Asks 1 and 7. A start that is lent a second memory gives a network
+//! whose tokens cross by line, as Ask 4 has it; any other one whose tokens cross at
+//! once, as before.
 //!
 //! It is written from the documents alone, to be run beside another
 //! implementation. It aims at being easy to compare with the text: each function
@@ -16,6 +18,7 @@ pub mod answers;
 pub mod calls;
 pub mod credits;
 pub mod digest;
+pub mod lines;
 pub mod messages;
 pub mod network;
 pub mod output;
@@ -30,6 +33,7 @@ pub mod sizes;
 pub mod sound;
 pub mod speech;
 pub mod step;
+pub mod tight;
 pub mod tokens;
 pub mod topology;
 pub mod words;

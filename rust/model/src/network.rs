@@ -9,6 +9,7 @@ use std::collections::VecDeque;
 use std::ops::Range;
 
 use crate::answers::{Cause, No};
+use crate::lines::Crossing;
 use crate::sizes::{
     BITS, BOOT_LINKS, CHANNEL_ENDS, LINKS, PORTS, PORT_CAPACITY, TILE_LINKS, TILE_PORTS,
 };
@@ -50,6 +51,8 @@ pub struct Network {
     pub nodes: Vec<Node>,
     /// The length of the token memory that the host lends with this state.
     pub memory_words: usize,
+    /// How tokens cross its cables, which the start decides.
+    pub crossing: Crossing,
 }
 
 /// One node: a tile, a switch and a control unit.
@@ -88,6 +91,12 @@ pub struct Link {
     pub credit: usize,
     /// The port whose circuit leaves by this link: "in use outward".
     pub used_by: Option<usize>,
+    /// By line: what this end, as a receiver, "has issued and not yet received".
+    /// Always 0 where tokens cross at once.
+    pub issued: usize,
+    /// By line: what is on the line that starts at this end, that nearest the far end
+    /// first. Always empty where tokens cross at once.
+    pub line: VecDeque<Token>,
 }
 
 /// Where a port's circuit goes on to.
@@ -232,11 +241,17 @@ impl Node {
 }
 
 impl Network {
-    /// A network as a start leaves it.
+    /// A network as a start leaves it, in which tokens cross at once.
     pub fn at(start: Start, nodes: usize, memory_words: usize) -> Network {
+        Network::crossed(start, nodes, memory_words, Crossing::AtOnce)
+    }
+
+    /// A network as a start leaves it.
+    pub fn crossed(start: Start, nodes: usize, memory_words: usize, crossing: Crossing) -> Network {
         Network {
             nodes: (0..nodes).map(|_| Node::at(start)).collect(),
             memory_words,
+            crossing,
         }
     }
 

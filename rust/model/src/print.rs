@@ -3,8 +3,8 @@
 use std::fmt;
 
 use crate::answers::{Answer, Cause, Opening};
-use crate::calls::{Call, StepRecord};
-use crate::network::LinkEnd;
+use crate::calls::{Beginning, Call, StepRecord};
+use crate::network::{LinkEnd, Start};
 use crate::script::{Fault, Outcome};
 use crate::set::Setting;
 use crate::tokens::{Destination, Kind};
@@ -53,17 +53,24 @@ impl fmt::Display for StepRecord {
     }
 }
 
+impl fmt::Display for Beginning {
+    fn fmt(&self, f: &mut fmt::Formatter) -> fmt::Result {
+        let word = match self.start {
+            Start::Fresh => "fresh",
+            Start::Blank => "blank",
+        };
+        write!(f, "{word} {} {}", self.nodes, self.memory_words)?;
+        self.line_words
+            .map_or(Ok(()), |words| write!(f, " lines {words}"))
+    }
+}
+
 impl fmt::Display for Call {
     fn fmt(&self, f: &mut fmt::Formatter) -> fmt::Result {
         match self {
-            Call::Fresh {
-                nodes,
-                memory_words,
-            } => write!(f, "fresh {nodes} {memory_words}"),
-            Call::Blank {
-                nodes,
-                memory_words,
-            } => write!(f, "blank {nodes} {memory_words}"),
+            Call::Fresh { .. } | Call::Blank { .. } | Call::WithLines { .. } => {
+                self.begins().map_or(Ok(()), |beginning| beginning.fmt(f))
+            }
             Call::Wire { one, other } => write!(f, "wire {one} {other}"),
             Call::Set { slot, setting } => write!(f, "set {slot} {setting}"),
             Call::Aim {
@@ -84,6 +91,7 @@ impl fmt::Display for Call {
                 kind,
             } => write!(f, "input {slot} {channel_end} {kind}"),
             Call::Step { slot, port } => write!(f, "step {slot} {port}"),
+            Call::Line { slot, link } => write!(f, "line {slot} {link}"),
             Call::Steps { results, records } => {
                 write!(f, "steps {results}")?;
                 records.iter().try_for_each(|record| write!(f, " {record}"))
@@ -118,6 +126,7 @@ impl fmt::Display for Answer {
             Answer::Dropped(cause) => write!(f, "dropped {cause}"),
             Answer::Malformed => f.write_str("malformed"),
             Answer::Unheard => f.write_str("unheard"),
+            Answer::Arrived(grant) => write!(f, "moved {grant}"),
             Answer::Results(answers) => write_results(answers, f),
         }
     }

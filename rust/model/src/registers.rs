@@ -46,6 +46,15 @@ fn register(address: u32) -> Option<Register> {
     }
 }
 
+/// The address of the register that has a link's enable and HELLO.
+pub fn start_address(link: usize) -> Option<u32> {
+    let of_link = |address: &u32| {
+        let found = register(*address);
+        matches!(found, Some(Register::LinkStart { link: found }) if found == link)
+    };
+    (0x80..0x88).find(of_link)
+}
+
 /// All known addresses, in order.
 pub fn known_addresses() -> Vec<u32> {
     (0..0x100).filter(|a| register(*a).is_some()).collect()

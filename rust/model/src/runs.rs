@@ -2,6 +2,7 @@
 //! wait, are refused, dropped and closed, messages that are answered or not.
 
 mod changes;
+mod lines;
 mod lists;
 mod oddities;
 
@@ -16,6 +17,9 @@ use crate::sizes::{HIGHEST_NETWORK, HIGHEST_NUMBER};
 use crate::speech::{message, stream, Speech};
 use crate::tokens::{Destination, Kind, Token, END, PAUSE, SINK};
 use crate::topology::{plan, Plan};
+use lines::Tide;
+
+pub use lines::lend_lines;
 
 /// A run of that many calls, each with what came of it. The same seed gives the
 /// same run.
@@ -33,6 +37,18 @@ pub fn calls(seed: u64, count: usize) -> Vec<Call> {
 pub fn calls_with_lists(seed: u64, count: usize) -> Vec<Call> {
     let mut runner = Runner::with_lists(seed);
     (0..count).map(|_| runner.call().0).collect()
+}
+
+/// A run in which tokens cross by line, with lists of steps among the calls.
+pub fn run_by_line(seed: u64, count: usize) -> Vec<(Call, Outcome)> {
+    let mut runner = Runner::by_line(seed).and_lists();
+    (0..count).map(|_| runner.call()).collect()
+}
+
+/// The calls of such a run alone.
+pub fn calls_by_line(seed: u64, count: usize) -> Vec<Call> {
+    let run = run_by_line(seed, count).into_iter();
+    run.map(|(call, _)| call).collect()
 }
 
 /// How many channel-ends of a node take part; few, so that they meet.
@@ -54,6 +70,8 @@ pub struct Runner {
     stalled: Vec<(usize, usize)>,
     /// Does it make lists of steps too?
     lists: bool,
+    /// Where tokens cross by line: how often lines are stepped.
+    tide: Option<Tide>,
 }
 
 impl Runner {
@@ -69,6 +87,7 @@ impl Runner {
             speaking: None,
             stalled: Vec::new(),
             lists: false,
+            tide: None,
         };
         runner.prepare();
         runner
@@ -119,6 +138,9 @@ impl Runner {
     }
 
     fn next_call(&mut self) -> Call {
+        if let Some(call) = self.call_of_lines() {
+            return call;
+        }
         if let Some(call) = self.prepared.pop_front() {
             return call;
         }
@@ -289,6 +311,9 @@ impl Runner {
     fn matter(&mut self, slot: usize, channel_end: usize) -> (Destination, VecDeque<Token>) {
         let goal = self.slot();
         let number = self.number();
+        if let Some(matter) = self.matter_of_lines(slot, goal, channel_end) {
+            return matter;
+        }
         let nodes = self.network.as_ref().map_or(&[][..], |n| &n.nodes);
         let (own, node) = (nodes.get(slot), nodes.get(goal));
         if let (true, Some(own), Some(node)) = (self.random.chance(30), own, node) {
@@ -349,10 +374,7 @@ impl Runner {
         if !self.random.chance(10) {
             return self.step_busy_port();
         }
-        self.plan = plan(&mut self.random);
-        self.speeches.clear();
-        self.stalled.clear();
-        self.prepare();
+        self.begin_anew();
         match self.prepared.pop_front() {
             Some(call) => call,
             None => self.odd_start(),

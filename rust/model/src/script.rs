@@ -47,12 +47,24 @@ pub fn outcome(network: &mut Option<Network>, call: &Call) -> Outcome {
 /// Makes the calls of a script and writes each with its answer and digest.
 pub fn run(text: &str) -> Result<String, Fault> {
     let mut network = None;
-    let mut written = String::new();
-    for line in parse(text)? {
+    let lines = parse(text)?;
+    let mut written = first_line(lines.iter().map(|line| &line.call)).to_string();
+    for line in lines {
         let found = outcome(&mut network, &line.call);
         written += &format!("{} -> {found}\n", line.call);
     }
     Ok(written)
+}
+
+/// "A trace made with Asks begins with the line `// asks 1,3,7`, a comment to every
+/// reader." Traces of networks whose tokens cross at once were written without it
+/// before, and are so still.
+pub fn first_line<'a>(mut calls: impl Iterator<Item = &'a Call>) -> &'static str {
+    let by_line = calls.any(|call| matches!(call, Call::WithLines { .. }));
+    match by_line {
+        true => "// asks 1,4,7\n",
+        false => "",
+    }
 }
 
 /// Makes the calls of a script and compares with what it states. Answers how many

@@ -1,7 +1,8 @@
 //! Set: a node's and a link's settings.
 
 use crate::answers::{Answer, No};
-use crate::network::{LinkEnd, Network};
+use crate::lines::Freight;
+use crate::network::{Link, LinkEnd, Network};
 use crate::sizes::{BITS, HIGHEST_DIRECTION, HIGHEST_NETWORK, HIGHEST_NUMBER};
 use crate::tokens::{ONE_BYTE, THREE_BYTES};
 
@@ -79,7 +80,8 @@ fn set_network(network: &mut Network, end: LinkEnd, value: u32) -> Result<(), No
 }
 
 /// "Disabling zeroes and un-greets both ends." Busy: "disabling an enabled link
-/// while either end's buffer holds a token or either direction is in a circuit".
+/// while either end's buffer holds a token or either direction is in a circuit"; by
+/// line also while anything is "on either line".
 fn disable(network: &mut Network, end: LinkEnd) -> Result<(), No> {
     let link = network.link(end)?;
     if !link.enabled {
@@ -94,16 +96,20 @@ fn disable(network: &mut Network, end: LinkEnd) -> Result<(), No> {
     Ok(())
 }
 
-/// Does the buffer behind this link end hold a token, is the link in use outward,
-/// or has the port behind it a hop open (open point 19)?
+/// Does the buffer behind this link end hold a token, is the link in use outward or
+/// its line not empty, or has the port behind it a hop open (open point 19)?
 fn is_busy(network: &Network, end: LinkEnd) -> bool {
     let node = &network.nodes[end.slot];
-    node.links[end.link].used_by.is_some() || node.ports[end.link].is_taken()
+    let link = &node.links[end.link];
+    link.used_by.is_some() || !link.line.is_empty() || node.ports[end.link].is_taken()
 }
 
-/// "The answer to HELLO gives the grant." Busy: "HELLO on a disabled link".
+/// "The answer to HELLO gives the grant." Busy: "HELLO on a disabled link", and
+/// "HELLO is Busy while a credit or HELLO is on either line" (document 02, Ask 4).
 fn hello(network: &mut Network, end: LinkEnd) -> Result<Answer, No> {
-    if !network.link(end)?.enabled {
+    let link = network.link(end)?;
+    let in_the_way = |link: &Link| link.freight().any(|freight| freight != Freight::Token);
+    if !link.enabled || in_the_way(link) || network.far_link(link).is_some_and(in_the_way) {
         return Err(No::Busy);
     }
     Ok(Answer::Granted(network.say_hello(end)))

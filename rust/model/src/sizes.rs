@@ -22,6 +22,8 @@ pub const CHANNEL_ENDS: usize = 32;
 pub const CHANNELS: usize = 32;
 /// "port buffer: 64 tokens"
 pub const PORT_CAPACITY: usize = 64;
+/// "a line of up to 66 tokens" (document 02, Ask 4)
+pub const LINE_CAPACITY: usize = 66;
 /// "channel-end input buffer: 8 tokens"
 pub const CHANNEL_END_CAPACITY: usize = 8;
 /// The longest message, a write, has ten tokens before its END. One more decides

@@ -2,11 +2,13 @@
 //!
 //! The check is the list and nothing more (open point 1). Words that hold no token
 //! are no part of the state here, and what an idle control unit heard last is not
-//! looked at (open points 5 and 52a).
+//! looked at (open points 5 and 52a). Where tokens cross at once every line is empty,
+//! and nothing is counted as issued.
 
 mod circuits;
 mod counts;
 mod held;
+mod lines;
 mod links;
 
 use crate::network::Network;
@@ -31,12 +33,16 @@ pub enum Clause {
     Claims,
     OpenChannelEnds,
     ReplyPort,
+    /// Of networks whose tokens cross by line, and so are all below.
+    OneCreditOneHello,
+    IssuedCount,
+    UnwiredLine,
 }
 
 type Check = fn(&Network) -> bool;
 
 /// Each clause with its check, in order.
-const CLAUSES: [(Clause, Check); 16] = [
+const CLAUSES: [(Clause, Check); 19] = [
     (Clause::Memory, counts::memory_has_its_length),
     (Clause::Counts, counts::counts_within_limits),
     (Clause::CreditGreeted, links::credit_only_where_greeted),
@@ -53,6 +59,9 @@ const CLAUSES: [(Clause, Check); 16] = [
     (Clause::Claims, circuits::claims_name_circuits),
     (Clause::OpenChannelEnds, circuits::open_ends_name_circuits),
     (Clause::ReplyPort, circuits::reply_port_empty_while_serving),
+    (Clause::OneCreditOneHello, lines::one_credit_and_one_hello),
+    (Clause::IssuedCount, lines::issued_is_on_its_way),
+    (Clause::UnwiredLine, lines::nothing_without_a_cable),
 ];
 
 /// Does the state, with its memory, pass the whole list?

@@ -19,6 +19,15 @@ pub const READC: u8 = 0xC1;
 /// Third token of a header towards a switch's control unit.
 pub const SSCTRL: u8 = 0xC3;
 
+/// "Give additional 8 tokens of credit", on a line only, as are the three below.
+pub const CREDIT8: u8 = 0xE0;
+/// "Give additional 64 tokens of credit"
+pub const CREDIT64: u8 = 0xE1;
+/// "Give additional 16 tokens of credit"
+pub const CREDIT16: u8 = 0xE4;
+/// "Say hello and solicit credits"
+pub const HELLO: u8 = 0xE6;
+
 /// "Channel 255 is the sink: it takes and forgets."
 pub const SINK: usize = 255;
 

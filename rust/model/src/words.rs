@@ -4,7 +4,7 @@
 use std::str::SplitWhitespace;
 
 use crate::answers::{Answer, Cause, No, Opening};
-use crate::calls::{Call, StepRecord};
+use crate::calls::{Beginning, Call, StepRecord};
 use crate::network::{LinkEnd, Start};
 use crate::script::Outcome;
 use crate::set::Setting;
@@ -34,6 +34,10 @@ pub fn parse_call(text: &str) -> Result<Call, String> {
         "steps" => Call::Steps {
             results: words.number("a number of results")?,
             records: words.steps()?,
+        },
+        "line" => Call::Line {
+            slot: words.slot()?,
+            link: words.link()?,
         },
         other => return Err(expected(CALLS, Some(other))),
     };
@@ -77,7 +81,7 @@ pub fn parse_answer(text: &str) -> Result<Answer, String> {
 /// Reads the answer of one record, "as `step` gives it".
 fn parse_result(text: &str) -> Result<Answer, String> {
     match parse_single(text)? {
-        Answer::Done | Answer::Granted(_) | Answer::Token(_) => {
+        Answer::Done | Answer::Granted(_) | Answer::Token(_) | Answer::Arrived(_) => {
             Err(expected("an answer of a step", Some(text.trim())))
         }
         answer => Ok(answer),
@@ -90,15 +94,12 @@ fn parse_single(text: &str) -> Result<Answer, String> {
     let answer = match words.word("an answer")? {
         "no" => Answer::No(words.one_of("a refusal 1..12", No::from_number)?),
         "done" => Answer::Done,
-        "granted" => {
-            let grants = "a grant of 0, 8, 16 or 64";
-            let grant = |n| [0, 8, 16, 64].contains(&n).then_some(n);
-            Answer::Granted(words.one_of(grants, grant)?)
-        }
+        "granted" => Answer::Granted(words.grant()?),
         "token" => Answer::Token(words.number("a token value 0..255")?),
         "idle" => Answer::Idle,
         "waiting" => Answer::Waiting,
-        "moved" => Answer::Moved,
+        "moved" if words.is_at_end() => Answer::Moved,
+        "moved" => Answer::Arrived(words.grant()?),
         "opened" => Answer::Opened(words.opening()?),
         "refused" => Answer::Refused(words.cause()?),
         "dropped" => Answer::Dropped(words.cause()?),
@@ -137,6 +138,10 @@ impl<'a> Words<'a> {
         self.0.next().ok_or_else(|| expected(what, None))
     }
 
+    fn is_at_end(&self) -> bool {
+        self.0.clone().next().is_none()
+    }
+
     fn end(&mut self) -> Result<(), String> {
         match self.0.next() {
             None => Ok(()),
@@ -171,11 +176,31 @@ impl<'a> Words<'a> {
         self.one_of(&what, |number: u64| (number == 0).then_some(()))
     }
 
-    /// `NODES WORDS`, "with the same words" for both starts.
+    /// `NODES WORDS`, "with the same words" for both starts, or with them
+    /// `lines LINEWORDS`.
     fn beginning(&mut self, start: Start) -> Result<Call, String> {
-        let nodes = self.number("a number of nodes")?;
-        let memory_words = self.number("a number of memory words")?;
-        Ok(Call::beginning(start, nodes, memory_words))
+        Ok(Call::from(Beginning {
+            start,
+            nodes: self.number("a number of nodes")?,
+            memory_words: self.number("a number of memory words")?,
+            line_words: self.line_words()?,
+        }))
+    }
+
+    fn line_words(&mut self) -> Result<Option<usize>, String> {
+        if self.is_at_end() {
+            return Ok(None);
+        }
+        match self.word("lines")? {
+            "lines" => self.number("a number of line words").map(Some),
+            other => Err(expected("no more words", Some(other))),
+        }
+    }
+
+    fn grant(&mut self) -> Result<usize, String> {
+        let sizes = [0, 8, 16, 64];
+        let size = |size| sizes.contains(&size).then_some(size);
+        self.one_of("a grant of 0, 8, 16 or 64", size)
     }
 
     fn slot(&mut self) -> Result<usize, String> {
@@ -192,7 +217,7 @@ impl<'a> Words<'a> {
     /// "any number of records, also none"
     fn steps(&mut self) -> Result<Vec<StepRecord>, String> {
         let mut records = Vec::new();
-        while self.0.clone().next().is_some() {
+        while !self.is_at_end() {
             records.push(self.step()?);
         }
         Ok(records)

@@ -39,6 +39,22 @@ fn random_run_and_check() {
     assert_eq!(text(&run.stdout), printed);
 }
 
+/// A run whose tokens cross by line says with which Asks it was made.
+#[test]
+fn random_run_by_line_and_check() {
+    let random = model(&["lines", "11", "200"]);
+    assert!(random.status.success());
+    let printed = text(&random.stdout);
+    assert_eq!(printed.lines().count(), 201);
+    assert!(printed.starts_with("// asks 1,4,7\n"));
+    let path = file("lines.txt", &printed);
+    let path = path.to_str().expect("a path");
+    let checked = model(&["check", path]);
+    assert_eq!(text(&checked.stdout), "200 calls agree\n");
+    let run = model(&["run", path]);
+    assert_eq!(text(&run.stdout), printed);
+}
+
 /// The highest number of 64 bits, and one more.
 const HIGHEST: &str = "18446744073709551615";
 const TOO_LARGE: &str = "18446744073709551616";

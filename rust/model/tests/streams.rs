@@ -27,7 +27,7 @@ struct Circuit {
 #[derive(Default)]
 struct Shadow {
     circuits: Vec<Circuit>,
-    /// The circuit of each token in each port.
+    /// The circuit of each token in each port, and on the line to it behind.
     ports: HashMap<(usize, usize), VecDeque<usize>>,
     /// The circuit that each channel-end has open.
     open: HashMap<(usize, usize), usize>,
@@ -255,7 +255,8 @@ impl Shadow {
         for (slot, node) in network.nodes.iter().enumerate() {
             for (place, port) in node.ports.iter().enumerate() {
                 let shadow = self.ports.get(&(slot, place)).map_or(0, VecDeque::len);
-                assert_eq!(shadow, port.tokens.len(), "port {slot}.{place}");
+                let held = port.tokens.len() + network.coming_to(slot, place).count();
+                assert_eq!(shadow, held, "port {slot}.{place}");
             }
             for (place, end) in node.channel_ends.iter().enumerate() {
                 let shadow = self.held.get(&(slot, place)).cloned().unwrap_or_default();
@@ -267,11 +268,25 @@ impl Shadow {
 
 #[test]
 fn streams_arrive_whole_and_at_the_right_door() {
+    let totals = watch(Runner::new, 900);
+    assert!(totals.0 > 3000 && totals.1 > 100, "{totals:?}");
+}
+
+/// "Demand 3 stays" where tokens cross by line.
+#[test]
+fn streams_by_line_arrive_whole_and_at_the_right_door() {
+    let totals = watch(Runner::by_line, 2_000);
+    assert!(totals.0 > 3000 && totals.1 > 100, "{totals:?}");
+}
+
+/// Watches runs, and gives how many tokens were handed to channel-ends, and how many
+/// circuits split.
+fn watch(runner: fn(u64) -> Runner, count: usize) -> (usize, usize) {
     let mut totals = (0, 0);
     for seed in 5000..5120 {
-        let mut runner = Runner::new(seed);
+        let mut runner = runner(seed);
         let mut shadow = Shadow::default();
-        for _ in 0..900 {
+        for _ in 0..count {
             let before = runner.network().cloned();
             let (call, found) = runner.call();
             let Some(after) = runner.network() else {
@@ -283,5 +298,5 @@ fn streams_arrive_whole_and_at_the_right_door() {
         shadow.compare();
         totals = (totals.0 + shadow.arrived, totals.1 + shadow.split);
     }
-    assert!(totals.0 > 3000 && totals.1 > 100, "{totals:?}");
+    totals
 }

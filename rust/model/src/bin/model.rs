@@ -6,7 +6,8 @@ use std::process::ExitCode;
 use model::runs::Runner;
 use model::script;
 
-const USAGE: &str = "usage: model run FILE | model check FILE | model random SEED COUNT";
+const USAGE: &str =
+    "usage: model run FILE | model check FILE | model random SEED COUNT | model lines SEED COUNT";
 
 fn main() -> ExitCode {
     // What is no text has marks in it then, and is no word that is known.
@@ -16,7 +17,8 @@ fn main() -> ExitCode {
     let result = match words[..] {
         ["run", file] => run(file).and_then(|text| print(&text)),
         ["check", file] => check(file).and_then(|text| print(&text)),
-        ["random", seed, count] => random(seed, count),
+        ["random", seed, count] => random("", Runner::new, seed, count),
+        ["lines", seed, count] => random(BY_LINE, Runner::by_line, seed, count),
         _ => Err(USAGE.to_string()),
     };
     match result {
@@ -53,12 +55,17 @@ fn check(file: &str) -> Result<String, String> {
     Ok(format!("{compared} calls agree\n"))
 }
 
-fn random(seed: &str, count: &str) -> Result<(), String> {
+/// What a run begins with that is made up by line.
+const BY_LINE: &str = "// asks 1,4,7\n";
+
+fn random(head: &str, run: fn(u64) -> Runner, seed: &str, count: &str) -> Result<(), String> {
     let seed = seed.parse().map_err(|_| USAGE.to_string())?;
     let count: usize = count.parse().map_err(|_| USAGE.to_string())?;
-    let mut runner = Runner::new(seed);
+    let mut runner = run(seed);
     let mut out = io::BufWriter::new(io::stdout().lock());
     let mut lines = (0..count).map(|_| runner.call());
-    let written = lines.try_for_each(|(call, found)| writeln!(out, "{call} -> {found}"));
+    let begun = out.write_all(head.as_bytes());
+    let written =
+        begun.and_then(|()| lines.try_for_each(|(call, found)| writeln!(out, "{call} -> {found}")));
     unless_gone(written.and_then(|()| out.flush()))
 }

@@ -98,7 +98,7 @@ impl Runner {
     }
 
     /// The links of which that is so.
-    fn links(&self, is_meant: impl Fn(&Link) -> bool) -> Vec<LinkEnd> {
+    pub(super) fn links(&self, is_meant: impl Fn(&Link) -> bool) -> Vec<LinkEnd> {
         self.nodes()
             .flat_map(|(slot, node)| {
                 let links = (0..).zip(&node.links);

@@ -10,9 +10,14 @@ const LIMIT: usize = 48;
 impl Runner {
     /// One that makes lists of steps, too.
     pub fn with_lists(seed: u64) -> Runner {
+        Runner::new(seed).and_lists()
+    }
+
+    /// The same runner, and it makes lists of steps, too.
+    pub fn and_lists(self) -> Runner {
         Runner {
             lists: true,
-            ..Runner::new(seed)
+            ..self
         }
     }
 

@@ -1,17 +1,24 @@
 //! Sound: the length of the memory, counts and indices.
 
+use crate::lines::{self, Crossing};
 use crate::network::{
     memory_words, Aim, ChannelEnd, Claim, Hop, Link, Network, Node, Port, Sending,
 };
 use crate::sizes::{
-    CHANNEL_ENDS, CHANNEL_END_CAPACITY, HIGHEST_DIRECTION, HIGHEST_NETWORK, HIGHEST_NUMBER, LINKS,
-    MOST_CREDIT, MOST_NODES, PORTS, PORT_CAPACITY, TILE_PORTS,
+    CHANNEL_ENDS, CHANNEL_END_CAPACITY, HIGHEST_DIRECTION, HIGHEST_NETWORK, HIGHEST_NUMBER,
+    LINE_CAPACITY, LINKS, MOST_CREDIT, MOST_NODES, PORTS, PORT_CAPACITY, TILE_PORTS,
 };
 use crate::tokens::{is_channel, Destination, ONE_BYTE, SINK, THREE_BYTES};
 
-/// Unsound is also "memory of the wrong length".
+/// Unsound is also "memory of the wrong length": of either memory, for the second "is
+/// token memory too wherever the demands and document 01 name that".
 pub(super) fn memory_has_its_length(network: &Network) -> bool {
-    memory_words(network.nodes.len()) == Some(network.memory_words)
+    let nodes = network.nodes.len();
+    let second = match network.crossing {
+        Crossing::AtOnce => true,
+        Crossing::ByLine { line_words } => lines::line_words(nodes) == Some(line_words),
+    };
+    second && memory_words(nodes) == Some(network.memory_words)
 }
 
 /// "counts within their limits": every number of the state, and every index.
@@ -41,6 +48,8 @@ fn link_counts(link: &Link, count: usize) -> bool {
         && link.network <= HIGHEST_NETWORK
         && link.credit <= MOST_CREDIT
         && link.used_by.is_none_or(|port| port < PORTS)
+        && link.issued <= MOST_CREDIT
+        && link.line.len() <= LINE_CAPACITY
 }
 
 /// A channel-end of the node, or the sink.

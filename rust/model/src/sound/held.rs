@@ -1,8 +1,11 @@
 //! Sound: what ports, channel-ends and control units hold.
 
-use std::collections::vec_deque;
+use std::borrow::Cow;
+use std::collections::{vec_deque, VecDeque};
 
-use crate::network::{ChannelEnd, ControlUnit, Hop, Network, Port};
+use crate::lines::Crossing;
+use crate::network::{ChannelEnd, ControlUnit, Hop, Network};
+use crate::sizes::PORTS;
 use crate::tokens::{is_channel, Kind, Token, PAUSE, READC, SSCTRL, WRITEC};
 
 /// "tokens [...] are legal": outside headers no hardware token and of the
@@ -11,7 +14,7 @@ use crate::tokens::{is_channel, Kind, Token, PAUSE, READC, SSCTRL, WRITEC};
 /// with their headers.
 pub(super) fn tokens_legal(network: &Network) -> bool {
     let legal = |token: &Token| token.header.is_some() || is_legal(token);
-    let ports = all_ports(network, |port| port.tokens.iter().all(legal));
+    let ports = all_contents(network, |contents| contents.tokens.iter().all(legal));
     ports
         && all_channel_ends(network, |end| {
             let mut tokens = end.tokens.iter();
@@ -27,10 +30,34 @@ fn is_legal(token: &Token) -> bool {
     token.kind == Kind::Data || token.value < 0xC0 || [WRITEC, READC].contains(&token.value)
 }
 
-/// One circuit's tokens in a port: a stretch that begins at the front or behind an
-/// END or PAUSE, and goes on to the next of them or to the port's end.
+/// What a port holds with the line to it behind (A4.18).
+struct Contents<'a> {
+    hop: Option<Hop>,
+    tokens: Cow<'a, VecDeque<Token>>,
+    /// How many of them the port holds, and are not on the line.
+    held: usize,
+}
+
+impl<'a> Contents<'a> {
+    fn of(network: &'a Network, slot: usize, port: usize) -> Contents<'a> {
+        let place = &network.nodes[slot].ports[port];
+        let by_line = network.crossing != Crossing::AtOnce;
+        let tokens = match by_line && network.coming_to(slot, port).next().is_some() {
+            false => Cow::Borrowed(&place.tokens),
+            true => Cow::Owned(network.held_and_coming(slot, port)),
+        };
+        Contents {
+            hop: place.hop,
+            tokens,
+            held: place.tokens.len(),
+        }
+    }
+}
+
+/// One circuit's tokens in a port or on the line to it: a stretch that begins at the
+/// front or behind an END or PAUSE, and goes on to the next of them or to the end.
 struct Stretch<'a> {
-    port: &'a Port,
+    contents: &'a Contents<'a>,
     /// Where it begins, where its leading header tokens end, and where it ends.
     start: usize,
     body: usize,
@@ -39,16 +66,16 @@ struct Stretch<'a> {
 
 impl<'a> Stretch<'a> {
     fn header(&self) -> vec_deque::Iter<'a, Token> {
-        self.port.tokens.range(self.start..self.body)
+        self.contents.tokens.range(self.start..self.body)
     }
 
     fn body(&self) -> vec_deque::Iter<'a, Token> {
-        self.port.tokens.range(self.body..self.end)
+        self.contents.tokens.range(self.body..self.end)
     }
 
     /// The hop of the port, for the stretch that the hop is open for.
     fn hop(&self) -> Option<Hop> {
-        self.port.hop.filter(|_| self.start == 0)
+        self.contents.hop.filter(|_| self.start == 0)
     }
 
     /// How many tokens the header has when whole, by its first token's mark.
@@ -58,19 +85,22 @@ impl<'a> Stretch<'a> {
     }
 }
 
-/// The stretches of a port, in order.
-fn stretches(port: &Port) -> Vec<Stretch<'_>> {
-    let length = port.tokens.len();
+/// The stretches of a port, in order. "how much of the header is left is told by the
+/// port's buffer alone" where a hop is open (A4.18).
+fn stretches<'a>(contents: &'a Contents<'a>) -> Vec<Stretch<'a>> {
+    let length = contents.tokens.len();
     let mut found = Vec::new();
     let mut start = 0;
     while start < length {
-        let mut behind = port.tokens.range(start..);
+        let mut behind = contents.tokens.range(start..);
         let headers = behind.clone().take_while(|t| t.header.is_some()).count();
         let end = behind.position(Token::ends_circuit);
         let end = end.map_or(length, |place| start + place + 1);
-        let body = start + headers;
+        let opened = start == 0 && contents.hop.is_some();
+        let limit = if opened { contents.held } else { length };
+        let body = (start + headers).min(limit);
         found.push(Stretch {
-            port,
+            contents,
             start,
             body,
             end,
@@ -132,11 +162,11 @@ pub(super) fn header_after_end(network: &Network) -> bool {
     })
 }
 
-/// "such a header is short only at its port's end"
+/// "such a header is short only at its port's end"; the rest of it may be on the line
 pub(super) fn short_only_at_the_end(network: &Network) -> bool {
     all_stretches(network, |stretch| {
         let short = stretch.header().len() < stretch.whole_length();
-        stretch.hop().is_some() || !short || stretch.body == stretch.port.tokens.len()
+        stretch.hop().is_some() || !short || stretch.body == stretch.contents.tokens.len()
     })
 }
 
@@ -158,14 +188,14 @@ pub(super) fn no_header_elsewhere(network: &Network) -> bool {
 }
 
 fn all_stretches(network: &Network, holds: impl Fn(&Stretch) -> bool) -> bool {
-    all_ports(network, |port| stretches(port).iter().all(&holds))
+    all_contents(network, |contents| stretches(contents).iter().all(&holds))
 }
 
-fn all_ports(network: &Network, holds: impl Fn(&Port) -> bool) -> bool {
-    network
-        .nodes
-        .iter()
-        .all(|node| node.ports.iter().all(&holds))
+fn all_contents(network: &Network, holds: impl Fn(&Contents) -> bool) -> bool {
+    (0..network.nodes.len()).all(|slot| {
+        let mut ports = 0..PORTS;
+        ports.all(|port| holds(&Contents::of(network, slot, port)))
+    })
 }
 
 fn all_channel_ends(network: &Network, holds: impl Fn(&ChannelEnd) -> bool) -> bool {

@@ -4,11 +4,13 @@
 
 #![allow(dead_code)]
 
+use std::collections::VecDeque;
+
 use model::answers::Answer;
 use model::calls::{apply, Call};
 use model::network::{ChannelEnd, Link, Network, Node, Port};
 use model::sound;
-use model::tokens::Kind;
+use model::tokens::{Kind, Token};
 use model::words::parse_call;
 
 /// A network, or none yet.
@@ -36,6 +38,14 @@ impl Bench {
     pub fn begun(start: &str, nodes: usize) -> Bench {
         let mut bench = Bench::empty();
         bench.expect(&format!("{start} {nodes} {}", nodes * 13 * 64), "done");
+        bench
+    }
+
+    /// A fresh network whose tokens cross by line.
+    pub fn lined(nodes: usize) -> Bench {
+        let words = format!("{} lines {}", nodes * 13 * 64, nodes * 8 * 66);
+        let mut bench = Bench::empty();
+        bench.expect(&format!("fresh {nodes} {words}"), "done");
         bench
     }
 
@@ -188,6 +198,31 @@ impl Bench {
         }
     }
 
+    /// Steps all lines, round after round, until all are empty, and adds up the grants
+    /// that this brings.
+    pub fn empty_lines(&mut self) -> usize {
+        let mut granted = 0;
+        while let Some((slot, link)) = self.lines_in_use().first().copied() {
+            match self.make(&Call::Line { slot, link }) {
+                Answer::Arrived(grant) => granted += grant,
+                other => panic!("line {slot} {link} -> {other}"),
+            }
+        }
+        granted
+    }
+
+    /// The link ends whose lines are not empty.
+    pub fn lines_in_use(&self) -> Vec<(usize, usize)> {
+        let nodes = (0..).zip(&self.state().nodes);
+        nodes
+            .flat_map(|(slot, node)| {
+                let links = (0..).zip(&node.links);
+                let used = links.filter(|(_, link)| !link.line.is_empty());
+                used.map(move |(link, _)| (slot, link))
+            })
+            .collect()
+    }
+
     /// Takes all that a channel-end holds, written as `output_tokens` reads it.
     pub fn input_all(&mut self, slot: usize, channel_end: usize) -> String {
         let mut found = Vec::new();
@@ -234,11 +269,21 @@ impl Bench {
     /// What a port holds: `01` data, `!01` control, with `h1:` or `h3:` before it
     /// for a token of a header.
     pub fn tokens(&self, slot: usize, port: usize) -> String {
-        let words = self.port(slot, port).tokens.iter().map(|token| {
-            let mark = token.header.map_or(String::new(), |w| format!("h{w}:"));
-            let kind = if token.kind == Kind::Control { "!" } else { "" };
-            format!("{mark}{kind}{:02X}", token.value)
-        });
-        words.collect::<Vec<_>>().join(" ")
+        in_words(&self.port(slot, port).tokens)
     }
+
+    /// What is on the line that starts at a link, that nearest the far end first: `!E6`
+    /// is HELLO, `!E0`, `!E4` and `!E1` a credit of 8, 16 and 64.
+    pub fn on_line(&self, slot: usize, link: usize) -> String {
+        in_words(&self.link(slot, link).line)
+    }
+}
+
+fn in_words(tokens: &VecDeque<Token>) -> String {
+    let words = tokens.iter().map(|token| {
+        let mark = token.header.map_or(String::new(), |w| format!("h{w}:"));
+        let kind = if token.kind == Kind::Control { "!" } else { "" };
+        format!("{mark}{kind}{:02X}", token.value)
+    });
+    words.collect::<Vec<_>>().join(" ")
 }
