@@ -27,6 +27,10 @@ use Rattle.cells.specs.declared.end.Buffer.{Buffer}
 abbrev pub withNet : World → Net → World
 withNet w s = record { net = s; memory = w .memory; lineMemory = w .lineMemory }
 
+-- the state and the token memory changed, and the lines as they were
+abbrev pub withStore : World → Net → List ℕ → World
+withStore w s m = record { net = s; memory = m; lineMemory = w .lineMemory }
+
 -- the width and the number that a node has at this moment
 abbrev pub widthAt : Net → ℕ → Width
 widthAt s n = pick (eqb (s .own n 0 .width) 1) One Three

@@ -38,7 +38,12 @@ boards =
     0 4 (ofPeer (Port 8))
 
 abbrev begun : World
-begun = record { net = boards; memory = set (startOf Fresh 2 .memory) (place 0 8) (controlWord end); lineMemory = startOf Fresh 2 .lineMemory }
+begun =
+    record {
+      net = boards;
+      memory = set (startOf Fresh 2 .memory) (place 0 8) (controlWord end);
+      lineMemory = startOf Fresh 2 .lineMemory;
+    }
 
 pub passes : sound begun ≡ true
 unfolding computes sound holds every all

@@ -40,7 +40,8 @@ use Rattle.cells.specs.declared.end.End.{End}
 use Rattle.cells.specs.declared.end.Aim.{Aim}
 use Rattle.cells.specs.declared.unit.Unit.{Unit}
 use Rattle.cells.specs.declared.unit.Hearing.{Hearing}
-use Rattle.clauses.specs.Counts.{nodeCounts, linkCounts, tilePort, isFree, portCounts, tileCounts, aimCounts, endCounts, unitCounts, lineCounts}
+use Rattle.clauses.specs.Counts.{nodeCounts, linkCounts, tilePort, isFree, portCounts, tileCounts, aimCounts, endCounts, unitCounts}
+use Rattle.clauses.specs.Counts.{lineCounts}
 use Rattle.clauses.specs.Cables.{onFar, leadsTo, cable, credited, greeted, enabled, room}
 use Rattle.clauses.specs.Contents.{legalWord, filled, legalWords, heldTokens, heardTokens}
 use Rattle.clauses.specs.Pairs.{portOf, endOf, claimable, straightTo, linkOf, tileOf, unitOf, claimOf}

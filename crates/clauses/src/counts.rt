@@ -18,7 +18,8 @@ use names::size::UNIT_BUFFER;
 use ports::Counters;
 use tokens::header::is_channel;
 ghost use mathlib.Core.Path.{_≡_};
-ghost use Rattle.clauses.specs.Counts.{nodeCounts, linkCounts, portNetwork, portCounts, tileCounts, endCounts, unitCounts, aimCounts, lineCounts};
+ghost use Rattle.clauses.specs.Counts.{nodeCounts, linkCounts, portNetwork, portCounts, tileCounts, endCounts, unitCounts, aimCounts};
+ghost use Rattle.clauses.specs.Counts.{lineCounts};
 
 // What a channel-end holds at most, beside words of 32 bits.
 const BUFFER: u32 = END_BUFFER as u32;

@@ -12,7 +12,7 @@ use Rattle.circuits.specs.declared.Peer.{Peer}
 use Rattle.circuits.specs.declared.Peer.the-variants as Peers
 use Rattle.cells.specs.View.{Net}
 use Rattle.cells.specs.World.{World}
-use Rattle.acts.specs.Acts.{pushed, pushedAll, widthAt, networked, untilClosed, claimedBy, handed, sendsTo}
+use Rattle.acts.specs.Acts.{withStore, pushed, pushedAll, widthAt, networked, untilClosed, claimedBy, handed, sendsTo}
 use Rattle.acts.specs.Needs.{Room}
 use Rattle.acts.proofs.Pushes.{less, room-left}
 use Rattle.ends.specs.Output.{goesBy, opensBy, goesBehind, goesStraight}
@@ -34,21 +34,21 @@ room-header w z n p (H.Three a b c) r e =
     rw e (room-left (pushed (pushed w n p a) n p b) n p c 1 (room-left (pushed w n p a) n p b 2 (room-left w n p a 3 r)))
 
 -- what a circuit that goes by a port asks of the state after a push
-pub ready-behind : (w : World) (s : Net) (m : List ℕ) (n p t : ℕ) → record { net = s; memory = m; lineMemory = w .lineMemory } ≡ pushed w n p t
+pub ready-behind : (w : World) (s : Net) (m : List ℕ) (n p t : ℕ) → withStore w s m ≡ pushed w n p t
     → n < w .net .nodes
     → n < s .nodes
 ready-behind w s m n p t e h = rw (ap (λ (z : World). z .net .nodes) e ∙ pushed-nodes w n p t) h
 
 pub ready-opened : (w : World) (s : Net) (m : List ℕ) (n p t : ℕ) (ts : List ℕ)
-    → record { net = s; memory = m; lineMemory = w .lineMemory } ≡ pushed (pushedAll w n p ts) n p t
+    → withStore w s m ≡ pushed (pushedAll w n p ts) n p t
     → n < w .net .nodes
     → n < s .nodes
 ready-opened w s m n p t ts e h =
     rw (ap (λ (z : World). z .net .nodes) e ∙ pushed-nodes (pushedAll w n p ts) n p t ∙ all-nodes w n p ts) h
 
-pub behind-gives : (w : World) (s z : Net) (m : List ℕ) (n c p t : ℕ) → record { net = s; memory = m; lineMemory = w .lineMemory } ≡ pushed w n p t
+pub behind-gives : (w : World) (s z : Net) (m : List ℕ) (n c p t : ℕ) → withStore w s m ≡ pushed w n p t
     → z ≡ goesBy s n c p t
-    → record { net = z; memory = m; lineMemory = w .lineMemory } ≡ goesBehind w n c p t
+    → withStore w z m ≡ goesBehind w n c p t
 behind-gives w s z m n c p t e h =
     λ j. record {
       net = (h ∙ ap (λ (y : World). goesBy (y .net) n c p t) e) j;
@@ -59,12 +59,12 @@ behind-gives w s z m n c p t e h =
 pub opens-gives : (w : World) (s y z : Net) (m : List ℕ) (n c p t v : ℕ) (g : Target) (h : Header)
     → h ≡ headerOf g (widthAt (w .net) n)
     → v ≡ w .net .ends .aims n c .network
-    → record { net = s; memory = m; lineMemory = w .lineMemory } ≡ pushed (pushedAll w n p (words h)) n p t
+    → withStore w s m ≡ pushed (pushedAll w n p (words h)) n p t
     → y ≡ networked s n p v
     → z ≡ goesBy y n c p t
-    → record { net = z; memory = m; lineMemory = w .lineMemory } ≡ opensBy w n c g p t
+    → withStore w z m ≡ opensBy w n c g p t
 opens-gives w s y z m n c p t v g h a b e d f =
-    let q : record { net = s; memory = m; lineMemory = w .lineMemory } ≡ pushed (pushedAll w n p (words (headerOf g (widthAt (w .net) n)))) n p t =
+    let q : withStore w s m ≡ pushed (pushedAll w n p (words (headerOf g (widthAt (w .net) n)))) n p t =
     e ∙ ap (λ (k : Header). pushed (pushedAll w n p (words k)) n p t) a in
     let v = w .net .ends .aims n c .network in
     let k : z ≡ goesBy (networked s n p v) n c p t = f ∙ ap (λ (x : Net). goesBy x n c p t) (d ∙ ap (networked s n p) b) in

@@ -1,9 +1,9 @@
 -- A port of what is kept: its stretch of the memory is there, its counters are fair, and it holds as many tokens as they say. Assumes
 -- nothing.
-use Prim.Native.Nat.{ℕ, zero, suc, _+_, _*_, _<_, _≤_}
-use mathlib.Core.Path.{_≡_, refl, ap}
+use Prim.Native.Nat.{ℕ, _+_, _*_, _<_, _≤_}
+use mathlib.Core.Path.{_≡_}
 use mathlib.Core.Bool.{true}
-use mathlib.Core.List.{List, []}
+use mathlib.Core.List.{[]}
 use native.Mathlib.Omega.{arith}
 use lib.ListN.{length}
 use Rattle.laws.proofs.All.{also, as-is, at-most, equal}
@@ -11,6 +11,7 @@ use Rattle.names.specs.Size.{nodes, ports}
 use Rattle.ports.specs.Ring.{ring}
 use Rattle.ports.specs.Queue.{capacity}
 use Rattle.ports.specs.Memory.{place, stretch}
+use Rattle.ports.proofs.Rings.{ring-long}
 use Rattle.cells.specs.World.{World, shaped, isEmpty, queue}
 use Rattle.acts.specs.Needs.{Room, Holds}
 use Rattle.kept.specs.Kept.{Kept}
@@ -30,11 +31,6 @@ module _ (w : World) (k : Kept w) (n p i : ℕ) (hn : n < w .net .nodes) (hp : p
 
   pub has-room : w .net .ports .counters n p .held + i ≤ capacity → Room w n p i
   has-room h = record { node = hn; port = hp; fair = k .counters n p hn hp; room = h; reaches = reaches w (k .shape) n p hn hp }
-
-ring-long : (cap : ℕ) (s : List ℕ) (h n : ℕ) → length (ring cap s h n) ≡ n
-unfolding ring
-ring-long cap s h zero = refl
-ring-long cap s h (suc n) = ap suc (ring-long cap s (suc h) n)
 
 module _ (w : World) (n p : ℕ) where
   pub queue-long : length (queue w n p) ≡ w .net .ports .counters n p .held

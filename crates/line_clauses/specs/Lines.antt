@@ -49,7 +49,9 @@ unlined w n l =
 -- at most 64
 abbrev pub roomTo : World → ℕ → ℕ → ℕ → ℕ → Bool
 roomTo w n l m k =
-    leb (w .net .links .flows n l .credit + loadAt w m k .credit + (loadAt w n l .tokens + w .net .ports .counters m k .held)) capacity
+    leb
+    (w .net .links .flows n l .credit + loadAt w m k .credit + (loadAt w n l .tokens + w .net .ports .counters m k .held))
+    capacity
 
 abbrev pub roomOver : World → ℕ → ℕ → Bool
 roomOver w n l = onFar (farOf (w .net .links .cables n l)) true (roomTo w n l)

@@ -107,7 +107,8 @@ fn count_to(st: &[u32], ls: &[u16], slot: Slot, l: usize, m: Slot, k: usize) -> 
     !(coming.hellos == 0) | (x.issued as u64 == sum)
 }
 
-// While no HELLO is coming to a receiver, its count is the far end's credit, the credit on the line to it and the tokens on the line from it.
+// While no HELLO is coming to a receiver, its count is the far end's credit, the credit on the line to that end and the tokens on the line
+// from it.
 pub fn counted(st: &[u32], ls: &[u16], slot: Slot, l: usize) -> bool
     ensures { λ r. ⌜ r ≡ counted (lined (now (st .entry)) (now (ls .entry))) (slot .0) l ⌝ }
 {

@@ -10,7 +10,8 @@ use Rattle.laws.specs.Pick.{pick}
 use Rattle.laws.proofs.Order.{by-test, clash}
 use Rattle.ports.specs.Queue.{capacity}
 use Rattle.lines.specs.Line.{lineCapacity}
-use Rattle.lines.specs.Load.{creditWord, isHello, creditOf, isToken, tokensOf, before, helloBefore, creditBefore, tokenBefore, noLoad, loadOf}
+use Rattle.lines.specs.Load.{creditWord, isHello, creditOf, isToken, tokensOf, loadOf}
+use Rattle.lines.specs.Load.{before, helloBefore, creditBefore, tokenBefore, noLoad}
 use Rattle.lines.specs.declared.load.Load.{Load}
 use Rattle.lines.proofs.Loads.{credit-most}
 
@@ -118,7 +119,8 @@ load-worth [] = (omega arith, omega arith)
 load-worth (x ∷ q) = let rest = load-worth q in more (thing x) rest
   where
     more : Thing x → (8 * loadOf q .credits ≤ loadOf q .credit) × (loadOf q .credit ≤ 64 * loadOf q .credits)
-        → (8 * before x (loadOf q) .credits ≤ before x (loadOf q) .credit) × (before x (loadOf q) .credit ≤ 64 * before x (loadOf q) .credits)
+        → (8 * before x (loadOf q) .credits ≤ before x (loadOf q) .credit)
+        × (before x (loadOf q) .credit ≤ 64 * before x (loadOf q) .credits)
     more (hello e) h = rw e h
     more (credit e g) h = rw (e, g) (omega (arith, credit-least x g), omega (arith, credit-most x))
     more (token e g) h = rw (e, g) h

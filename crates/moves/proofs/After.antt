@@ -21,7 +21,7 @@ use Rattle.cells.specs.World.{World, farOf}
 use Rattle.ports.specs.declared.Counters.{Counters}
 use Rattle.cells.specs.declared.link.Far.{Far}
 use Rattle.cells.specs.declared.link.Far.the-variants.{Nowhere, At}
-use Rattle.acts.specs.Acts.{pushed, popped, withNet, firstAt, hopped}
+use Rattle.acts.specs.Acts.{withStore, pushed, popped, withNet, firstAt, hopped}
 use Rattle.acts.specs.Needs.{Room, Holds, Given}
 use Rattle.grants.specs.Grants.{considered}
 use Rattle.moves.specs.Moves.{consideredAt, grantsUp, took, closesOut, paid, arrives, crosses, movesOut, opensChannel, opensUnit}
@@ -99,12 +99,12 @@ module _ (s : Net) (n p l x : ℕ) where
 
 -- taking touches no line
 pub took-is : (w : World) (n p : ℕ)
-    → record { net = took w n p .net; memory = took w n p .memory; lineMemory = w .lineMemory } ≡ took w n p
+    → withStore w (took w n p .net) (took w n p .memory) ≡ took w n p
 unfolding took popped
 took-is w n p = refl
 
 -- The state after a token is taken, known by an equation
-module _ (w : World) (s : Net) (m : List ℕ) (n p : ℕ) (e : record { net = s; memory = m; lineMemory = w .lineMemory } ≡ took w n p) where
+module _ (w : World) (s : Net) (m : List ℕ) (n p : ℕ) (e : withStore w s m ≡ took w n p) where
   net-is : s ≡ took w n p .net
   net-is = ap (λ (z : World). z .net) e
 
@@ -115,11 +115,15 @@ module _ (w : World) (s : Net) (m : List ℕ) (n p : ℕ) (e : record { net = s;
   given-after c x q g = rw (q, net-is, took-ends w n p) g
 
   pub after-took : (z : Net) (x : ℕ) (f : Net → ℕ → Net) → x ≡ firstAt w n p → z ≡ f s x
-      → record { net = z; memory = m; lineMemory = w .lineMemory } ≡ withNet (took w n p) (f (took w n p .net) (firstAt w n p))
+      → withStore w z m ≡ withNet (took w n p) (f (took w n p .net) (firstAt w n p))
   after-took z x f q h =
-      λ j. record { net = (h ∙ ap (f s) q ∙ ap (λ (y : Net). f y (firstAt w n p)) net-is) j; memory = ap (λ (y : World). y .memory) e j; lineMemory = ap (λ (y : World). y .lineMemory) e j }
+      λ j. record {
+        net = (h ∙ ap (f s) q ∙ ap (λ (y : Net). f y (firstAt w n p)) net-is) j;
+        memory = ap (λ (y : World). y .memory) e j;
+        lineMemory = ap (λ (y : World). y .lineMemory) e j;
+      }
 
-  pub room-after : (l x : ℕ) (g : Far) → Holds w n p 1 → FarRoom w g → FarRoom (record { net = closesOut s n p l x; memory = m; lineMemory = w .lineMemory }) g
+  pub room-after : (l x : ℕ) (g : Far) → Holds w n p 1 → FarRoom w g → FarRoom (withStore w (closesOut s n p l x) m) g
   room-after l x Nowhere h r = tt
   room-after l x (At a j) h r =
       closed-room s n p l x m (w .lineMemory) (a .0) j 1 (rw e (took-room w n p (a .0) j 1 h r))
@@ -136,19 +140,19 @@ unfolding pushed
 arrival-nodes w Nowhere x = refl
 arrival-nodes w (At a j) x = refl
 
-pub arrived-nodes : (w : World) (s : Net) (m : List ℕ) (f : Far) (x n : ℕ) → record { net = s; memory = m; lineMemory = w .lineMemory } ≡ arrives w f x
+pub arrived-nodes : (w : World) (s : Net) (m : List ℕ) (f : Far) (x n : ℕ) → withStore w s m ≡ arrives w f x
     → n < w .net .nodes
     → n < s .nodes
 arrived-nodes w s m f x n e h = rw (ap (λ (z : World). z .net .nodes) e ∙ arrival-nodes w f x) h
 
 pub cross-gives : (w : World) (s y z : Net) (m : List ℕ) (n l x : ℕ) (f : Far) → f ≡ farOf (w .net .links .cables n l)
-    → record { net = s; memory = m; lineMemory = w .lineMemory } ≡ arrives w f x
+    → withStore w s m ≡ arrives w f x
     → y ≡ paid s n l
     → z ≡ considered y n l
-    → record { net = z; memory = m; lineMemory = w .lineMemory } ≡ crosses w n l x
+    → withStore w z m ≡ crosses w n l x
 unfolding crosses
 cross-gives w s y z m n l x f q e d h =
-    let a : record { net = s; memory = m; lineMemory = w .lineMemory } ≡ arrives w (farOf (w .net .links .cables n l)) x = e ∙ ap (λ (g : Far). arrives w g x) q in
+    let a : withStore w s m ≡ arrives w (farOf (w .net .links .cables n l)) x = e ∙ ap (λ (g : Far). arrives w g x) q in
     λ j. record {
       net = (h ∙ ap (λ (v : Net). considered v n l) (d ∙ ap (λ (v : World). paid (v .net) n l) a)) j;
       memory = ap (λ (v : World). v .memory) a j;

@@ -12,7 +12,7 @@ use Rattle.cells.specs.View.{Net}
 use Rattle.cells.specs.World.{World, farOf}
 use Rattle.cells.specs.declared.link.Far.{Far}
 use Rattle.cells.specs.declared.link.Far.the-variants.{Nowhere, At}
-use Rattle.acts.specs.Acts.{popped}
+use Rattle.acts.specs.Acts.{withStore, popped}
 use Rattle.acts.specs.Needs.{Holds}
 use Rattle.acts.proofs.Pushes.{popped-counters}
 use Rattle.grants.specs.Grants.{considered}
@@ -86,11 +86,15 @@ module _ (w : World) (n p : ℕ) where
 pub takes-after : (w z : World) (n p k : ℕ) → z ≡ took w n p → Takes w n p (k + 1) → Takes z n p k
 takes-after w z n p k e r = rw e (takes-left w n p k r)
 
-pub up-after : (w : World) (s : Net) (m : List ℕ) (n p : ℕ) → record { net = s; memory = m; lineMemory = w .lineMemory } ≡ popped w n p → Up (w .net) n p → Up s n p
+pub up-after : (w : World) (s : Net) (m : List ℕ) (n p : ℕ) → withStore w s m ≡ popped w n p → Up (w .net) n p → Up s n p
 up-after w s m n p e u = rw (ap (λ (z : World). z .net) e) (popped-up w n p u)
 
-pub took-gives : (w : World) (s z : Net) (m : List ℕ) (n p : ℕ) → record { net = s; memory = m; lineMemory = w .lineMemory } ≡ popped w n p → z ≡ grantsUp s n p
-    → record { net = z; memory = m; lineMemory = w .lineMemory } ≡ took w n p
+pub took-gives : (w : World) (s z : Net) (m : List ℕ) (n p : ℕ) → withStore w s m ≡ popped w n p → z ≡ grantsUp s n p
+    → withStore w z m ≡ took w n p
 unfolding took
 took-gives w s z m n p e h =
-    λ j. record { net = (h ∙ ap (λ (y : World). grantsUp (y .net) n p) e) j; memory = ap (λ (y : World). y .memory) e j; lineMemory = ap (λ (y : World). y .lineMemory) e j }
+    λ j. record {
+      net = (h ∙ ap (λ (y : World). grantsUp (y .net) n p) e) j;
+      memory = ap (λ (y : World). y .memory) e j;
+      lineMemory = ap (λ (y : World). y .lineMemory) e j;
+    }

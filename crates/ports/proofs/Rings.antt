@@ -36,6 +36,12 @@ module _ (cap : ℕ) where
       ring-other s j v (suc h) n (λ i l q. f (suc i) (omega arith) (ap (λ (k : ℕ). k % cap) (omega arith) ∙ q)) in
       rw (e, r)
 
+  -- it has as many words as it says
+  pub ring-long : (s : List ℕ) (h n : ℕ) → length (ring cap s h n) ≡ n
+  unfolding ring
+  ring-long s h zero = refl
+  ring-long s h (suc n) = ap suc (ring-long s (suc h) n)
+
   -- the start goes round
   ring-round : (s : List ℕ) (h k n : ℕ) → h % cap ≡ k % cap → ring cap s h n ≡ ring cap s k n
   unfolding ring

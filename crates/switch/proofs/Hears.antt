@@ -10,7 +10,7 @@ use Rattle.answers.specs.Out.{Out, out}
 use Rattle.answers.specs.declared.Answer.the-variants.{Moved}
 use Rattle.cells.specs.View.{Net}
 use Rattle.cells.specs.World.{World}
-use Rattle.acts.specs.Acts.{withNet, firstAt}
+use Rattle.acts.specs.Acts.{withStore, withNet, firstAt}
 use Rattle.acts.specs.Needs.{Room, Holds}
 use Rattle.messages.specs.Heard.{listens}
 use Rattle.messages.specs.Ended.{ended}
@@ -20,14 +20,14 @@ use Rattle.moves.proofs.After.{took-nodes, took-cables, took-room, after-took}
 use Rattle.switch.specs.Step.{hears}
 
 -- the state after a token is taken, known by an equation
-module _ (w : World) (s : Net) (m : List ℕ) (n p : ℕ) (e : record { net = s; memory = m; lineMemory = w .lineMemory } ≡ took w n p) where
+module _ (w : World) (s : Net) (m : List ℕ) (n p : ℕ) (e : withStore w s m ≡ took w n p) where
   net-is : s ≡ took w n p .net
   net-is = ap (λ (z : World). z .net) e
 
   -- what a message's end asks for is there before its last token is taken
-  pub ready-after : (z : Net) → z ≡ closesUnit s n p → Holds w n p 1 → Ready w n → Ready (record { net = z; memory = m; lineMemory = w .lineMemory }) n
+  pub ready-after : (z : Net) → z ≡ closesUnit s n p → Holds w n p 1 → Ready w n → Ready (withStore w z m) n
   ready-after z q h r =
-      let x : Room (record { net = s; memory = m; lineMemory = w .lineMemory }) n replyPort longest = rw e (took-room w n p n replyPort longest h (r .room)) in
+      let x : Room (withStore w s m) n replyPort longest = rw e (took-room w n p n replyPort longest h (r .room)) in
       rw q (
       record {
         room =
@@ -45,7 +45,7 @@ module _ (w : World) (s : Net) (m : List ℕ) (n p : ℕ) (e : record { net = s;
   -- a token that a control unit hears: the last of a message, and any other
   pub hears-end : (z : Net) (o : Out World) (x : ℕ) → x ≡ firstAt w n p → closes x ≡ true
       → z ≡ closesUnit s n p
-      → o ≡ ended (record { net = z; memory = m; lineMemory = w .lineMemory }) n x
+      → o ≡ ended (withStore w z m) n x
       → o ≡ hears w n p
   hears-end z o x q f h g =
       let shut : World = withNet (took w n p) (closesUnit (took w n p .net) n p) in
@@ -54,5 +54,5 @@ module _ (w : World) (s : Net) (m : List ℕ) (n p : ℕ) (e : record { net = s;
 
   pub hears-more : (z : Net) (x : ℕ) → x ≡ firstAt w n p → closes x ≡ false
       → z ≡ listens s n x
-      → out Moved (record { net = z; memory = m; lineMemory = w .lineMemory }) ≡ hears w n p
+      → out Moved (withStore w z m) ≡ hears w n p
   hears-more z x q f h = rw (ap closes (sym q) ∙ f) (ap (out Moved) (after-took w s m n p e z x (λ y t. listens y n t) q h))

@@ -8,7 +8,7 @@ use Rattle.lines.specs.Line.{lineCapacity}
 use Rattle.lines.specs.Load.{helloBefore, creditBefore, tokenBefore, noLoad}
 use Rattle.lines.specs.declared.load.Load.{Load}
 use Rattle.lines.proofs.Ends.{helloAfter, tokenAfter, things}
-use Rattle.travel.specs.Accounts.{End, Side, Cable}
+use Rattle.travel.specs.Accounts.{End, Side, Cable, Clean}
 
 -- An end with one thing changed
 abbrev pub lineAs : End → Load → End
@@ -255,15 +255,7 @@ module _ {a b : End} (z : Cable a b) (clear : (a .load .credits ≡ 0) × (a .lo
   pub room-hello : things (a .load) < lineCapacity
   room-hello = omega (arith, z .there .room, clear .0, clear .1)
 
--- NOTHING IS OWED: two ends with no credit, ungreeted, with nothing issued and nothing on their lines, as two that are joined by a cable, or
--- disabled
-pub record Clean (a : End) : Type 0 where
-  pub credit : a .credit ≡ 0
-  pub greeted : a .greeted ≡ 0
-  pub issued : a .issued ≡ 0
-  pub load : a .load ≡ noLoad
-  pub held : a .held ≤ capacity
-
+-- NOTHING IS OWED: two ends as they are joined by a cable, or disabled
 clean-side : {a b : End} → Clean a → Clean b → Side a b
 clean-side {a} {b} p q =
     rw (p .load, q .load) at-rest

@@ -1,12 +1,15 @@
--- What a receiver grants: none where the count says so, what its count of 32 bits can take, and for what its line has room. Assumes nothing.
+-- What a receiver grants: none where the count says so, what its count of 32 bits can take, and what its line has room for. Assumes
+-- nothing.
 use Prim.Native.Nat.{ℕ, _+_, _^_, _<_, _≤_}
 use mathlib.Core.Path.{_≡_, refl, _∙_}
 use mathlib.Core.Bool.{false}
 use native.Mathlib.Omega.{arith}
-use lib.Dec.{ltb}
+use lib.Dec.{eqb, ltb}
 use borrow.Author.Tests.{ltb-true}
 use Rattle.laws.proofs.Order.{by-test}
 use Rattle.lines.specs.Line.{lineCapacity}
+use Rattle.lines.specs.Load.{creditWord, isHello, creditOf}
+use Rattle.credits.specs.Grant.{Granted, none, eight, sixteen, all}
 use Rattle.credits.proofs.Grants.{most}
 use Rattle.cells.specs.World.{World, farOf}
 use Rattle.cells.specs.declared.link.Far.{Far}
@@ -43,3 +46,12 @@ module _ (w : World) (m k : ℕ) where
   pub due-fits : (g : ℕ) → g ≡ grantDue w m k → w .net .lines .issued m k + 64 < 2 ^ 32 → w .net .lines .issued m k + g < 2 ^ 32
   unfolding grantDue
   due-fits g e h = omega (arith, to-most (farOf (w .net .links .cables m k)))
+
+-- the word of a grant brings it: a credit, and no HELLO
+pub word-is : {g : ℕ} → Granted g → (g ≡ 0 → ⊥)
+    → (isHello (creditWord g) ≡ false) × (eqb (creditOf (creditWord g)) 0 ≡ false) × (creditOf (creditWord g) ≡ g) × (8 ≤ g)
+unfolding creditOf
+word-is none some = absurd (some refl)
+word-is eight some = (refl, refl, refl, omega arith)
+word-is sixteen some = (refl, refl, refl, omega arith)
+word-is all some = (refl, refl, refl, omega arith)

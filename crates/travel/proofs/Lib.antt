@@ -4,3 +4,8 @@ pub mod Due
 pub mod Lent
 pub mod Arrivals
 pub mod Accounts
+pub mod Cables
+pub mod Loads
+pub mod Changed
+pub mod Keeps
+pub mod Stepped

@@ -1,0 +1,76 @@
+-- How much is on each line after one thing is put on a line or taken off it. Assumes nothing.
+use Prim.Native.Nat.{ℕ, _+_, _%_, _<_}
+use mathlib.Core.Path.{_≡_, sym, ap, _∙_}
+use mathlib.Core.List.{List, [], _∷_, _++_}
+use native.Mathlib.Nat.{mod-lt}
+use native.Mathlib.Omega.{arith}
+use lib.ListN.{set}
+use Rattle.laws.specs.Table.{upd, Off}
+use Rattle.laws.proofs.Table.{upd-same, upd-miss}
+use Rattle.names.specs.Size.{links}
+use Rattle.ports.specs.Ring.{putCounters, stretch}
+use Rattle.ports.specs.declared.Counters.{Counters}
+use Rattle.lines.specs.Line.{lineCapacity, offCounters, linePlace, onMemory, offMemory, onLine}
+use Rattle.lines.specs.Load.{before, loadOf}
+use Rattle.ports.proofs.Rings.{ring-long}
+use Rattle.lines.proofs.Ends.{things, how-many}
+use Rattle.lines.proofs.Queues.{put-last, off-first, other-line}
+use Rattle.cells.specs.World.{World, lineFrom}
+use Rattle.travel.specs.Travel.{loadFrom, putOn, firstOn, takenOff}
+use Rattle.travel.specs.Needs.{LineThere}
+
+-- a line after its counters and the memory are written
+line-here : (rings : ℕ → ℕ → Counters) (n l : ℕ) (c : Counters) (m : List ℕ)
+    → onLine (upd rings n l c n l) m (linePlace n l) ≡ onLine c m (linePlace n l)
+line-here rings n l c m = ap (λ (k : Counters). onLine k m (linePlace n l)) (upd-same rings n l c)
+
+-- .. and another, where one word of the first's stretch is written
+line-away : (rings : ℕ → ℕ → Counters) (n l : ℕ) (c : Counters) (m : List ℕ) (i v a j : ℕ) → l < links → j < links → i < lineCapacity
+    → Off n l a j
+    → onLine (upd rings n l c a j) (set m (linePlace n l + i) v) (linePlace a j) ≡ onLine (rings a j) m (linePlace a j)
+line-away rings n l c m i v a j hl hj hi o =
+    ap (λ (k : Counters). onLine k (set m (linePlace n l + i) v) (linePlace a j)) (upd-miss rings n l c a j o)
+    ∙ other-line (rings a j) m n l a j i v hl hj hi o
+
+module _ (w : World) (n l : ℕ) (z : LineThere w n l) where
+  abbrev counters : Counters
+  counters = w .net .lines .rings n l
+
+  -- as many things are on it as its counters say
+  pub load-held : counters .held ≡ things (loadFrom w n l)
+  load-held =
+      sym (ring-long lineCapacity (stretch lineCapacity (w .lineMemory) (linePlace n l)) (counters .head) (counters .held))
+      ∙ how-many (lineFrom w n l)
+
+  -- PUT ON
+  pub put-load : (x : ℕ) → counters .held < lineCapacity → loadFrom (putOn w n l x) n l ≡ loadOf (lineFrom w n l ++ (x ∷ []))
+  unfolding putOn
+  put-load x h =
+      ap loadOf
+      (line-here (w .net .lines .rings) n l (putCounters counters) (onMemory counters (w .lineMemory) (linePlace n l) x)
+      ∙ put-last counters (w .lineMemory) (linePlace n l) x (z .reaches) h)
+
+  pub put-load-away : (x a j : ℕ) → j < links → Off n l a j → loadFrom (putOn w n l x) a j ≡ loadFrom w a j
+  unfolding putOn
+  put-load-away x a j hj o =
+      ap loadOf
+      (line-away (w .net .lines .rings) n l (putCounters counters) (w .lineMemory) ((counters .head + counters .held) % lineCapacity) x a j
+      (z .link) hj (mod-lt (counters .head + counters .held) (omega arith)) o)
+
+  -- TAKEN OFF
+  pub off-load : 0 < counters .held → loadFrom w n l ≡ before (firstOn w n l) (loadFrom (takenOff w n l) n l)
+  unfolding takenOff
+  off-load h =
+      ap loadOf (off-first counters (w .lineMemory) (linePlace n l) (z .fair) h)
+      ∙ ap (λ (q : List ℕ). before (firstOn w n l) (loadOf q)) left
+    where
+      left : onLine (offCounters counters) (offMemory counters (w .lineMemory) (linePlace n l)) (linePlace n l)
+          ≡ lineFrom (takenOff w n l) n l
+      left = sym
+          (line-here (w .net .lines .rings) n l (offCounters counters) (offMemory counters (w .lineMemory) (linePlace n l)))
+
+  pub off-load-away : (a j : ℕ) → j < links → Off n l a j → loadFrom (takenOff w n l) a j ≡ loadFrom w a j
+  unfolding takenOff
+  off-load-away a j hj o =
+      ap loadOf
+      (line-away (w .net .lines .rings) n l (offCounters counters) (w .lineMemory) (counters .head) 0 a j (z .link) hj (z .fair .head-in) o)
