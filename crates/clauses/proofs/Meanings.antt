@@ -152,7 +152,7 @@ unit-counts k = also (at-most _ _) (either (equal _ _) (at-most _ _))
 
 -- Cables and credits
 
-on-far : {P : Slot → ℕ → Type 0} (c : Far) (f : ℕ → ℕ → Bool) → ((m : Slot) (k : ℕ) → Means (f (m .0) k) (P m k))
+pub on-far : {P : Slot → ℕ → Type 0} (c : Far) (f : ℕ → ℕ → Bool) → ((m : Slot) (k : ℕ) → Means (f (m .0) k) (P m k))
     → Means (onFar c true f) ((m : Slot) (k : ℕ) → c ≡ At m k → P m k)
 on-far Nowhere f m = record { sure = λ h p k e. never (cc); back = λ h. refl }
 on-far {P} (At a b) f m =
@@ -202,7 +202,7 @@ pub record Hears (s : Net) (k : Cable) : Type 0 where
   pub leads : farOf k ≡ At slot link
   pub enabled : s .links .setups (slot .0) link .enabled ≡ 1
 
-far-enabled : (s : Net) (k : Cable) (c : Far) → farOf k ≡ c → Means (onFar c false (enabled s)) (Hears s k)
+pub far-enabled : (s : Net) (k : Cable) (c : Far) → farOf k ≡ c → Means (onFar c false (enabled s)) (Hears s k)
 far-enabled s k Nowhere e = record { sure = λ h. clash (sym h); back = λ z. let q = z .leads in never (cc) }
 far-enabled s k (At m j) e =
     record {

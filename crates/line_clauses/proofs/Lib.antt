@@ -3,3 +3,4 @@ pub mod Readies
 pub mod Walks
 pub mod Lent
 pub mod Empty
+pub mod Meanings

@@ -150,7 +150,10 @@ fn wrong_libraries_are_found() {
         (is_unsound_first, "results of another length, and no 1"),
         (is_refused_whole, "results of its own length, and no 1"),
         (skips_the_last, "0x400000000 in the list, 0x"),
-        (leaves_refused_unwritten, "0xffffffffffffffff in the list, 0x"),
+        (
+            leaves_refused_unwritten,
+            "0xffffffffffffffff in the list, 0x",
+        ),
         (takes_a_longer_buffer, ", which is no answer"),
         (tidies_up, "leaves other words than its Steps one by one"),
     ];
