@@ -1,6 +1,6 @@
 //! Credits: how they are granted, and when a grant is considered. What happens at
 //! once in document 01 and what travels in document 02, Ask 4, stand beside each
-//! other in [`at_once`] and [`by_line`].
+//! other in `at_once` and `by_line`.
 
 mod at_once;
 pub(crate) mod by_line;
