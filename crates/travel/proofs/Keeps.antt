@@ -84,7 +84,7 @@ module _ (w : World) (back : Backs (w .net .nodes) (w .net .links .cables)) (z :
         (put-away y n l there x (m .0) k (home .1) apart ∙ flow-away w n l f (m .0) k apart)
         (keep-sent both-ends has)
 
-  -- A HELLO SENT, heard by an enabled end, while no credit and no HELLO is on either line
+  -- A HELLO SENT to an end that is enabled, while no credit is on either line and no HELLO on its own
   module _ (line : LineThere w n l)
       (clear : (loadFrom w n l .credits ≡ 0) × (loadFrom w n l .hellos ≡ 0) × (loadFrom w (m .0) k .credits ≡ 0)) where
     pub hello-room : w .net .lines .rings n l .held < lineCapacity

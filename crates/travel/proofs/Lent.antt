@@ -21,10 +21,6 @@ withLineMemory w ls = record { net = w .net; memory = w .memory; lineMemory = ls
 
 -- NO PORT IS TOUCHED
 module _ (w : World) (m : List ℕ) where
-  pub put-lent : (n l x : ℕ) → putOn (withMemory w m) n l x ≡ withMemory (putOn w n l x) m
-  unfolding putOn
-  put-lent n l x = refl
-
   pub off-lent : (n l : ℕ) → takenOff (withMemory w m) n l ≡ withMemory (takenOff w n l) m
   unfolding takenOff
   off-lent n l = refl
