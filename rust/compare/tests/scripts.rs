@@ -101,7 +101,7 @@ fn the_model_agrees_with_the_scripts_beside_the_command() {
 /// So do the examples, the one with a switch message too.
 #[test]
 fn the_model_agrees_with_the_examples() {
-    model_agrees("../../examples");
+    model_agrees("../../examples/traces");
 }
 
 /// Words to be put into lines.

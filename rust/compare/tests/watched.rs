@@ -223,7 +223,7 @@ fn a_header_read_by_a_board_of_the_other_width() {
 
 #[test]
 fn the_examples_are_watched() {
-    let folder = concat!(env!("CARGO_MANIFEST_DIR"), "/../../examples");
+    let folder = concat!(env!("CARGO_MANIFEST_DIR"), "/../../examples/traces");
     let files = std::fs::read_dir(folder).expect("the examples");
     let paths = files.map(|file| file.expect("an example").path());
     let scripts = paths.filter(|path| path.extension().is_some_and(|kind| kind == "txt"));

@@ -8,7 +8,7 @@ use model::Call;
 use crate::states::{empty, half_full, nothing, State};
 
 /// The head of which the hub is updated and the lanes are not.
-const HALF_UPDATE: &str = include_str!("../../../examples/half-update.txt");
+const HALF_UPDATE: &str = include_str!("../../../examples/traces/half-update.txt");
 
 /// The networks whose cost is compared with the number of their boards.
 pub const BOARDS: [usize; 5] = [1, 2, 4, 8, MOST_NODES];

@@ -293,7 +293,7 @@ fn half_full_is_what_it_says() {
     }
 }
 
-/// No timed call is refused, but for the script's own `no 11`, and behind all of them library and
+/// No timed call is refused, but for the script's own two `no 11`, and behind all of them library and
 /// baseline have the same words.
 #[test]
 fn the_measures_do_what_they_say() {
@@ -307,7 +307,7 @@ fn the_measures_do_what_they_say() {
         let refused = found
             .iter()
             .filter(|answer| matches!(answer, Answer::No(_)));
-        let expected = usize::from(name.starts_with("script"));
+        let expected = 2 * usize::from(name.starts_with("script"));
         assert_eq!(refused.count(), expected, "{name}");
         if name.starts_with("step") {
             assert!(

@@ -1,6 +1,6 @@
 //! What is so on a board, a sentence a fact; what is at rest has none.
 
-use bench::sizes::{BITS, LINKS};
+use bench::sizes::{BITS, LINKS, PORTS};
 use bench::{Bench, Hop, Link, Looks, Peer};
 
 use crate::names::{channel, counted, destination, headers, letter, links, peer, port, tokens};
@@ -109,6 +109,12 @@ fn holding(words: impl Iterator<Item = u32>) -> Option<String> {
     let count = counted(words.len(), "token");
     let listed = tokens(words.iter().copied());
     (!words.is_empty()).then(|| format!("holds {count}: {listed}"))
+}
+
+/// Every port of every board.
+pub fn ports(looks: Looks) -> impl Iterator<Item = (usize, usize)> {
+    let slots = 0..looks.nodes();
+    slots.flat_map(|slot| (0..PORTS).map(move |port| (slot, port)))
 }
 
 /// What a port waits for, if it does.

@@ -7,6 +7,7 @@ use bench::{raw, Bench, Clause, Destination, Kind, Looks, Setting, StepRecord};
 
 use crate::answer::Answer;
 use crate::call::Call;
+use crate::settle::changes;
 
 /// What came of a call: its answer, and the digest of the state behind it.
 #[derive(Clone, Debug, PartialEq, Eq)]
@@ -91,6 +92,22 @@ impl Host {
             found,
             failing,
         }
+    }
+
+    /// Makes a call of a round; none where it has changed nothing.
+    pub fn make_if_it_changes(&mut self, line: usize, call: Call) -> Option<Made> {
+        let (answer, failing) = self.answer(&call);
+        if !changes(&answer) {
+            return None;
+        }
+        let digest = self.digest();
+        let found = Outcome { answer, digest };
+        Some(Made {
+            line,
+            call,
+            found,
+            failing,
+        })
     }
 
     /// What the proved library answers, and the clause that fails where it says Unsound.

@@ -16,18 +16,24 @@
 //! ```
 
 mod answer;
+mod boards;
 mod call;
 pub mod diff;
 pub mod draw;
+pub mod expand;
 mod facts;
 mod host;
 pub mod matrix;
 mod names;
+mod nearest;
 mod parse;
+pub mod people;
 mod play;
 pub mod question;
+mod reader;
 mod rounds;
 pub mod route;
+mod settle;
 pub mod show;
 pub mod source;
 mod waits;
@@ -36,8 +42,11 @@ mod ways;
 mod words;
 
 pub use answer::{Answer, Opening};
+pub use boards::Boards;
 pub use call::{Call, FORMS};
 pub use host::{Host, Made, Outcome};
 pub use parse::{parse, BadLine, Line};
-pub use play::{check, run, Fault, HEAD};
+pub use play::{check, play, run, Fault, Watch, HEAD};
+pub use reader::{read, Entry, Said, Script};
+pub use settle::Settled;
 pub use words::Expected;

@@ -2,19 +2,21 @@
 //! network is like that they leave.
 
 use std::ffi::OsString;
-use std::fmt::Write as _;
 use std::io::{self, ErrorKind, Write};
 use std::path::{Path, PathBuf};
 use std::process::ExitCode;
 
 use bench::Bench;
+use script::expand::Expanding;
 use script::matrix::{self, Matrix};
 use script::question::{read_door, Door, Question};
-use script::{diff, draw, route, show, source, Expected, Fault, Made, FORMS};
+use script::{diff, draw, expand, people, route, show, source};
+use script::{Expected, Fault, Host, Made, Script, FORMS};
 
 const USAGE: &str = "\
 usage: bench run FILE
        bench check FILE
+       bench expand FILE
        bench show FILE
        bench route FILE SLOT NUMBER CHANNEL [NETWORK]
        bench matrix [--csv] FILE [CHANNEL [NETWORK]]
@@ -28,6 +30,7 @@ bench: makes the calls of a script on the proved bench
   bench run FILE      makes the calls and prints each with its answer and digest
   bench check FILE    makes the calls and compares with the answers and digests that FILE states;
                       names the first line that differs
+  bench expand FILE   makes the calls and prints them plainly, words for people as what they stand for
   bench show FILE     makes the calls and prints the state that they leave, in words
   bench route FILE SLOT NUMBER CHANNEL [NETWORK]
                       sends an END from a board and prints each switch on its way
@@ -38,9 +41,15 @@ bench: makes the calls of a script on the proved bench
                       prints what differs between the networks that two scripts leave
   bench --help        prints this; bench VERB --help, or bench help VERB, says more of a verb
 
-A script has one call a line, CALL, or with what came of it, CALL -> ANSWER # DIGEST. Empty lines
-and lines that begin with // are passed over. Numbers are decimal, or hexadecimal with 0x. It is text
-in UTF-8 of at most 64 MiB.
+Every FILE is a script: words for people, plain calls, or both. Empty lines and lines that begin with //
+are passed over. Numbers are decimal, or hexadecimal with 0x. It is text in UTF-8 of at most 64 MiB.
+
+Words for people, of which bench expand --help says what each stands for:
+
+";
+
+const PLAIN: &str = "
+Plain calls, one a line, CALL, or with what came of it, CALL -> ANSWER # DIGEST:
 
 ";
 
@@ -56,8 +65,8 @@ steps makes a list of Steps at once, as if they were made one by one. RESULTS is
 there is room for. The answer is no 2 where that is not how many Steps there are; else it is results
 and what each Step answered, parted by ;.
 
-Exit status: 0 all calls made, and all that is stated agrees; 1 a line differs; 2 a line that is no
-call, or a file that cannot be read. Where nobody reads what is printed to its end, as behind head, a
+Exit status: 0 all calls made, and all that is stated agrees; 1 a line differs, or something else was
+received than it expects; 2 a line that is no call, or a file that cannot be read. Where nobody reads what is printed to its end, as behind head, a
 verb ends without a complaint.
 ";
 
@@ -69,16 +78,17 @@ networks are the same and with 1 where something differs.
 const RUN: &str = "\
 bench run FILE: makes the calls of FILE and prints each with its answer and the digest of the state
 
-What is printed is a script again. Where a memory is unsound, standard error says what fails.
+What is printed is a plain script. Where a memory is unsound, standard error says what fails.
 
-Exit status: 0 all calls made, or as many as were read before the reader went away; 2 the script was
-not run to its end.
+Exit status: 0 all calls made, or as many as were read before the reader went away; 1 something else
+was received than a line for people expects, and the line is named; 2 the script was not run to its end.
 ";
 
 const CHECK: &str = "\
 bench check FILE: makes the calls of FILE and compares with the answers and digests that it states
 
-A call whose line states nothing is made and not compared. How many agree is printed.
+A call whose line states nothing is made and not compared; what a line for people is to receive is. How
+many agree is printed.
 
 Exit status: 0 all that is stated agrees; 1 a line differs, and is named; 2 the script was not run to
 its end.
@@ -134,6 +144,7 @@ fn obey(words: &[Word]) -> Ended {
         [verb, "--help" | "-h"] | ["help", verb] => print(help_for(verb)?),
         ["run", _] => run(file(1)),
         ["check", _] => check(file(1)),
+        ["expand", _] => expand(file(1)),
         ["show", _] => print(&show::show(&network(file(1))?)),
         ["route", _, ref question @ ..] => follow(file(1), question),
         ["matrix", ..] => ask_all(&words[1..]),
@@ -148,17 +159,20 @@ fn complaint(text: String) -> Complaint {
 }
 
 fn help() -> String {
-    let mut text = ABOUT.to_owned();
-    for form in FORMS.iter().flat_map(|(_, forms)| forms.split(", or ")) {
-        let _ = writeln!(text, "  {form}");
-    }
-    text + ARGUMENTS + ANSWERS
+    let listed = |forms: &[(&str, &str)]| {
+        let forms = forms.iter().flat_map(|(_, forms)| forms.split(", or "));
+        forms.map(|form| format!("  {form}\n")).collect::<String>()
+    };
+    let words = listed(&people::FORMS);
+    let calls = listed(&FORMS);
+    format!("{ABOUT}{words}{PLAIN}{calls}{ARGUMENTS}{ANSWERS}")
 }
 
 fn help_for(verb: &str) -> Result<&'static str, Complaint> {
     match verb {
         "run" => Ok(RUN),
         "check" => Ok(CHECK),
+        "expand" => Ok(expand::HELP),
         "show" => Ok(show::HELP),
         "route" => Ok(route::HELP),
         "matrix" => Ok(matrix::HELP),
@@ -234,6 +248,28 @@ fn check(file: &Path) -> Ended {
     });
     let compared = checked.map_err(|fault| faulty(file, fault))?;
     print(&format!("{compared} calls agree\n"))
+}
+
+/// What a verb that prints as it goes comes to: what stands before a line that differs is printed too.
+fn played(file: &Path, played: Result<Host, Fault>, written: io::Result<()>) -> Ended {
+    match played {
+        Err(Fault::Untold(error)) => unless_gone(Err(error)).map_err(unwritten)?,
+        Err(fault) => return Err(faulty(file, fault)),
+        Ok(_) => unless_gone(written).map_err(unwritten)?,
+    }
+    Ok(true)
+}
+
+fn understood<'a>(file: &Path, text: &'a str) -> Result<Script<'a>, Complaint> {
+    script::read(text).map_err(|bad| faulty(file, Fault::BadLine(bad)))
+}
+
+fn expand(file: &Path) -> Ended {
+    let text = read(file)?;
+    let script = understood(file, &text)?;
+    let mut expanding = Expanding::to(io::BufWriter::new(io::stdout().lock()));
+    let came_of_it = script::play(&script, &mut expanding);
+    played(file, came_of_it, expanding.flush())
 }
 
 /// A copy of the network that a script leaves.

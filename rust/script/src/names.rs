@@ -8,14 +8,17 @@ use crate::facts::runs;
 /// The control token that ends a message.
 pub const END: u8 = 1;
 
+/// The letters of the links, in their order.
+pub const LETTERS: [&str; LINKS] = ["A", "B", "C", "D", "E", "F", "G", "H"];
+
 /// The letter of a link: A..H.
-pub fn letter(link: usize) -> char {
-    char::from(b"ABCDEFGH"[link % LINKS])
+pub fn letter(link: usize) -> &'static str {
+    LETTERS[link % LINKS]
 }
 
 /// Links of a board together: `link E`, `links E F`.
 pub fn links(links: &[usize]) -> String {
-    let letters: Vec<String> = links.iter().map(|link| letter(*link).to_string()).collect();
+    let letters: Vec<&str> = links.iter().map(|link| letter(*link)).collect();
     let name = if links.len() == 1 { "link" } else { "links" };
     format!("{name} {}", letters.join(" "))
 }
@@ -105,16 +108,26 @@ fn token_word(token: Token) -> String {
     }
 }
 
+/// The control tokens of a message to a control unit: the first one of a write, and of a read.
+pub const WRITEC: u8 = 0xC0;
+pub const READC: u8 = 0xC1;
+
 /// The names that the documents give to control tokens.
+pub const CONTROLS: [(&str, u8); 6] = [
+    ("END", END),
+    ("PAUSE", 0x02),
+    ("ACK", 0x03),
+    ("NACK", 0x04),
+    ("WRITEC", WRITEC),
+    ("READC", READC),
+];
+
+/// What a control token without a name is written with, before its value.
+pub const UNNAMED: &str = "control-";
+
 fn control_word(value: u8) -> String {
-    let name = match value {
-        END => "END",
-        0x02 => "PAUSE",
-        0x03 => "ACK",
-        0x04 => "NACK",
-        0xC0 => "WRITEC",
-        0xC1 => "READC",
-        _ => return format!("control-{value}"),
-    };
-    name.to_owned()
+    match CONTROLS.iter().find(|(_, known)| *known == value) {
+        Some((name, _)) => (*name).to_owned(),
+        None => format!("{UNNAMED}{value}"),
+    }
 }

@@ -6,9 +6,11 @@ use std::fmt;
 use bench::{Cause, Destination, Kind, LinkEnd, Refusal, Setting, StepRecord};
 
 use crate::answer::{Answer, Opening};
+use crate::boards::Boards;
 use crate::call::{Call, FORMS};
 use crate::host::Outcome;
-use crate::words::{expected, Expected, Words};
+use crate::names::LETTERS;
+use crate::words::{number_of, Expected, Words};
 
 /// A line that has a call, with what it states of it.
 #[derive(Clone, Debug, PartialEq, Eq)]
@@ -28,42 +30,57 @@ pub struct BadLine {
 
 impl fmt::Display for BadLine {
     fn fmt(&self, f: &mut fmt::Formatter<'_>) -> fmt::Result {
-        write!(f, "line {}: {}", self.line, self.expected)
+        let (line, column) = (self.line, self.expected.column());
+        write!(f, "line {line}, column {column}: {}", self.expected)
     }
 }
 
 impl Error for BadLine {}
 
-/// Reads a script: its calls, or what is wrong with the first line that has none.
+/// Reads a plain script: its calls, or what is wrong with the first line that has none.
+/// [`read`](crate::read) reads scripts for people too.
 pub fn parse(text: &str) -> Result<Vec<Line>, BadLine> {
-    let numbered = (1..).zip(text.lines().map(str::trim));
-    let calls = numbered.filter(|(_, line)| !line.is_empty() && !line.starts_with("//"));
+    let numbered = (1..).zip(text.lines());
+    let calls = numbered.filter(|(_, line)| has_words(line));
+    let read = |(number, line)| {
+        let (call, stated) = read_plain(line, None)?;
+        Ok(Line {
+            number,
+            call,
+            stated,
+        })
+    };
     calls
-        .map(|(line, text)| read_line(line, text).map_err(|expected| BadLine { line, expected }))
+        .map(|(line, text)| read((line, text)).map_err(|expected| BadLine { line, expected }))
         .collect()
 }
 
-/// `CALL` or `CALL -> ANSWER # DIGEST`.
-fn read_line(number: usize, line: &str) -> Result<Line, Expected> {
+/// Whether a line is more than empty or a comment.
+fn has_words(line: &str) -> bool {
+    let line = line.trim();
+    !line.is_empty() && !line.starts_with("//")
+}
+
+/// `CALL` or `CALL -> ANSWER # DIGEST`; where boards have names, those may stand for slots.
+pub fn read_plain(
+    line: &str,
+    boards: Option<&Boards>,
+) -> Result<(Call, Option<Outcome>), Expected> {
     let (call, stated) = match line.split_once("->") {
         Some((call, stated)) => (call, Some(stated)),
         None => (line, None),
     };
-    Ok(Line {
-        number,
-        call: read_call(call)?,
-        stated: stated.map(read_outcome).transpose()?,
-    })
+    let call = read_call(Words::within(line, call, boards))?;
+    let stated = stated.map(|stated| read_outcome(line, stated));
+    Ok((call, stated.transpose()?))
 }
 
 /// Reads a call; a complaint about it ends with how the call is written.
-fn read_call(text: &str) -> Result<Call, Expected> {
-    let mut words = Words::of(text);
-    let names = "fresh, blank, wire, set, aim, output, input, step or steps";
-    let name = words.word(names)?;
-    let Some((_, form)) = FORMS.iter().find(|(known, _)| *known == name) else {
-        return Err(expected(names, Some(name)));
-    };
+fn read_call(mut words: Words) -> Result<Call, Expected> {
+    let names = FORMS.map(|(name, _)| (name, name));
+    let name = words.choice(&names)?;
+    let form = FORMS.iter().find(|(known, _)| *known == name);
+    let form = form.map_or("", |(_, form)| form);
     let read = call_named(name, &mut words);
     read.and_then(|call| words.end().map(|()| call))
         .map_err(|complaint| complaint.in_form(form))
@@ -108,15 +125,39 @@ fn start(name: &str, words: &mut Words) -> Result<Call, Expected> {
     })
 }
 
-fn slot(words: &mut Words) -> Result<usize, Expected> {
-    words.number("a slot")
+/// A slot: its number or, where boards have names, that of the board in it.
+pub fn slot(words: &mut Words) -> Result<usize, Expected> {
+    let Some(boards) = words.boards() else {
+        return words.number("a slot");
+    };
+    let what = "a board's name or slot";
+    let word = words.word(what)?;
+    match boards.slot(word).or_else(|| number(word)) {
+        Some(slot) => Ok(slot),
+        None => Err(words.unmet_by(what, word, boards.names())),
+    }
 }
 
+fn number(word: &str) -> Option<usize> {
+    usize::try_from(number_of(word)?).ok()
+}
+
+/// A link's number or, where boards have names, its letter.
 fn link(words: &mut Words) -> Result<usize, Expected> {
-    words.number("a link")
+    lettered(words, "a link")
 }
 
-fn channel_end(words: &mut Words) -> Result<usize, Expected> {
+/// A number; where boards have names, the letter of a link stands for the link's.
+fn lettered(words: &mut Words, what: &str) -> Result<usize, Expected> {
+    if words.boards().is_none() {
+        return words.number(what);
+    }
+    let letter = |word: &str| LETTERS.iter().position(|letter| *letter == word);
+    let what = format!("{what}, a letter A..H or a number");
+    words.meaning(&what, |word| letter(word).or_else(|| number(word)))
+}
+
+pub fn channel_end(words: &mut Words) -> Result<usize, Expected> {
     words.number("a channel-end")
 }
 
@@ -124,7 +165,8 @@ fn value(words: &mut Words) -> Result<u32, Expected> {
     words.number("a value of 32 bits")
 }
 
-fn link_end(words: &mut Words) -> Result<LinkEnd, Expected> {
+/// `SLOT LINK`, or for people `hub.A`.
+pub fn link_end(words: &mut Words) -> Result<LinkEnd, Expected> {
     Ok(LinkEnd {
         slot: slot(words)?,
         link: link(words)?,
@@ -132,18 +174,18 @@ fn link_end(words: &mut Words) -> Result<LinkEnd, Expected> {
 }
 
 fn kind(words: &mut Words) -> Result<Kind, Expected> {
-    words.meaning("data or control", |word| match word {
-        "data" => Some(Kind::Data),
-        "control" => Some(Kind::Control),
-        _ => None,
-    })
+    words.choice(&[("data", Kind::Data), ("control", Kind::Control)])
 }
+
+#[rustfmt::skip]
+const SETTINGS: [&str; 7] = [
+    "number", "width", "direction", "linkdirection", "network", "enable", "hello",
+];
 
 /// `SLOT SETTING INDEX VALUE`. "Index is 0 for number and width, value is 0 for hello".
 fn set(words: &mut Words) -> Result<Call, Expected> {
     let slot = slot(words)?;
-    let names = "number, width, direction, linkdirection, network, enable or hello";
-    let name = words.word(names)?;
+    let name = words.choice(&SETTINGS.map(|name| (name, name)))?;
     let setting = match name {
         "number" | "width" => {
             words.nought("the index")?;
@@ -157,13 +199,12 @@ fn set(words: &mut Words) -> Result<Call, Expected> {
             bit: words.number("a bit of 32 bits")?,
             value: value(words)?,
         },
-        "linkdirection" | "network" | "enable" => link_setting(name, words)?,
         "hello" => {
             let link = link(words)?;
             words.nought("the value")?;
             return Ok(Call::Hello { slot, link });
         }
-        other => return Err(expected(names, Some(other))),
+        _ => link_setting(name, words)?,
     };
     Ok(Call::Set { slot, setting })
 }
@@ -181,11 +222,7 @@ fn link_setting(name: &str, words: &mut Words) -> Result<Setting, Expected> {
 
 fn aim(words: &mut Words) -> Result<Call, Expected> {
     let (slot, channel_end) = (slot(words)?, channel_end(words)?);
-    let at_control = words.meaning("channel or control", |word| match word {
-        "channel" => Some(false),
-        "control" => Some(true),
-        _ => None,
-    })?;
+    let at_control = words.choice(&[("channel", false), ("control", true)])?;
     let number = words.number("a node number of 32 bits")?;
     let destination = if at_control {
         words.nought("the channel of a control unit")?;
@@ -211,11 +248,11 @@ fn output(words: &mut Words) -> Result<Call, Expected> {
     })
 }
 
-/// `SLOT PORT`, of one Step.
-fn record(words: &mut Words) -> Result<StepRecord, Expected> {
+/// `SLOT PORT`, of one Step; for people a link's letter stands for the port that it comes in by.
+pub fn record(words: &mut Words) -> Result<StepRecord, Expected> {
     Ok(StepRecord {
         slot: slot(words)?,
-        port: words.number("a port")?,
+        port: lettered(words, "a port")?,
     })
 }
 
@@ -230,49 +267,60 @@ fn steps(words: &mut Words) -> Result<Call, Expected> {
 }
 
 /// `ANSWER # DIGEST`, "the digest is 16 hexadecimal digits".
-fn read_outcome(text: &str) -> Result<Outcome, Expected> {
+fn read_outcome(line: &str, text: &str) -> Result<Outcome, Expected> {
     let Some((answer, digest)) = text.split_once('#') else {
-        return Err(expected("ANSWER # DIGEST behind ->", Some(text.trim())));
+        let words = Words::within(line, text.trim_start(), None);
+        return Err(words.unmet("ANSWER # DIGEST behind ->", Some(text.trim())));
     };
-    let answer = read_answer(answer)?;
+    let answer = read_answer(line, answer)?;
     let digest = digest.trim();
     let is_whole = digest.len() == 16 && digest.bytes().all(|digit| digit.is_ascii_hexdigit());
     match u64::from_str_radix(digest, 16) {
         Ok(digest) if is_whole => Ok(Outcome { answer, digest }),
-        _ => Err(expected("a digest of 16 hexadecimal digits", Some(digest))),
+        _ => {
+            let words = Words::within(line, digest, None);
+            Err(words.unmet("a digest of 16 hexadecimal digits", Some(digest)))
+        }
     }
 }
 
 /// The answer of one call: `results ANSWER; ANSWER; ..` of a list, also of one with no Steps.
-fn read_answer(text: &str) -> Result<Answer, Expected> {
+fn read_answer(line: &str, text: &str) -> Result<Answer, Expected> {
     let mut words = text.trim().splitn(2, char::is_whitespace);
     match (words.next(), words.next()) {
         (Some("results"), None) => Ok(Answer::Results(Vec::new())),
         (Some("results"), Some(answers)) => {
-            let answers = answers.split(';').map(read_stepped);
+            let answers = answers.split(';').map(|text| read_stepped(line, text));
             Ok(Answer::Results(answers.collect::<Result<_, _>>()?))
         }
-        _ => read_single(text),
+        _ => read_single(Words::within(line, text, None)),
     }
 }
 
 /// What the Step of one record answers.
-fn read_stepped(text: &str) -> Result<Answer, Expected> {
-    match read_single(text)? {
+fn read_stepped(line: &str, text: &str) -> Result<Answer, Expected> {
+    let words = Words::within(line, text, None);
+    match read_single(words)? {
         Answer::Done | Answer::Granted(_) | Answer::Token(_) => {
-            Err(expected("an answer of a Step", Some(text.trim())))
+            let words = Words::within(line, text.trim_start(), None);
+            Err(words.unmet("an answer of a Step", Some(text.trim())))
         }
         answer => Ok(answer),
     }
 }
 
 /// What one Step answers, or any other call but a list.
-fn read_single(text: &str) -> Result<Answer, Expected> {
-    let mut words = Words::of(text);
+fn read_single(mut words: Words) -> Result<Answer, Expected> {
     let answer = single(&mut words)?;
     words.end()?;
     Ok(answer)
 }
+
+#[rustfmt::skip]
+const ANSWERS: [&str; 12] = [
+    "no", "done", "granted", "token", "idle", "waiting", "moved", "opened", "refused", "dropped",
+    "malformed", "unheard",
+];
 
 fn single(words: &mut Words) -> Result<Answer, Expected> {
     let name = words.word("an answer")?;
@@ -291,26 +339,21 @@ fn single(words: &mut Words) -> Result<Answer, Expected> {
         "dropped" => Answer::Dropped(cause(words)?),
         "malformed" => Answer::Malformed,
         "unheard" => Answer::Unheard,
-        other => return Err(expected("an answer", Some(other))),
+        other => return Err(words.unmet_by("an answer", other, ANSWERS)),
     })
 }
 
 fn opening(words: &mut Words) -> Result<Opening, Expected> {
-    let what = "link, channel or control";
-    Ok(match words.word(what)? {
+    let names = ["link", "channel", "control"];
+    Ok(match words.choice(&names.map(|name| (name, name)))? {
         "link" => Opening::Link(words.number_for("a link 0..7", |link| {
             (link < bench::sizes::LINKS as u32).then_some(link as usize)
         })?),
         "channel" => Opening::Channel,
-        "control" => Opening::Control,
-        other => return Err(expected(what, Some(other))),
+        _ => Opening::Control,
     })
 }
 
 fn cause(words: &mut Words) -> Result<Cause, Expected> {
-    words.meaning("split or noroute", |word| match word {
-        "split" => Some(Cause::Split),
-        "noroute" => Some(Cause::NoRoute),
-        _ => None,
-    })
+    words.choice(&[("split", Cause::Split), ("noroute", Cause::NoRoute)])
 }

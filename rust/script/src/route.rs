@@ -123,13 +123,17 @@ fn got(looks: Looks, slot: usize, by: Option<u32>, number: u32) -> (String, bool
 }
 
 fn refused(looks: Looks, slot: usize, cause: Cause) -> String {
-    let why = match (cause, looks.node(slot).width) {
+    format!("{cause} at board {slot}, {}", why(looks, slot, cause))
+}
+
+/// Why a switch refuses a circuit.
+fn why(looks: Looks, slot: usize, cause: Cause) -> &'static str {
+    match (cause, looks.node(slot).width) {
         (Cause::NoRoute, _) => "no enabled link of that network leads there",
         (Cause::Split, 1) => "a header of three bytes, read at one byte",
         (Cause::Split, _) => "a header of one byte, read at three bytes",
         _ => "a cause of its own",
-    };
-    format!("{cause} at board {slot}, {why}")
+    }
 }
 
 fn queued(place: Place, ahead: usize) -> String {

@@ -1,44 +1,62 @@
-//! The words of a line, read from left to right. An error says what was expected and what stands
-//! there.
+//! The words of a line, read from left to right. An error says in which column, what was expected,
+//! what stands there, and which of the words that may stand there is nearest to it.
 
 use std::error::Error;
 use std::fmt;
-use std::str::SplitWhitespace;
+
+use crate::boards::Boards;
+use crate::nearest::nearest;
 
 /// What was expected, and what was found instead: `expected a link, found nothing`.
 #[derive(Clone, Debug, PartialEq, Eq)]
-pub struct Expected(String);
+pub struct Expected {
+    said: String,
+    column: usize,
+}
 
 impl Expected {
     /// The same, with how the whole is written.
     pub fn in_form(self, form: &str) -> Expected {
-        Expected(format!("{self} ({form})"))
+        let said = format!("{self} ({form})");
+        Expected { said, ..self }
+    }
+
+    /// Where in its line it was expected: the letter, counted from 1.
+    pub fn column(&self) -> usize {
+        self.column
     }
 }
 
 impl fmt::Display for Expected {
     fn fmt(&self, f: &mut fmt::Formatter<'_>) -> fmt::Result {
-        f.write_str(&self.0)
+        f.write_str(&self.said)
     }
 }
 
 impl Error for Expected {}
 
 /// Words that are still to be read.
-pub struct Words<'a>(SplitWhitespace<'a>);
+#[derive(Clone, Copy)]
+pub struct Words<'a> {
+    /// The line that they stand in.
+    line: &'a str,
+    /// Where the next one may begin, and where the last one ends, in bytes of the line.
+    next: usize,
+    end: usize,
+    /// Where the one begins that was read last.
+    last: usize,
+    /// In a script for people the boards that have names: a name may then stand for a slot and a
+    /// letter for a link, and a full stop parts words as a space does.
+    boards: Option<&'a Boards>,
+}
 
 /// So much of a word is shown: a file that is no script may have words as long as itself.
 const MOST_SHOWN: usize = 60;
 
-/// The complaint that another word was expected.
-pub fn expected(what: &str, found: Option<&str>) -> Expected {
-    let found = found.map_or("nothing".to_owned(), shown);
-    Expected(format!("expected {what}, found {found}"))
-}
-
 fn shown(word: &str) -> String {
     match word.char_indices().nth(MOST_SHOWN) {
         Some((end, _)) => printable(&word[..end]) + "..",
+        None if word.is_empty() => "nothing".to_owned(),
         None => printable(word),
     }
 }
@@ -55,7 +73,7 @@ pub fn printable(text: &str) -> String {
 }
 
 /// "Numbers are decimal, or hexadecimal with `0x`". No sign, no more than 64 bits.
-fn number_of(word: &str) -> Option<u64> {
+pub fn number_of(word: &str) -> Option<u64> {
     let (digits, radix) = match word.strip_prefix("0x") {
         Some(digits) => (digits, 16),
         None => (word, 10),
@@ -66,14 +84,108 @@ fn number_of(word: &str) -> Option<u64> {
     u64::from_str_radix(digits, radix).ok()
 }
 
+/// A list as a sentence has it: `data or control`.
+pub fn either(names: &[&str]) -> String {
+    match names {
+        [] => String::new(),
+        [only] => (*only).to_owned(),
+        [most @ .., last] => format!("{} or {last}", most.join(", ")),
+    }
+}
+
 impl<'a> Words<'a> {
+    /// The words of a plain text.
     pub fn of(text: &'a str) -> Words<'a> {
-        Words(text.split_whitespace())
+        Words::within(text, text, None)
+    }
+
+    /// The words of a part of a line, which must be a part of that very text.
+    pub fn within(line: &'a str, part: &'a str, boards: Option<&'a Boards>) -> Words<'a> {
+        let next = (part.as_ptr() as usize).saturating_sub(line.as_ptr() as usize);
+        Words {
+            line,
+            next,
+            end: next + part.len(),
+            last: next,
+            boards,
+        }
+    }
+
+    /// The names of boards that may stand for slots, where names may.
+    pub fn boards(&self) -> Option<&'a Boards> {
+        self.boards
+    }
+
+    /// Those that stand before this byte of the line, and those behind it.
+    pub fn parted(self, at: usize) -> (Words<'a>, Words<'a>) {
+        let before = Words { end: at, ..self };
+        let next = (at + 1).min(self.end);
+        let behind = Words {
+            next,
+            last: next,
+            ..self
+        };
+        (before, behind)
+    }
+
+    /// Takes the next word off, which ends at a space or at any of these letters.
+    fn take(&mut self, parted: impl Fn(char) -> bool) -> Option<&'a str> {
+        let rest = &self.line[self.next..self.end];
+        let word = rest.trim_start();
+        if word.is_empty() {
+            return None;
+        }
+        self.last = self.end - word.len();
+        let ends = |letter: char| letter.is_whitespace() || parted(letter);
+        let (length, parting) = match word.char_indices().find(|(_, letter)| ends(*letter)) {
+            Some((length, letter)) => (length, letter.len_utf8()),
+            None => (word.len(), 0),
+        };
+        self.next = self.last + length + parting;
+        Some(&word[..length])
     }
 
     /// The next word.
     pub fn word(&mut self, what: &str) -> Result<&'a str, Expected> {
-        self.0.next().ok_or_else(|| expected(what, None))
+        let dotted = self.boards.is_some();
+        let word = self.take(|letter| dotted && letter == '.');
+        word.ok_or_else(|| self.unmet(what, None))
+    }
+
+    /// The next word with the full stops in it.
+    pub fn whole_word(&mut self, what: &str) -> Result<&'a str, Expected> {
+        let word = self.take(|_| false);
+        word.ok_or_else(|| self.unmet(what, None))
+    }
+
+    /// The complaint that something else was expected than what was read last, or than nothing.
+    pub fn unmet(&self, what: &str, found: Option<&str>) -> Expected {
+        let place = match found {
+            Some(_) => self.last,
+            None => self.line[..self.end].trim_end().len(),
+        };
+        let found = found.map_or("nothing".to_owned(), shown);
+        Expected {
+            said: format!("expected {what}, found {found}"),
+            column: self.line[..place].chars().count() + 1,
+        }
+    }
+
+    /// The same, with the nearest of the words that may stand there.
+    pub fn unmet_by<'b>(
+        &self,
+        what: &str,
+        found: &str,
+        words: impl IntoIterator<Item = &'b str>,
+    ) -> Expected {
+        let unmet = self.unmet(what, Some(found));
+        match nearest(found, words) {
+            Some(meant) => Expected {
+                said: format!("{}, nearest is {meant}", unmet.said),
+                ..unmet
+            },
+            None => unmet,
+        }
     }
 
     /// The next word, where it has a meaning.
@@ -83,7 +195,23 @@ impl<'a> Words<'a> {
         of: impl FnOnce(&str) -> Option<T>,
     ) -> Result<T, Expected> {
         let word = self.word(what)?;
-        of(word).ok_or_else(|| expected(what, Some(word)))
+        of(word).ok_or_else(|| self.unmet(what, Some(word)))
+    }
+
+    /// The next word, which is to be one of these; what it stands for.
+    pub fn choice<T: Copy>(&mut self, choices: &[(&str, T)]) -> Result<T, Expected> {
+        let names: Vec<&str> = choices.iter().map(|(name, _)| *name).collect();
+        let what = either(&names);
+        let word = self.word(&what)?;
+        match choices.iter().find(|(name, _)| *name == word) {
+            Some((_, meant)) => Ok(*meant),
+            None => Err(self.unmet_by(&what, word, names)),
+        }
+    }
+
+    /// The next word, which is to be this one.
+    pub fn exactly(&mut self, name: &str) -> Result<(), Expected> {
+        self.choice(&[(name, ())])
     }
 
     /// A number that the call can take: one that fits the type of its argument.
@@ -108,14 +236,20 @@ impl<'a> Words<'a> {
 
     /// Whether another word follows.
     pub fn has_more(&self) -> bool {
-        self.0.clone().next().is_some()
+        !self.line[self.next..self.end].trim_start().is_empty()
+    }
+
+    /// The next word, which stays.
+    pub fn peek(&self) -> Option<&'a str> {
+        let mut ahead = *self;
+        ahead.word("").ok()
     }
 
     /// That there are no more words.
     pub fn end(&mut self) -> Result<(), Expected> {
-        match self.0.next() {
+        match self.take(|_| false) {
             None => Ok(()),
-            more => Err(expected("no more words", more)),
+            more => Err(self.unmet("no more words", more)),
         }
     }
 }

@@ -269,7 +269,7 @@ fn the_archive_answers_as_the_library_here() {
     let linked = linked(&tools, &room);
     let scripts = scripts_in("scripts")
         .into_iter()
-        .chain(scripts_in("../../examples"));
+        .chain(scripts_in("../../examples/traces"));
     let calls: usize = scripts
         .map(|script| same(&mut program(&tools, &emulator, &linked), &script, &room))
         .sum();

@@ -154,27 +154,28 @@ fn a_bad_line_is_named() {
     let cases = [
         (
             "output 0 0 data 256",
-            "expected a token value 0..255, found 256 (output SLOT",
+            "column 17: expected a token value 0..255, found 256 (output SLOT",
         ),
         (
             "jump 1",
-            "expected fresh, blank, wire, set, aim, output, input, step or steps, found jump",
+            "column 1: expected fresh, blank, wire, set, aim, output, input, step, steps, board, cable, \
+             route, link, send, message, receive or settle, found jump\n",
         ),
         (
             "wire 0 0 1",
-            "expected a link, found nothing (wire SLOT LINK SLOT LINK)",
+            "column 11: expected a link, a letter A..H or a number, found nothing (wire SLOT LINK SLOT LINK)",
         ),
         (
             "steps 2 0 8 1",
-            "expected a port, found nothing (steps RESULTS SLOT PORT SLOT PORT ..)",
+            "column 14: expected a port, a letter A..H or a number, found nothing (steps RESULTS SLOT PORT SLOT PORT ..)",
         ),
         (
             "input 0 0 text",
-            "expected data or control, found text (input SLOT",
+            "column 11: expected data or control, found text (input SLOT",
         ),
         (
             "fresh 1 832 -> done",
-            "expected ANSWER # DIGEST behind ->, found done",
+            "column 16: expected ANSWER # DIGEST behind ->, found done",
         ),
     ];
     for (line, expected) in cases {
@@ -183,7 +184,7 @@ fn a_bad_line_is_named() {
             let output = bench(&[verb, &path]);
             assert_eq!(output.status.code(), Some(2), "{line}");
             let complaint = text(&output.stderr);
-            let expected = format!("{path}: line 3: {expected}");
+            let expected = format!("{path}: line 3, {expected}");
             assert!(complaint.starts_with(&expected), "{complaint}");
             assert!(output.stdout.is_empty());
         }

@@ -272,7 +272,7 @@ fn what_cannot_be_compared() {
     let bad = script_file("jump\n");
     let cases = [
         (&none, "no network: no fresh or blank of it succeeds"),
-        (&bad, "line 1: expected fresh, "),
+        (&bad, "line 1, column 1: expected fresh, "),
         (&"no-such-file".to_owned(), "No such file"),
     ];
     for (other, expected) in cases {

@@ -22,10 +22,10 @@ fn all_of_it(script: &str) -> Result<usize, Box<dyn Error>> {
 #[test]
 fn each_goes_by_a_question_mark() {
     assert_eq!(all_of_it("fresh 1 832\n").ok(), Some(0));
-    let error = all_of_it("fresh 1\n").expect_err("a bad line");
+    let error = all_of_it("fresh 1 x\n").expect_err("a bad line");
     assert!(error
         .to_string()
-        .starts_with("line 1: expected a number of memory words"));
+        .starts_with("line 1, column 9: expected a number of memory words"));
     let fault = error.downcast_ref::<Fault>().expect("a fault");
     let bad = fault.source().expect("the line");
     assert_eq!(bad.to_string(), error.to_string());

@@ -58,13 +58,45 @@ fn the_examples_agree_and_say_what_they_show() {
         let output = bench(&["check", &path_of(&example)]);
         assert!(output.status.success(), "{}", text(&output.stderr));
         let script = std::fs::read_to_string(path_of(&example)).expect("a script");
-        let (head, rest) = script.split_once('\n').expect("lines");
-        assert_eq!(head, script::HEAD, "{example}");
-        assert!(rest.starts_with("// "), "{example}");
+        assert!(script.starts_with("// "), "{example}");
         assert!(
-            says_why(rest),
+            says_why(&script),
             "{example} says which start it needs, and why"
         );
+    }
+}
+
+/// The plain traces, which the model and the archive are held to as well: what `run` prints of the
+/// examples, and what `check` agrees with.
+#[test]
+fn the_traces_are_those_of_the_examples() {
+    for example in examples() {
+        hold_in(
+            "traces",
+            &format!("{example}.txt"),
+            &said(&example, "run", &[]).0,
+        );
+        let trace = folder().join(format!("traces/{example}.txt"));
+        let output = bench(&["check", trace.to_str().expect("a path")]);
+        let calls = std::fs::read_to_string(&trace).expect("a trace");
+        let calls = calls.lines().count() - 1;
+        assert_eq!(text(&output.stdout), format!("{calls} calls agree\n"));
+    }
+    assert_eq!(scripts_in("../../examples/traces").len(), examples().len());
+}
+
+/// What `expand` prints is a plain script: it runs to the same trace, and is what it expands to but
+/// for the lines of words that it has as comments.
+#[test]
+fn what_is_expanded_is_the_same_run() {
+    for example in examples() {
+        let (expanded, status) = said(&example, "expand", &[]);
+        assert_eq!(status, 0);
+        script::parse(&expanded).expect("plain calls");
+        let path = common::file(&format!("expanded-{example}.txt"), &expanded);
+        let trace = text(&bench(&["run", &path]).stdout);
+        assert_eq!(trace, said(&example, "run", &[]).0, "{example}");
+        assert_eq!(text(&bench(&["expand", &path]).stdout), expanded);
     }
 }
 
@@ -120,8 +152,9 @@ fn diffs(example: &str, others: &[&str]) -> String {
 }
 
 /// What is expected of an example, by the name that its file ends with.
-fn found(example: &str) -> [(&'static str, String); 5] {
+fn found(example: &str) -> [(&'static str, String); 6] {
     [
+        ("expanded", said(example, "expand", &[]).0),
         ("show", said(example, "show", &[]).0),
         ("routes", routes(example)),
         ("matrix", said(example, "matrix", &[]).0),
@@ -132,15 +165,19 @@ fn found(example: &str) -> [(&'static str, String); 5] {
 
 /// Holds what was found to a file, or, where REFRESH is set, writes the file.
 fn hold(name: &str, found: &str) {
-    let path = folder().join("expected").join(name);
+    hold_in("expected", name, found);
+}
+
+fn hold_in(part: &str, name: &str, found: &str) {
+    let path = folder().join(part).join(name);
     if std::env::var_os("REFRESH").is_some() {
         std::fs::write(&path, found).expect("a file to write");
     }
     let expected = std::fs::read_to_string(&path).unwrap_or_default();
     for (line, (one, other)) in (1..).zip(found.lines().zip(expected.lines())) {
-        assert_eq!(one, other, "examples/expected/{name}, line {line}");
+        assert_eq!(one, other, "examples/{part}/{name}, line {line}");
     }
-    assert_eq!(found, expected, "examples/expected/{name}");
+    assert_eq!(found, expected, "examples/{part}/{name}");
 }
 
 #[test]

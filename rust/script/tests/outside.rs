@@ -12,7 +12,7 @@ use common::{bench, file, text, unread};
 use script::source::MOST_BYTES;
 
 /// The verbs that read one file and nothing else.
-const VERBS: [&str; 5] = ["run", "check", "show", "matrix", "draw"];
+const VERBS: [&str; 6] = ["run", "check", "expand", "show", "matrix", "draw"];
 
 fn command() -> Command {
     Command::new(env!("CARGO_BIN_EXE_bench"))
@@ -134,7 +134,10 @@ fn a_folder() {
 fn a_file_that_is_no_script() {
     let path = file("no-script.txt", &"\u{1b}[2Jx".repeat(10_000));
     let output = bench(&["run", &path]);
-    assert_unread(&output, "no-script.txt: line 1: expected fresh, blank,");
+    assert_unread(
+        &output,
+        "no-script.txt: line 1, column 1: expected fresh, blank,",
+    );
     assert!(output.stderr.len() < 1000);
     assert!(!output.stderr.contains(&0x1b), "the cursor is not moved");
 }
@@ -199,6 +202,7 @@ fn nobody_reads() {
         (&["show", &path][..], 0),
         (&["draw", &path], 0),
         (&["check", &path], 0),
+        (&["expand", &path], 0),
         (&["matrix", &path], 1),
         (&["route", &path, "0", "1", "7"], 1),
         (&["--help"], 0),
@@ -223,7 +227,7 @@ fn nothing_can_be_written() {
             .open("/dev/full")
             .expect("a full device")
     };
-    for verb in ["run", "show"] {
+    for verb in ["run", "expand", "show"] {
         let output = command().args([verb, &path]).stdout(full()).output();
         assert_unread(&output.expect("an output"), "cannot write: ");
         let mut command = command();

@@ -216,7 +216,7 @@ const BAD_LINES: [(&str, &str); 46] = [
     ("aim 0 0 control 0 1 0", "expected 0 as the channel of a control unit, found 1 (aim SLOT"),
     ("aim 0 0 channel 0 4294967296 0", "expected a channel of 32 bits, found 4294967296 (aim SLOT"),
     ("output 0 0 data 256", "expected a token value 0..255, found 256 (output SLOT"),
-    ("output 0 0 date 25", "expected data or control, found date (output SLOT"),
+    ("output 0 0 date 25", "expected data or control, found date, nearest is data (output SLOT"),
     ("step 0 0 # 0000000000000000", "expected no more words, found # (step SLOT PORT)"),
     ("step 0 0 -> idle", "expected ANSWER # DIGEST behind ->, found idle"),
     ("step 0 0 -> idle # 12", "expected a digest of 16 hexadecimal digits, found 12"),
