@@ -36,6 +36,7 @@ pub mod route;
 mod settle;
 pub mod show;
 pub mod source;
+pub mod tell;
 mod waits;
 mod walk;
 mod ways;

@@ -2,7 +2,7 @@
 //! network is like that they leave.
 
 use std::ffi::OsString;
-use std::io::{self, ErrorKind, Write};
+use std::io::{self, ErrorKind, IsTerminal, Write};
 use std::path::{Path, PathBuf};
 use std::process::ExitCode;
 
@@ -10,11 +10,13 @@ use bench::Bench;
 use script::expand::Expanding;
 use script::matrix::{self, Matrix};
 use script::question::{read_door, Door, Question};
+use script::tell::{self, Colours, Telling};
 use script::{diff, draw, expand, people, route, show, source};
 use script::{Expected, Fault, Host, Made, Script, FORMS};
 
 const USAGE: &str = "\
-usage: bench run FILE
+usage: bench tell FILE
+       bench run FILE
        bench check FILE
        bench expand FILE
        bench show FILE
@@ -27,6 +29,7 @@ usage: bench run FILE
 const ABOUT: &str = "\
 bench: makes the calls of a script on the proved bench
 
+  bench tell FILE     makes the calls and tells the run in words
   bench run FILE      makes the calls and prints each with its answer and digest
   bench check FILE    makes the calls and compares with the answers and digests that FILE states;
                       names the first line that differs
@@ -142,6 +145,7 @@ fn obey(words: &[Word]) -> Ended {
     match texts[..] {
         ["--help" | "-h" | "help"] => print(&help()),
         [verb, "--help" | "-h"] | ["help", verb] => print(help_for(verb)?),
+        ["tell", _] => tell(file(1)),
         ["run", _] => run(file(1)),
         ["check", _] => check(file(1)),
         ["expand", _] => expand(file(1)),
@@ -170,6 +174,7 @@ fn help() -> String {
 
 fn help_for(verb: &str) -> Result<&'static str, Complaint> {
     match verb {
+        "tell" => Ok(tell::HELP),
         "run" => Ok(RUN),
         "check" => Ok(CHECK),
         "expand" => Ok(expand::HELP),
@@ -270,6 +275,24 @@ fn expand(file: &Path) -> Ended {
     let mut expanding = Expanding::to(io::BufWriter::new(io::stdout().lock()));
     let came_of_it = script::play(&script, &mut expanding);
     played(file, came_of_it, expanding.flush())
+}
+
+/// Colours are for a terminal, and for people who have not said NO_COLOR.
+fn colours() -> Colours {
+    let is_set = |name| std::env::var_os(name).is_some_and(|value| !value.is_empty());
+    match io::stdout().is_terminal() && !is_set("NO_COLOR") {
+        true => Colours::On,
+        false => Colours::Off,
+    }
+}
+
+fn tell(file: &Path) -> Ended {
+    let text = read(file)?;
+    let script = understood(file, &text)?;
+    let out = io::BufWriter::new(io::stdout().lock());
+    let mut telling = Telling::to(out, &script.boards, colours());
+    let came_of_it = script::play(&script, &mut telling);
+    played(file, came_of_it, telling.finish())
 }
 
 /// A copy of the network that a script leaves.

@@ -1,6 +1,6 @@
 //! How boards, links, ports and tokens are named to the shop's people.
 
-use bench::sizes::{LINKS, TILE_PORTS};
+use bench::sizes::{LINKS, PORTS, TILE_PORTS};
 use bench::{Destination, Kind, Looks, Peer, Token};
 
 use crate::facts::runs;
@@ -14,6 +14,14 @@ pub const LETTERS: [&str; LINKS] = ["A", "B", "C", "D", "E", "F", "G", "H"];
 /// The letter of a link: A..H.
 pub fn letter(link: usize) -> &'static str {
     LETTERS[link % LINKS]
+}
+
+/// A link that a call names, which may be one that is not there.
+pub fn link(link: usize) -> String {
+    match LETTERS.get(link) {
+        Some(letter) => format!("link {letter}"),
+        None => format!("link {link}"),
+    }
 }
 
 /// Links of a board together: `link E`, `links E F`.
@@ -43,8 +51,10 @@ pub fn port(port: usize) -> String {
         format!("port {port} (in by link {})", letter(port))
     } else if TILE_PORTS.contains(&port) {
         format!("port {port} (from the tile)")
-    } else {
+    } else if port + 1 == PORTS {
         format!("port {port} (replies)")
+    } else {
+        format!("port {port}")
     }
 }
 

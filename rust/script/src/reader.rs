@@ -37,6 +37,13 @@ pub enum Said {
     Words(Word),
 }
 
+impl Said {
+    /// Whether it is the word `settle`.
+    pub fn settles(&self) -> bool {
+        *self == Said::Words(Word::Settle)
+    }
+}
+
 /// Reads a script of either kind, or says what is wrong with the first line that is neither a call
 /// nor words. In a plain call of it a board's name may stand for a slot, and a link's letter for a
 /// link.

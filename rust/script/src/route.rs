@@ -127,7 +127,7 @@ fn refused(looks: Looks, slot: usize, cause: Cause) -> String {
 }
 
 /// Why a switch refuses a circuit.
-fn why(looks: Looks, slot: usize, cause: Cause) -> &'static str {
+pub(crate) fn why(looks: Looks, slot: usize, cause: Cause) -> &'static str {
     match (cause, looks.node(slot).width) {
         (Cause::NoRoute, _) => "no enabled link of that network leads there",
         (Cause::Split, 1) => "a header of three bytes, read at one byte",

@@ -401,9 +401,9 @@ fn what_is_no_question_is_named() {
             &["matrix", &path, "0", "x"],
             "expected a network of 32 bits, found x",
         ),
-        (&["matrix", "--csv"], "usage: bench run FILE"),
-        (&["draw", &path, "x"], "usage: bench run FILE"),
-        (&["diff", &path], "usage: bench run FILE"),
+        (&["matrix", "--csv"], "usage: bench tell FILE"),
+        (&["draw", &path, "x"], "usage: bench tell FILE"),
+        (&["diff", &path], "usage: bench tell FILE"),
         (
             &["diff", &path, &path, "x"],
             "expected a channel of 32 bits, or control, found x",
@@ -412,7 +412,7 @@ fn what_is_no_question_is_named() {
             &["diff", &path, &path, "0", "0", "0"],
             "expected no more words, found 0",
         ),
-        (&["help", "dance"], "usage: bench run FILE"),
+        (&["help", "dance"], "usage: bench tell FILE"),
     ];
     for (words, expected) in cases {
         let output = bench(words);

@@ -294,7 +294,7 @@ fn other_words() {
     for words in [&[][..], &["dance"], &["run"], &["run", "a", "b"]] {
         let output = bench(words);
         assert_eq!(output.status.code(), Some(2), "{words:?}");
-        assert!(text(&output.stderr).starts_with("usage: bench run FILE"));
+        assert!(text(&output.stderr).starts_with("usage: bench tell FILE"));
     }
     let missing = bench(&["run", "no-such-file"]);
     assert_eq!(missing.status.code(), Some(2));

@@ -152,8 +152,9 @@ fn diffs(example: &str, others: &[&str]) -> String {
 }
 
 /// What is expected of an example, by the name that its file ends with.
-fn found(example: &str) -> [(&'static str, String); 6] {
+fn found(example: &str) -> [(&'static str, String); 7] {
     [
+        ("told", said(example, "tell", &[]).0),
         ("expanded", said(example, "expand", &[]).0),
         ("show", said(example, "show", &[]).0),
         ("routes", routes(example)),

@@ -12,7 +12,7 @@ use common::{bench, file, text, unread};
 use script::source::MOST_BYTES;
 
 /// The verbs that read one file and nothing else.
-const VERBS: [&str; 6] = ["run", "check", "expand", "show", "matrix", "draw"];
+const VERBS: [&str; 7] = ["run", "check", "expand", "tell", "show", "matrix", "draw"];
 
 fn command() -> Command {
     Command::new(env!("CARGO_BIN_EXE_bench"))
@@ -48,7 +48,7 @@ mod no_text {
         for given in [&[word][..], &[word, word], &[text("help"), word]] {
             let output = words(given);
             assert_eq!(output.status.code(), Some(2));
-            assert!(output.stderr.starts_with(b"usage: bench run FILE"));
+            assert!(output.stderr.starts_with(b"usage: bench tell FILE"));
         }
         let route = [text("route"), text(&path), text("0"), word, text("7")];
         for given in [&route[..], &[text("matrix"), text(&path), word]] {
@@ -203,6 +203,7 @@ fn nobody_reads() {
         (&["draw", &path], 0),
         (&["check", &path], 0),
         (&["expand", &path], 0),
+        (&["tell", &path], 0),
         (&["matrix", &path], 1),
         (&["route", &path, "0", "1", "7"], 1),
         (&["--help"], 0),
@@ -227,7 +228,7 @@ fn nothing_can_be_written() {
             .open("/dev/full")
             .expect("a full device")
     };
-    for verb in ["run", "expand", "show"] {
+    for verb in ["run", "expand", "tell", "show"] {
         let output = command().args([verb, &path]).stdout(full()).output();
         assert_unread(&output.expect("an output"), "cannot write: ");
         let mut command = command();

@@ -276,7 +276,7 @@ fn what_is_received_is_held() {
         ),
     ] {
         let path = script_file(&format!("{sent}\n{line}\nboard 0 number 1\n"));
-        for verb in ["run", "check", "expand", "show", "draw", "matrix"] {
+        for verb in ["run", "check", "expand", "tell", "show", "draw", "matrix"] {
             let output = bench(&[verb, &path]);
             assert_eq!(output.status.code(), Some(1), "{verb} {line}");
             assert_eq!(text(&output.stderr), format!("{path}: line 4: {said}\n"));
