@@ -94,7 +94,8 @@ pub fn port_facts(looks: Looks, slot: usize, index: usize) -> Vec<String> {
     circuit.into_iter().chain(holds).collect()
 }
 
-fn circuit(hop: Hop) -> String {
+/// Where a port's circuit goes.
+pub fn circuit(hop: Hop) -> String {
     match hop {
         Hop::Link(link) => format!("circuit out by link {}", letter(link as usize)),
         Hop::Channel(end) => format!("circuit to {}", channel(end)),
@@ -132,6 +133,13 @@ pub fn aim(looks: Looks, slot: usize, end: usize) -> Option<String> {
 
 /// A channel-end's open circuit, who claims it, and what it holds.
 pub fn end_facts(looks: Looks, slot: usize, end: usize) -> Vec<String> {
+    let mut facts = end_circuits(looks, slot, end);
+    facts.extend(holding(looks.end_tokens(slot, end)));
+    facts
+}
+
+/// A channel-end's open circuit, and who claims it.
+pub fn end_circuits(looks: Looks, slot: usize, end: usize) -> Vec<String> {
     let seen = looks.channel_end(slot, end);
     let sends = seen.sending.peer().map(|by| match by {
         Peer::Port(index) => format!("sends by {}", port(index as usize)),
@@ -141,8 +149,7 @@ pub fn end_facts(looks: Looks, slot: usize, end: usize) -> Vec<String> {
         .claim
         .peer()
         .map(|by| format!("claimed by {}", peer(by)));
-    let holds = holding(looks.end_tokens(slot, end));
-    [sends, claimed, holds].into_iter().flatten().collect()
+    [sends, claimed].into_iter().flatten().collect()
 }
 
 /// What a control unit does, where it serves a circuit.

@@ -26,6 +26,7 @@ mod host;
 pub mod matrix;
 mod names;
 mod nearest;
+pub mod page;
 mod parse;
 pub mod people;
 mod play;

@@ -9,9 +9,10 @@ use std::process::ExitCode;
 use bench::Bench;
 use script::expand::Expanding;
 use script::matrix::{self, Matrix};
+use script::page::Recording;
 use script::question::{read_door, Door, Question};
 use script::tell::{self, Colours, Telling};
-use script::{diff, draw, expand, people, route, show, source};
+use script::{diff, draw, expand, page, people, route, show, source};
 use script::{Expected, Fault, Host, Made, Script, FORMS};
 
 const USAGE: &str = "\
@@ -23,6 +24,7 @@ usage: bench tell FILE
        bench route FILE SLOT NUMBER CHANNEL [NETWORK]
        bench matrix [--csv] FILE [CHANNEL [NETWORK]]
        bench draw FILE
+       bench page FILE
        bench diff BEFORE AFTER [CHANNEL [NETWORK]]
        bench help [VERB]";
 
@@ -40,6 +42,7 @@ bench: makes the calls of a script on the proved bench
   bench matrix [--csv] FILE [CHANNEL [NETWORK]]
                       sends an END from every board to every board's number
   bench draw FILE     prints the network as Graphviz DOT
+  bench page FILE     prints the run as a page for a browser, to be gone through call by call
   bench diff BEFORE AFTER [CHANNEL [NETWORK]]
                       prints what differs between the networks that two scripts leave
   bench --help        prints this; bench VERB --help, or bench help VERB, says more of a verb
@@ -153,6 +156,7 @@ fn obey(words: &[Word]) -> Ended {
         ["route", _, ref question @ ..] => follow(file(1), question),
         ["matrix", ..] => ask_all(&words[1..]),
         ["draw", _] => print(&draw::draw(&network(file(1))?)),
+        ["page", _] => page(file(1)),
         ["diff", _, _, ref door @ ..] => compare(file(1), file(2), door),
         _ => Err(complaint(USAGE.to_owned())),
     }
@@ -182,6 +186,7 @@ fn help_for(verb: &str) -> Result<&'static str, Complaint> {
         "route" => Ok(route::HELP),
         "matrix" => Ok(matrix::HELP),
         "draw" => Ok(draw::HELP),
+        "page" => Ok(page::HELP),
         "diff" => Ok(diff::HELP),
         _ => Err(complaint(USAGE.to_owned())),
     }
@@ -293,6 +298,22 @@ fn tell(file: &Path) -> Ended {
     let mut telling = Telling::to(out, &script.boards, colours());
     let came_of_it = script::play(&script, &mut telling);
     played(file, came_of_it, telling.finish())
+}
+
+/// The page is printed also where the run ended before its end: that is what one wants to see.
+fn page(file: &Path) -> Ended {
+    let text = read(file)?;
+    let script = understood(file, &text)?;
+    let mut recording = Recording::of(&script.boards);
+    let came_of_it = script::play(&script, &mut recording);
+    let left = came_of_it.as_ref().ok().map(Host::copy);
+    let left = left.filter(|bench| bench.looks().nodes() > 0);
+    let name = source::name(file);
+    let printed = print(&page::page(&name, &script.boards, recording, left.as_ref()));
+    match came_of_it {
+        Err(fault) => Err(faulty(file, fault)),
+        Ok(_) => printed,
+    }
 }
 
 /// A copy of the network that a script leaves.

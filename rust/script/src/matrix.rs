@@ -76,6 +76,17 @@ impl Matrix<'_> {
         arrived.count()
     }
 
+    /// What came of what a board sent, by who is meant.
+    pub(crate) fn outcomes(&self, from: usize) -> impl Iterator<Item = &str> {
+        let sent = self.pairs.iter().filter(move |pair| pair.from == from);
+        sent.map(|pair| pair.outcome.as_str())
+    }
+
+    /// How many arrived.
+    pub(crate) fn summary(&self) -> String {
+        format!("{} of {} arrived", self.arrived(), self.pairs.len())
+    }
+
     fn number(&self, slot: usize) -> String {
         self.looks.node(slot).number.to_string()
     }
@@ -103,8 +114,7 @@ impl Matrix<'_> {
             let name = format!("from board {from}, number {}", self.number(from));
             rows.push(row(&name, sent.iter().map(|pair| pair.outcome.clone())));
         }
-        let (arrived, all) = (self.arrived(), self.pairs.len());
-        aligned(&rows) + &format!("{arrived} of {all} arrived\n")
+        format!("{}{}\n", aligned(&rows), self.summary())
     }
 }
 

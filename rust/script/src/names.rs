@@ -110,6 +110,24 @@ pub fn tokens(words: impl Iterator<Item = u32>) -> String {
     text
 }
 
+/// Tokens one by one, with their kind: `h` of a header, whose bytes stand together, `d` data, `c`
+/// control.
+pub fn chips(words: impl Iterator<Item = u32>) -> Vec<(&'static str, String)> {
+    let mut chips: Vec<(&str, String)> = Vec::new();
+    for token in words.filter_map(Token::from_word) {
+        let kind = match (token.header, token.kind) {
+            (Some(_), _) => "h",
+            (None, Kind::Data) => "d",
+            (None, Kind::Control) => "c",
+        };
+        match chips.last_mut() {
+            Some(("h", bytes)) if kind == "h" => *bytes += &format!(".{}", token_word(token)),
+            _ => chips.push((kind, token_word(token))),
+        }
+    }
+    chips
+}
+
 fn token_word(token: Token) -> String {
     match (token.header, token.kind) {
         (Some(_), _) => format!("{:02X}", token.value),

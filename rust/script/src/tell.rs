@@ -265,6 +265,23 @@ impl<'a, W: Write> Telling<'a, W> {
     }
 }
 
+impl Telling<'_, Vec<u8>> {
+    /// Whether the line under way expects to receive nothing.
+    pub(crate) fn expects_nothing(&self) -> bool {
+        self.expects_nothing
+    }
+
+    /// What was told since this was last asked, as one line, however much there is to tell.
+    pub(crate) fn drain(&mut self) -> io::Result<String> {
+        self.room = None;
+        self.tell_all()?;
+        let text = String::from_utf8_lossy(&self.out).into_owned();
+        self.out.clear();
+        let lines: Vec<&str> = text.lines().map(str::trim).collect();
+        Ok(lines.join("; "))
+    }
+}
+
 /// A setting that was made.
 fn set(setting: Setting) -> Fact {
     Fact::Said(match setting {

@@ -6,12 +6,11 @@ mod common;
 
 use std::env::consts::ARCH;
 use std::fs::{self, File};
-use std::io::Write;
 use std::path::{Path, PathBuf};
 use std::process::Command;
 
 use bench::{Destination, Kind, Looks, Setting, StepRecord};
-use common::scripts_in;
+use common::{left_out, scripts_in};
 use script::{Answer, Call, Host};
 
 /// The five numbers of a call, or those of a list, and the function that it is.
@@ -243,14 +242,6 @@ fn same(command: &mut Command, script: &Path, room: &Path) -> usize {
     }
     assert!(written.0.is_empty());
     lines.len()
-}
-
-/// Says it past the test's own output, which the harness keeps to itself: the gate shows it.
-fn left_out(what: &str) {
-    let line = format!("\nleft out: {what}\n");
-    std::io::stderr()
-        .write_all(line.as_bytes())
-        .expect("a line");
 }
 
 #[test]

@@ -11,7 +11,7 @@ mod common;
 
 use std::collections::BTreeSet;
 use std::path::{Path, PathBuf};
-use std::process::Command;
+use std::process::{Command, Output};
 
 use common::{bench, scripts_in, text};
 
@@ -35,6 +35,9 @@ const DIFFS: [(&str, &[&str]); 3] = [
     ("head-before", &["half-update", "head-after", "head-before"]),
     ("pipeline", &["ring"]),
 ];
+
+/// Of these the data of the page are held.
+const PAGES: [&str; 2] = ["half-update", "update-message"];
 
 fn folder() -> PathBuf {
     Path::new(env!("CARGO_MANIFEST_DIR")).join("../../examples")
@@ -135,14 +138,29 @@ fn routes(example: &str) -> String {
     answers.collect::<Vec<_>>().join("\n")
 }
 
+/// A verb as it is typed in the folder of the examples.
+fn typed_there(verb: &str, examples: &[&str]) -> (Vec<String>, Output) {
+    let files = examples.iter().map(|name| format!("{name}.txt"));
+    let files: Vec<String> = files.collect();
+    let mut command = Command::new(env!("CARGO_BIN_EXE_bench"));
+    let output = command.arg(verb).args(&files).current_dir(folder());
+    let output = output.output().expect("an output");
+    assert_eq!(text(&output.stderr), "", "{files:?}");
+    (files, output)
+}
+
+/// The data of an example's page: all that is not the same on every page, but the matrix.
+fn page_data(example: &str) -> String {
+    let page = text(&typed_there("page", &[example]).1.stdout);
+    let (_, data) = page.split_once(" id=\"data\">\n").expect("data");
+    let (data, _) = data.split_once("</script>").expect("their end");
+    data.to_owned()
+}
+
 /// Each comparison as it is typed in the folder of the examples, what is said and the exit status.
 fn diffs(example: &str, others: &[&str]) -> String {
     let said = others.iter().map(|other| {
-        let mut command = Command::new(env!("CARGO_BIN_EXE_bench"));
-        let files = [example, *other].map(|name| format!("{name}.txt"));
-        let output = command.arg("diff").args(&files).current_dir(folder());
-        let output = output.output().expect("an output");
-        assert_eq!(text(&output.stderr), "", "{files:?}");
+        let (files, output) = typed_there("diff", &[example, *other]);
         let (said, status) = (text(&output.stdout), output.status.code());
         let asked = files.join(" ");
         let status = status.expect("a status");
@@ -194,6 +212,11 @@ fn each_verb_prints_what_is_expected() {
     for (example, others) in DIFFS {
         let name = format!("{example}.diffs");
         hold(&name, &diffs(example, others));
+        names.insert(name);
+    }
+    for example in PAGES {
+        let name = format!("{example}.page");
+        hold(&name, &page_data(example));
         names.insert(name);
     }
     let entries = std::fs::read_dir(folder().join("expected")).expect("the folder expected");

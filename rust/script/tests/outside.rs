@@ -12,7 +12,8 @@ use common::{bench, file, text, unread};
 use script::source::MOST_BYTES;
 
 /// The verbs that read one file and nothing else.
-const VERBS: [&str; 7] = ["run", "check", "expand", "tell", "show", "matrix", "draw"];
+#[rustfmt::skip]
+const VERBS: [&str; 8] = ["run", "check", "expand", "tell", "show", "matrix", "draw", "page"];
 
 fn command() -> Command {
     Command::new(env!("CARGO_BIN_EXE_bench"))
@@ -204,6 +205,7 @@ fn nobody_reads() {
         (&["check", &path], 0),
         (&["expand", &path], 0),
         (&["tell", &path], 0),
+        (&["page", &path], 0),
         (&["matrix", &path], 1),
         (&["route", &path, "0", "1", "7"], 1),
         (&["--help"], 0),

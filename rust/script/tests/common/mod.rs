@@ -3,6 +3,9 @@
 // Each file of tests uses some of these and not others.
 #![allow(dead_code)]
 
+pub mod json;
+
+use std::io::Write;
 use std::path::{Path, PathBuf};
 use std::process::{Command, Output, Stdio};
 
@@ -42,4 +45,12 @@ pub fn unread() -> Stdio {
     let pipe = gone.stdin.take().expect("a pipe");
     gone.wait().expect("its end");
     pipe.into()
+}
+
+/// Says it past the test's own output, which the harness keeps to itself: the gate shows it.
+pub fn left_out(what: &str) {
+    let line = format!("\nleft out: {what}\n");
+    std::io::stderr()
+        .write_all(line.as_bytes())
+        .expect("a line");
 }
