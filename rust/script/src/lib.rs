@@ -22,6 +22,7 @@ pub mod diff;
 pub mod draw;
 pub mod expand;
 mod facts;
+pub mod help;
 mod host;
 pub mod matrix;
 mod names;

@@ -8,97 +8,13 @@ use std::process::ExitCode;
 
 use bench::Bench;
 use script::expand::Expanding;
-use script::matrix::{self, Matrix};
+use script::help::{self, Verb};
+use script::matrix::Matrix;
 use script::page::Recording;
 use script::question::{read_door, Door, Question};
-use script::tell::{self, Colours, Telling};
-use script::{diff, draw, expand, page, people, route, show, source};
-use script::{Expected, Fault, Host, Made, Script, FORMS};
-
-const USAGE: &str = "\
-usage: bench tell FILE
-       bench run FILE
-       bench check FILE
-       bench expand FILE
-       bench show FILE
-       bench route FILE SLOT NUMBER CHANNEL [NETWORK]
-       bench matrix [--csv] FILE [CHANNEL [NETWORK]]
-       bench draw FILE
-       bench page FILE
-       bench diff BEFORE AFTER [CHANNEL [NETWORK]]
-       bench help [VERB]";
-
-const ABOUT: &str = "\
-bench: makes the calls of a script on the proved bench
-
-  bench tell FILE     makes the calls and tells the run in words
-  bench run FILE      makes the calls and prints each with its answer and digest
-  bench check FILE    makes the calls and compares with the answers and digests that FILE states;
-                      names the first line that differs
-  bench expand FILE   makes the calls and prints them plainly, words for people as what they stand for
-  bench show FILE     makes the calls and prints the state that they leave, in words
-  bench route FILE SLOT NUMBER CHANNEL [NETWORK]
-                      sends an END from a board and prints each switch on its way
-  bench matrix [--csv] FILE [CHANNEL [NETWORK]]
-                      sends an END from every board to every board's number
-  bench draw FILE     prints the network as Graphviz DOT
-  bench page FILE     prints the run as a page for a browser, to be gone through call by call
-  bench diff BEFORE AFTER [CHANNEL [NETWORK]]
-                      prints what differs between the networks that two scripts leave
-  bench --help        prints this; bench VERB --help, or bench help VERB, says more of a verb
-
-Every FILE is a script: words for people, plain calls, or both. Empty lines and lines that begin with //
-are passed over. Numbers are decimal, or hexadecimal with 0x. It is text in UTF-8 of at most 64 MiB.
-
-Words for people, of which bench expand --help says what each stands for:
-
-";
-
-const PLAIN: &str = "
-Plain calls, one a line, CALL, or with what came of it, CALL -> ANSWER # DIGEST:
-
-";
-
-const ARGUMENTS: &str = "
-fresh makes boards as the boot ROM leaves them, links E..H enabled and A..D disabled; blank makes
-them with every link disabled. A script begins with either, and a later one makes the network anew.
-MEMORY_WORDS is 832 for each board.
-
-SETTING INDEX VALUE is number 0 VALUE, width 0 VALUE, direction BIT VALUE, linkdirection LINK VALUE,
-network LINK VALUE, enable LINK VALUE or hello LINK 0.
-
-steps makes a list of Steps at once, as if they were made one by one. RESULTS is how many results
-there is room for. The answer is no 2 where that is not how many Steps there are; else it is results
-and what each Step answered, parted by ;.
-
-Exit status: 0 all calls made, and all that is stated agrees; 1 a line differs, or something else was
-received than it expects; 2 a line that is no call, or a file that cannot be read. Where nobody reads what is printed to its end, as behind head, a
-verb ends without a complaint.
-";
-
-const ANSWERS: &str = "
-route and matrix end with 0 where all arrived and with 1 where something did not; diff with 0 where the
-networks are the same and with 1 where something differs.
-";
-
-const RUN: &str = "\
-bench run FILE: makes the calls of FILE and prints each with its answer and the digest of the state
-
-What is printed is a plain script. Where a memory is unsound, standard error says what fails.
-
-Exit status: 0 all calls made, or as many as were read before the reader went away; 1 something else
-was received than a line for people expects, and the line is named; 2 the script was not run to its end.
-";
-
-const CHECK: &str = "\
-bench check FILE: makes the calls of FILE and compares with the answers and digests that it states
-
-A call whose line states nothing is made and not compared; what a line for people is to receive is. How
-many agree is printed.
-
-Exit status: 0 all that is stated agrees; 1 a line differs, and is named; 2 the script was not run to
-its end.
-";
+use script::tell::{Colours, Telling};
+use script::{diff, draw, page, route, show, source};
+use script::{Expected, Fault, Host, Made, Script};
 
 /// Why a verb did not come to its end, with the exit status that this has.
 struct Complaint {
@@ -146,8 +62,13 @@ fn obey(words: &[Word]) -> Ended {
     let texts: Vec<&str> = words.iter().map(|word| word.text.as_str()).collect();
     let file = |at: usize| words[at].path.as_path();
     match texts[..] {
-        ["--help" | "-h" | "help"] => print(&help()),
-        [verb, "--help" | "-h"] | ["help", verb] => print(help_for(verb)?),
+        ["--help" | "-h" | "help"] => print(&help::help()),
+        [verb, "--help" | "-h"] | ["help", verb] => match Verb::named(verb) {
+            Some(verb) => print(verb.help),
+            None => Err(complaint(help::usage_for(verb))),
+        },
+        ["completion"] => print(&help::completion()),
+        ["manual"] => print(&help::manual()),
         ["tell", _] => tell(file(1)),
         ["run", _] => run(file(1)),
         ["check", _] => check(file(1)),
@@ -158,38 +79,13 @@ fn obey(words: &[Word]) -> Ended {
         ["draw", _] => print(&draw::draw(&network(file(1))?)),
         ["page", _] => page(file(1)),
         ["diff", _, _, ref door @ ..] => compare(file(1), file(2), door),
-        _ => Err(complaint(USAGE.to_owned())),
+        [verb, ..] => Err(complaint(help::usage_for(verb))),
+        [] => Err(complaint(help::usage())),
     }
 }
 
 fn complaint(text: String) -> Complaint {
     Complaint { status: 2, text }
-}
-
-fn help() -> String {
-    let listed = |forms: &[(&str, &str)]| {
-        let forms = forms.iter().flat_map(|(_, forms)| forms.split(", or "));
-        forms.map(|form| format!("  {form}\n")).collect::<String>()
-    };
-    let words = listed(&people::FORMS);
-    let calls = listed(&FORMS);
-    format!("{ABOUT}{words}{PLAIN}{calls}{ARGUMENTS}{ANSWERS}")
-}
-
-fn help_for(verb: &str) -> Result<&'static str, Complaint> {
-    match verb {
-        "tell" => Ok(tell::HELP),
-        "run" => Ok(RUN),
-        "check" => Ok(CHECK),
-        "expand" => Ok(expand::HELP),
-        "show" => Ok(show::HELP),
-        "route" => Ok(route::HELP),
-        "matrix" => Ok(matrix::HELP),
-        "draw" => Ok(draw::HELP),
-        "page" => Ok(page::HELP),
-        "diff" => Ok(diff::HELP),
-        _ => Err(complaint(USAGE.to_owned())),
-    }
 }
 
 fn print(text: &str) -> Ended {
@@ -335,7 +231,7 @@ fn network(file: &Path) -> Result<Bench, Complaint> {
 
 /// What was asked is not a question.
 fn unasked(expected: Expected) -> Complaint {
-    complaint(format!("{expected}\n{USAGE}"))
+    complaint(format!("{expected}\n{}", help::usage()))
 }
 
 fn follow(file: &Path, question: &[&str]) -> Ended {
@@ -370,7 +266,7 @@ fn ask_all(words: &[Word]) -> Ended {
     let (options, words): (Vec<&Word>, Vec<&Word>) =
         words.iter().partition(|word| word.text == "--csv");
     let Some((file, door)) = words.split_first() else {
-        return Err(complaint(USAGE.to_owned()));
+        return Err(complaint(help::usage()));
     };
     let door: Vec<&str> = door.iter().map(|word| word.text.as_str()).collect();
     let (door, network_number) = door_or_first(&door)?;
