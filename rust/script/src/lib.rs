@@ -1,10 +1,13 @@
-//! The script and trace format: runs of calls as plain text, made on the proved bench.
+//! The script and trace format: runs of calls as plain text, made on the proved bench; words for
+//! people above it; and the command `bench`.
 //!
-//! One call a line, `CALL`, or with what came of it, `CALL -> ANSWER # DIGEST`. Empty lines and
-//! lines that begin with `//` are passed over. Numbers are decimal, or hexadecimal with `0x`.
-//! [`FORMS`] lists the calls. The command `bench` runs and checks scripts, and says what the network
-//! is like that a script leaves: in words ([`show`]), by an END that is sent on a copy ([`route`],
-//! [`matrix`]), as a picture ([`draw`]) and beside another one ([`diff`]). This is what it is made of.
+//! A plain script has one call a line, `CALL`, or with what came of it, `CALL -> ANSWER # DIGEST`. Empty
+//! lines and lines that begin with `//` are passed over. Numbers are decimal, or hexadecimal with `0x`.
+//! [`FORMS`] lists the calls, [`people::FORMS`] the words for people, which stand for calls ([`expand`]).
+//! The command `bench` runs and checks scripts of either kind, tells a run in words ([`tell`]) and makes a
+//! page of it ([`page`]), and says what the network is like that a script leaves: in words ([`show`]), by
+//! an END that is sent on a copy ([`route`], [`matrix`]), as a picture ([`draw`]) and beside another one
+//! ([`diff`]). This is what it is made of.
 //!
 //! ```
 //! let mut lines = Vec::new();
@@ -13,6 +16,10 @@
 //! assert_eq!(lines[1], "wire 0 0 1 0 -> done # 33724902fd8ca3bc");
 //! assert!(lines[2].starts_with("wire 0 0 1 0 -> no 4 # "));
 //! assert_eq!(script::check(&lines.join("\n"), |_| Ok(())).unwrap(), 3);
+//!
+//! let script = "fresh 2\nboard hub 0\nboard lane 1 number 1\ncable hub.E lane.E\n\
+//!               send hub.0 to lane.7: 12 END\nsettle\nreceive lane.7: 12 END\n";
+//! assert_eq!(script::check(script, |_| Ok(())).unwrap(), 2);
 //! ```
 
 mod answer;

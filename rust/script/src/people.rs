@@ -6,7 +6,7 @@
 
 mod reading;
 
-use bench::{raw, Destination, Kind, LinkEnd, Looks, Refusal, Setting};
+use bench::{raw, Destination, Kind, LinkEnd, Looks, Refusal, Setting, StepRecord};
 
 use crate::answer::Answer;
 use crate::call::Call;
@@ -80,6 +80,14 @@ pub enum Request {
 pub enum Word {
     /// These calls, whatever the network is like.
     Calls(Vec<Call>),
+    /// Direction entries of a board, from a bit to a bit.
+    Route {
+        slot: usize,
+        bits: (u32, u32),
+        direction: u32,
+    },
+    /// So many Steps of a port.
+    Steps { record: StepRecord, count: usize },
     /// A board's settings; a name for it, where this line gives it one.
     Board {
         name: Option<String>,
@@ -101,8 +109,8 @@ pub enum Word {
         network: u32,
         request: Request,
     },
-    /// Inputs, each with what it must answer.
-    Receive(Vec<(Call, Answer)>),
+    /// Inputs, and what they must answer: these tokens, or that nothing is held.
+    Receive { end: End, tokens: Option<Vec<Put>> },
     /// Rounds of Steps, until nothing changes.
     Settle,
 }
@@ -110,8 +118,7 @@ pub enum Word {
 impl Word {
     /// Whether a channel-end is to hold nothing.
     pub fn expects_nothing(&self) -> bool {
-        let nothing = Answer::No(Refusal::Empty);
-        matches!(self, Word::Receive(inputs) if inputs.iter().all(|(_, wanted)| *wanted == nothing))
+        matches!(self, Word::Receive { tokens: None, .. })
     }
 }
 
@@ -158,6 +165,32 @@ impl Whose {
             Whose::Board(slot) => looks.node(slot).number,
             Whose::Number(number) => number,
         }
+    }
+}
+
+/// The entries of these bits.
+pub fn route(slot: usize, bits: (u32, u32), value: u32) -> Vec<Call> {
+    let set = |bit| Call::Set {
+        slot,
+        setting: Setting::Direction { bit, value },
+    };
+    (bits.0..=bits.1).map(set).collect()
+}
+
+/// An Input for each token, and what it must answer.
+pub fn receive(end: End, tokens: Option<&[Put]>) -> Vec<(Call, Answer)> {
+    let input = |kind| Call::Input {
+        slot: end.slot,
+        channel_end: end.channel_end,
+        kind,
+    };
+    match tokens {
+        Some(tokens) => {
+            let taken = tokens.iter();
+            let taken = taken.map(|put| (input(put.kind), Answer::Token(put.value)));
+            taken.collect()
+        }
+        None => vec![(input(Kind::Data), Answer::No(Refusal::Empty))],
     }
 }
 

@@ -3,6 +3,8 @@
 use std::fmt;
 use std::io;
 
+use bench::StepRecord;
+
 use crate::answer::Answer;
 use crate::call::Call;
 use crate::host::{Host, Made, Outcome};
@@ -157,13 +159,13 @@ impl<'w, W: Watch> Playing<'w, W> {
     }
 
     fn all(&mut self, script: &Script) -> Result<(), Fault> {
-        for entry in &script.entries {
-            self.watch.entry(entry).map_err(Fault::Untold)?;
-            match &entry.said {
+        for entry in script.entries() {
+            self.watch.entry(&entry).map_err(Fault::Untold)?;
+            match entry.said {
                 Said::Comment => {}
                 Said::Plain { call, stated } => {
-                    let made = self.make(entry.line, call.clone())?;
-                    self.compare(stated.as_ref(), made)?;
+                    let made = self.make(entry.line, call)?;
+                    self.compare(stated, made)?;
                 }
                 Said::Words(word) => self.expand(entry.line, word)?,
             }
@@ -179,20 +181,28 @@ impl<'w, W: Watch> Playing<'w, W> {
     }
 
     /// Makes the calls that words stand for.
-    fn expand(&mut self, line: usize, word: &Word) -> Result<(), Fault> {
+    fn expand(&mut self, line: usize, word: Word) -> Result<(), Fault> {
         let looks = self.host.looks();
         let calls = match word {
-            Word::Calls(calls) => calls.clone(),
-            Word::Board { slot, settings, .. } => people::board(*slot, settings),
-            Word::Cable { one, other } => people::cable(*one, *other),
-            Word::Send { from, to, tokens } => people::send(looks, *from, *to, tokens),
+            Word::Calls(calls) => calls,
+            Word::Board { slot, settings, .. } => people::board(slot, &settings),
+            Word::Cable { one, other } => people::cable(one, other),
+            Word::Route {
+                slot,
+                bits,
+                direction,
+            } => people::route(slot, bits, direction),
+            Word::Send { from, to, tokens } => people::send(looks, from, to, &tokens),
             Word::Message {
                 from,
                 to,
                 network,
                 request,
-            } => people::message(looks, *from, *to, *network, *request),
-            Word::Receive(inputs) => return self.receive(line, inputs),
+            } => people::message(looks, from, to, network, request),
+            Word::Steps { record, count } => return self.step_often(line, record, count),
+            Word::Receive { end, tokens } => {
+                return self.receive(line, people::receive(end, tokens.as_deref()))
+            }
             Word::Settle => return self.settle(line),
         };
         for call in calls {
@@ -201,16 +211,24 @@ impl<'w, W: Watch> Playing<'w, W> {
         Ok(())
     }
 
+    fn step_often(&mut self, line: usize, record: StepRecord, count: usize) -> Result<(), Fault> {
+        let StepRecord { slot, port } = record;
+        for _ in 0..count {
+            self.make(line, Call::Step { slot, port })?;
+        }
+        Ok(())
+    }
+
     /// Inputs that must answer so.
-    fn receive(&mut self, line: usize, inputs: &[(Call, Answer)]) -> Result<(), Fault> {
+    fn receive(&mut self, line: usize, inputs: Vec<(Call, Answer)>) -> Result<(), Fault> {
         for (call, wanted) in inputs {
-            let Made { call, found, .. } = self.make(line, call.clone())?;
+            let Made { call, found, .. } = self.make(line, call)?;
             self.compared += 1;
-            if found.answer != *wanted {
+            if found.answer != wanted {
                 return Err(Fault::NotReceived {
                     line,
                     call,
-                    wanted: wanted.clone(),
+                    wanted,
                     found: found.answer,
                 });
             }
@@ -233,17 +251,17 @@ impl<'w, W: Watch> Playing<'w, W> {
     }
 
     /// Holds what was found to what a plain line states, if it states anything.
-    fn compare(&mut self, stated: Option<&Outcome>, made: Made) -> Result<(), Fault> {
+    fn compare(&mut self, stated: Option<Outcome>, made: Made) -> Result<(), Fault> {
         let Some(stated) = stated.filter(|_| self.compares) else {
             return Ok(());
         };
         self.compared += 1;
-        match *stated == made.found {
+        match stated == made.found {
             true => Ok(()),
             false => Err(Fault::Differs {
                 line: made.line,
                 call: made.call,
-                stated: stated.clone(),
+                stated,
                 found: made.found,
             }),
         }

@@ -7,12 +7,21 @@ use crate::parse::{read_plain, BadLine};
 use crate::people::{read_words, Word};
 use crate::words::Expected;
 
-/// A script that has been read.
+/// A script that can be read to its end. Its lines are read once more when their turn comes: a script
+/// may be long, and what its lines stand for longer.
 #[derive(Clone, Debug, PartialEq, Eq)]
 pub struct Script<'a> {
-    pub entries: Vec<Entry<'a>>,
+    text: &'a str,
     /// The boards that it gives names to.
     pub boards: Boards,
+}
+
+impl<'a> Script<'a> {
+    /// Its lines that are not empty, in order.
+    pub fn entries(&self) -> impl Iterator<Item = Entry<'a>> {
+        // Each was read before.
+        Entries::of(self.text).filter_map(Result::ok)
+    }
 }
 
 /// A line that is not empty.
@@ -48,17 +57,40 @@ impl Said {
 /// nor words. In a plain call of it a board's name may stand for a slot, and a link's letter for a
 /// link.
 pub fn read(text: &str) -> Result<Script<'_>, BadLine> {
-    let mut boards = Boards::default();
-    let mut entries = Vec::new();
-    for (line, written) in (1..).zip(text.lines()) {
-        if written.trim().is_empty() {
-            continue;
-        }
-        let read = read_entry(written, &mut boards);
-        let (text, said) = read.map_err(|expected| BadLine { line, expected })?;
-        entries.push(Entry { line, text, said });
+    let mut entries = Entries::of(text);
+    for entry in &mut entries {
+        entry?;
     }
-    Ok(Script { entries, boards })
+    let boards = entries.boards;
+    Ok(Script { text, boards })
+}
+
+/// The lines of a script, one by one, with the boards that have names by then.
+struct Entries<'a> {
+    lines: std::iter::Enumerate<std::str::Lines<'a>>,
+    boards: Boards,
+}
+
+impl<'a> Entries<'a> {
+    fn of(text: &'a str) -> Entries<'a> {
+        Entries {
+            lines: text.lines().enumerate(),
+            boards: Boards::default(),
+        }
+    }
+}
+
+impl<'a> Iterator for Entries<'a> {
+    type Item = Result<Entry<'a>, BadLine>;
+
+    fn next(&mut self) -> Option<Self::Item> {
+        let (index, written) = self.lines.find(|(_, line)| !line.trim().is_empty())?;
+        let line = index + 1;
+        Some(match read_entry(written, &mut self.boards) {
+            Ok((text, said)) => Ok(Entry { line, text, said }),
+            Err(expected) => Err(BadLine { line, expected }),
+        })
+    }
 }
 
 /// What a line says, and its text.

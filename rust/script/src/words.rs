@@ -145,17 +145,21 @@ impl<'a> Words<'a> {
         Some(&word[..length])
     }
 
+    /// The next word, if there is one.
+    pub fn next(&mut self) -> Option<&'a str> {
+        let dotted = self.boards.is_some();
+        self.take(|letter| dotted && letter == '.')
+    }
+
     /// The next word.
     pub fn word(&mut self, what: &str) -> Result<&'a str, Expected> {
-        let dotted = self.boards.is_some();
-        let word = self.take(|letter| dotted && letter == '.');
+        let word = self.next();
         word.ok_or_else(|| self.unmet(what, None))
     }
 
-    /// The next word with the full stops in it.
-    pub fn whole_word(&mut self, what: &str) -> Result<&'a str, Expected> {
-        let word = self.take(|_| false);
-        word.ok_or_else(|| self.unmet(what, None))
+    /// The next word with the full stops in it, if there is one.
+    pub fn next_whole(&mut self) -> Option<&'a str> {
+        self.take(|_| false)
     }
 
     /// The complaint that something else was expected than what was read last, or than nothing.
@@ -200,12 +204,23 @@ impl<'a> Words<'a> {
 
     /// The next word, which is to be one of these; what it stands for.
     pub fn choice<T: Copy>(&mut self, choices: &[(&str, T)]) -> Result<T, Expected> {
-        let names: Vec<&str> = choices.iter().map(|(name, _)| *name).collect();
-        let what = either(&names);
-        let word = self.word(&what)?;
-        match choices.iter().find(|(name, _)| *name == word) {
+        let word = self.next();
+        let found = choices.iter().find(|(name, _)| Some(*name) == word);
+        match found {
             Some((_, meant)) => Ok(*meant),
-            None => Err(self.unmet_by(&what, word, names)),
+            None => {
+                let names: Vec<&str> = choices.iter().map(|(name, _)| *name).collect();
+                Err(self.no_choice(word, &names))
+            }
+        }
+    }
+
+    /// The complaint that it is none of these.
+    pub fn no_choice(&self, word: Option<&str>, names: &[&str]) -> Expected {
+        let what = either(names);
+        match word {
+            Some(word) => self.unmet_by(&what, word, names.iter().copied()),
+            None => self.unmet(&what, None),
         }
     }
 
@@ -242,7 +257,7 @@ impl<'a> Words<'a> {
     /// The next word, which stays.
     pub fn peek(&self) -> Option<&'a str> {
         let mut ahead = *self;
-        ahead.word("").ok()
+        ahead.next()
     }
 
     /// That there are no more words.

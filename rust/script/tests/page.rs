@@ -253,7 +253,11 @@ fn a_circuit_has_one_colour() {
         ["00", "00", "07"],
         "the header, over link A of lane 1"
     );
-    // Two headers in one port: each hop has the number of the one that it was opened for.
+}
+
+/// Two headers in one port: each hop has the number of the circuit that it was opened for.
+#[test]
+fn circuits_behind_each_other() {
     let two = "blank 2\nboard 1 number 1\ncable 0.A 1.A\nsend 0.0 to 1.7: END\n\
                send 0.1 to 1.8: END\nstep 0.8 5 times\nstep 0.9 5 times\nstep 1.A 4 times\n";
     let calls = shown(&data(&page(&file("page-two.txt", two))));
@@ -423,57 +427,53 @@ fn text_of(dom: &str, begins: &str, ends: &str) -> String {
     parts.collect()
 }
 
+/// That no script failed, and what is said of the call that the page stands at.
+#[track_caller]
+fn said_in(dom: &str) -> String {
+    let untroubled = "class=\"trouble\" role=\"alert\" hidden";
+    assert!(dom.contains(untroubled), "a script has failed");
+    text_of(dom, "<p id=\"said\">", "</p>")
+}
+
+/// The hub refuses the lane's circuit: what is said, and what is drawn.
+fn assert_at_the_split(dom: &str, count: usize) {
+    let why = "refused as Split: a header of three bytes, read at one byte";
+    assert_eq!(said_in(dom), format!("hub, port 0 (in by link A): {why}"));
+    let shown = text_of(dom, "<output id=\"count\" for=\"slider\">", "</output>");
+    assert_eq!(shown, format!("{count} of 81"));
+    let times = |part: &str| dom.matches(part).count();
+    assert_eq!(times("<section class=\"board"), 4);
+    assert_eq!(times("<section class=\"board one\""), 1, "the hub's width");
+    assert_eq!(
+        times("<path d="),
+        3 + 2,
+        "three cables, and a way with its arrow"
+    );
+    assert_eq!(times("class=\"row lit refused\""), 1, "what has changed");
+}
+
 #[test]
 fn a_browser_goes_through_it() {
     let Some(browser) = browser() else {
         return left_out("page-browser (no Chromium that starts on this machine)");
     };
     let made = page(&example("half-update"));
-    let split = first(&shown(&data(&made)), "refused split");
+    let split = first(&shown(&data(&made)), "refused split") + 1;
     // Step by step to the Split, and the same by the key for the next refusal.
-    for (name, keys) in [
-        ("page-steps", vec!["ArrowRight"; split + 1]),
-        ("page-next", vec!["r"]),
-    ] {
-        let dom = loaded(&browser, name, &made, &keys);
-        assert!(
-            dom.contains("class=\"trouble\" role=\"alert\" hidden"),
-            "a script error"
-        );
-        let said = text_of(&dom, "<p id=\"said\">", "</p>");
-        let expected = "hub, port 0 (in by link A): refused as Split: a header of three bytes, read at one byte";
-        assert_eq!(said, expected);
-        let count = text_of(&dom, "<output id=\"count\" for=\"slider\">", "</output>");
-        assert_eq!(count, format!("{} of 81", split + 1));
-        assert_eq!(dom.matches("<section class=\"board").count(), 4);
-        assert_eq!(
-            dom.matches("<section class=\"board one\"").count(),
-            1,
-            "the hub's width"
-        );
-        assert_eq!(
-            dom.matches("<path d=").count(),
-            3 + 2,
-            "three cables, and a way with its arrow"
-        );
-        assert!(
-            dom.contains("class=\"row lit refused\""),
-            "what has changed"
-        );
-    }
-    let dom = loaded(
-        &browser,
-        "page-end",
-        &page(&example("deadlock")),
-        &["End", "PageUp", "PageDown"],
+    let dom = loaded(&browser, "page-steps", &made, &vec!["ArrowRight"; split]);
+    assert_at_the_split(&dom, split);
+    let dom = loaded(&browser, "page-next", &made, &["r"]);
+    assert_at_the_split(&dom, split);
+    let made = page(&example("deadlock"));
+    let dom = loaded(&browser, "page-end", &made, &["End", "PageUp", "PageDown"]);
+    assert_eq!(
+        said_in(&dom),
+        "left, channel-end 1: holds nothing, as the line expects"
     );
     let waits = text_of(&dom, "<ul id=\"waits\">", "</ul>");
-    assert!(
-        waits.contains("left, in by A: waits for channel-end 0, which holds 8 tokens"),
-        "{waits}"
-    );
-    assert!(
-        dom.contains("class=\"trouble\" role=\"alert\" hidden"),
-        "a script error"
+    let held = "waits for channel-end 0, which holds 8 tokens";
+    assert_eq!(
+        waits,
+        format!("left, in by A: {held}right, in by A: {held}")
     );
 }

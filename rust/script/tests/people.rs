@@ -5,6 +5,9 @@ mod common;
 use std::sync::atomic::{AtomicUsize, Ordering};
 
 use common::{bench, file, text};
+use script::expand::Expanding;
+use script::page::Recording;
+use script::tell::{Colours, Telling};
 
 /// A file of its own for each script: tests run side by side.
 fn script_file(script: &str) -> String {
@@ -290,172 +293,47 @@ fn what_is_received_is_held() {
     }
 }
 
+/// A line, its column and what was expected, and what more is said of it.
+#[rustfmt::skip]
+const WRONG_WORDS: [(&str, &str, &str); 32] = [
+    ("setle", "1: ", "or settle, found setle, nearest is settle\n"),
+    ("  recieve hub.7: 1", "3: ", "found recieve, nearest is receive\n"),
+    ("cable hub.A hob.A", "13: expected a board's name or slot", "found hob, nearest is hub (cable BOARD.LINK BOARD.LINK)\n"),
+    ("cable hub.A lane1.Q", "19: expected a link, a letter A..H or a number", "found Q (cable BOARD.LINK BOARD.LINK)\n"),
+    ("cable hub.A", "12: expected a board's name or slot", "found nothing (cable"),
+    ("cable hub..A lane1.A", "11: expected a link", "found nothing (cable"),
+    ("route hub bit 3..16 -> direction 1", "15: expected a bit, or bits FIRST..LAST of 0..15", "found 3..16 (route"),
+    ("route hub bit 3..2 -> direction 1", "15: expected a bit", "found 3..2 (route"),
+    ("route hub bit 3 direction 1", "17: expected ->", "found direction (route"),
+    ("link hub.A directoin 1", "12: expected direction, network, enable, disable or hello", "nearest is direction (link"),
+    ("link hub.A", "11: expected direction, network, enable, disable or hello", "found nothing (link"),
+    ("send hub.0 to lane1.7 12 END", "29: expected a colon and what is meant", "found nothing (send"),
+    ("send hub.0 to lane1.7", "22: expected a colon and what is meant", "found nothing (send"),
+    ("send hub.0 to lane1.7:", "23: expected a token: a value 0..255, END,", "found nothing (send"),
+    ("send hub.0 to lane1.7: 12 end", "27: expected a token", "found end, nearest is END (send"),
+    ("send hub.0 to lane1.7: 256", "24: expected a token", "found 256 (send"),
+    ("send hub.0 to lane1.7: control-256", "24: expected a token", "found control-256"),
+    ("send hub.0 two lane1.7: 1", "12: expected to", "found two, nearest is to (send"),
+    ("message hub.0 to lane1: wriet 4 1", "25: expected write or read", "found wriet, nearest is write (message"),
+    ("message hub.0 to lane1: write 65536 1", "31: expected a register's address of 16 bits", "found 65536"),
+    ("receive hub.7: nothing more", "24: expected no more words", "found more (receive"),
+    ("receive hub.7: 1 nothing", "18: expected a token", "found nothing (receive"),
+    ("settle now", "8: expected no more words", "found now (settle)\n"),
+    ("board 3hub 2", "7: expected a name for a board", "found 3hub (board"),
+    ("board number 2", "7: expected a name for a board", "found number (board"),
+    ("board hub 2", "11: expected number or width", "found 2 (board"),
+    ("board new", "10: expected the slot of the board", "found nothing (board"),
+    ("step hub.A 65537 times", "12: expected a count, at most 65536", "found 65537 (step"),
+    ("step lane.8", "6: expected a board's name or slot", "found lane, nearest is lane1 (step SLOT PORT)\n"),
+    ("fresh", "6: expected a number of nodes", "found nothing (fresh NODES MEMORY_WORDS)\n"),
+    ("fresh many", "7: expected a number of boards", "found many (fresh BOARDS)\n"),
+    ("step hub.A -> wating # 0123456789abcdef", "15: expected an answer", "found wating, nearest is waiting\n"),
+];
+
 /// A wrong word: its line and column, what was expected, what stands there, and the nearest word.
 #[test]
 fn a_wrong_word_is_answered() {
-    let cases = [
-        (
-            "setle",
-            "1: ",
-            "or settle, found setle, nearest is settle\n",
-        ),
-        (
-            "  recieve hub.7: 1",
-            "3: ",
-            "found recieve, nearest is receive\n",
-        ),
-        (
-            "cable hub.A hob.A",
-            "13: expected a board's name or slot",
-            "found hob, nearest is hub (cable BOARD.LINK BOARD.LINK)\n",
-        ),
-        (
-            "cable hub.A lane1.Q",
-            "19: expected a link, a letter A..H or a number",
-            "found Q (cable BOARD.LINK BOARD.LINK)\n",
-        ),
-        (
-            "cable hub.A",
-            "12: expected a board's name or slot",
-            "found nothing (cable",
-        ),
-        (
-            "cable hub..A lane1.A",
-            "11: expected a link",
-            "found nothing (cable",
-        ),
-        (
-            "route hub bit 3..16 -> direction 1",
-            "15: expected a bit, or bits FIRST..LAST of 0..15",
-            "found 3..16 (route",
-        ),
-        (
-            "route hub bit 3..2 -> direction 1",
-            "15: expected a bit",
-            "found 3..2 (route",
-        ),
-        (
-            "route hub bit 3 direction 1",
-            "17: expected ->",
-            "found direction (route",
-        ),
-        (
-            "link hub.A directoin 1",
-            "12: expected direction, network, enable, disable or hello",
-            "nearest is direction (link",
-        ),
-        (
-            "link hub.A",
-            "11: expected direction, network, enable, disable or hello",
-            "found nothing (link",
-        ),
-        (
-            "send hub.0 to lane1.7 12 END",
-            "29: expected a colon and what is meant",
-            "found nothing (send",
-        ),
-        (
-            "send hub.0 to lane1.7",
-            "22: expected a colon and what is meant",
-            "found nothing (send",
-        ),
-        (
-            "send hub.0 to lane1.7:",
-            "23: expected a token: a value 0..255, END,",
-            "found nothing (send",
-        ),
-        (
-            "send hub.0 to lane1.7: 12 end",
-            "27: expected a token",
-            "found end, nearest is END (send",
-        ),
-        (
-            "send hub.0 to lane1.7: 256",
-            "24: expected a token",
-            "found 256 (send",
-        ),
-        (
-            "send hub.0 to lane1.7: control-256",
-            "24: expected a token",
-            "found control-256",
-        ),
-        (
-            "send hub.0 two lane1.7: 1",
-            "12: expected to",
-            "found two, nearest is to (send",
-        ),
-        (
-            "message hub.0 to lane1: wriet 4 1",
-            "25: expected write or read",
-            "found wriet, nearest is write (message",
-        ),
-        (
-            "message hub.0 to lane1: write 65536 1",
-            "31: expected a register's address of 16 bits",
-            "found 65536",
-        ),
-        (
-            "receive hub.7: nothing more",
-            "24: expected no more words",
-            "found more (receive",
-        ),
-        (
-            "receive hub.7: 1 nothing",
-            "18: expected a token",
-            "found nothing (receive",
-        ),
-        (
-            "settle now",
-            "8: expected no more words",
-            "found now (settle)\n",
-        ),
-        (
-            "board 3hub 2",
-            "7: expected a name for a board",
-            "found 3hub (board",
-        ),
-        (
-            "board number 2",
-            "7: expected a name for a board",
-            "found number (board",
-        ),
-        (
-            "board hub 2",
-            "11: expected number or width",
-            "found 2 (board",
-        ),
-        (
-            "board new",
-            "10: expected the slot of the board",
-            "found nothing (board",
-        ),
-        (
-            "step hub.A 65537 times",
-            "12: expected a count, at most 65536",
-            "found 65537 (step",
-        ),
-        (
-            "step lane.8",
-            "6: expected a board's name or slot",
-            "found lane, nearest is lane1 (step SLOT PORT)\n",
-        ),
-        (
-            "fresh",
-            "6: expected a number of nodes",
-            "found nothing (fresh NODES MEMORY_WORDS)\n",
-        ),
-        (
-            "fresh many",
-            "7: expected a number of boards",
-            "found many (fresh BOARDS)\n",
-        ),
-        (
-            "step hub.A -> wating # 0123456789abcdef",
-            "15: expected an answer",
-            "found wating, nearest is waiting\n",
-        ),
-    ];
-    for (line, begins, ends) in cases {
+    for (line, begins, ends) in WRONG_WORDS {
         let path = script_file(&format!("{HEAD}\n{line}\n"));
         let output = bench(&["run", &path]);
         let complaint = text(&output.stderr);
@@ -484,9 +362,104 @@ fn long_lines() {
     let tokens = "1 ".repeat(200_000);
     let path = script_file(&format!("fresh 1\nsend 0.0 to 0.255: {tokens}END\n"));
     assert!(bench(&["check", &path]).status.success());
+    // What a line stands for is made when its turn comes, and here none has one.
+    let steps = "step 0.8 65536 times\n".repeat(50_000);
+    let path = script_file(&format!("fresh 1\n{steps}jump\n"));
+    let output = bench(&["check", &path]);
+    assert!(text(&output.stderr).contains("line 50002, column 1: expected fresh"));
     let word = "x".repeat(1 << 20);
     let path = script_file(&format!("fresh 1\nboard {word} 0\ncable {word}y.A 0.A\n"));
     let output = bench(&["check", &path]);
     assert_eq!(output.status.code(), Some(2));
     assert!(output.stderr.len() < 1000);
+}
+
+/// Words to make lines of, right and wrong.
+#[rustfmt::skip]
+const PIECES: [&str; 60] = [
+    "fresh", "blank", "board", "cable", "route", "link", "send", "message", "receive", "settle", "step",
+    "steps", "times", "hub", "lane", "hub.A", "lane.A", "hub.0", "lane.7", "hub.12", "lane.255", "0.8", "1.A",
+    "to", "number", "channel", "on", "network", "direction", "bit", "width", "enable", "disable", "hello",
+    "write", "read", "nothing", "->", "0..3", "0", "1", "2", "3", "4", "16", "0x05", "256", "70000",
+    "18446744073709551615", ":", "END", "PAUSE", "control-1", "READC", ".", "//", "..", "\u{e9}", "#", "",
+];
+
+/// A line of a few of them; mostly one that is nearly right.
+fn random_line(random: &mut impl FnMut(usize) -> usize) -> String {
+    let right = [
+        "cable hub.A lane.A",
+        "send hub.0 to lane.7: 1 2 END",
+        "settle",
+        "step hub.8 3 times",
+        "route lane bit 0..3 -> direction 1",
+        "link lane.A direction 1 hello",
+        "receive lane.7: nothing",
+        "message lane.1 to hub: write 4 1",
+        "steps 2 hub.8 lane.A",
+        "board lane number 1 width 1",
+        "send lane.2 to number 9 channel 1: END",
+        "set hub enable A 0",
+        "blank 2",
+    ];
+    let mut words: Vec<&str> = right[random(right.len())].split(' ').collect();
+    for _ in 0..random(3) {
+        let (place, piece) = (random(words.len()), PIECES[random(PIECES.len())]);
+        match random(3) {
+            0 => words[place] = piece,
+            1 => words.insert(place, piece),
+            _ => drop(words.remove(place)),
+        }
+        words.extend(words.is_empty().then_some("settle"));
+    }
+    words.join(" ")
+}
+
+/// Whatever the lines are, each is read or complained of, and the run is told, taken down and expanded.
+#[test]
+fn no_line_makes_it_panic() {
+    let mut seed = 0x9E37_79B9_7F4A_7C15_u64;
+    let mut random = |below: usize| {
+        seed ^= seed << 13;
+        seed ^= seed >> 7;
+        seed ^= seed << 17;
+        (seed % below as u64) as usize
+    };
+    let (mut read, mut unread) = (0, 0);
+    for _ in 0..400 {
+        let mut text = "fresh 2\nboard hub 0\nboard lane 1 number 1\n".to_owned();
+        for _ in 0..12 {
+            let line = random_line(&mut random);
+            match script::read(&format!("{text}{line}\n")) {
+                Ok(_) => {
+                    read += 1;
+                    text += &format!("{line}\n");
+                }
+                Err(bad) => {
+                    unread += 1;
+                    assert_eq!(bad.line, text.lines().count() + 1, "{line}");
+                    assert!(bad.expected.column() <= line.chars().count() + 1, "{line}");
+                }
+            }
+        }
+        watched(&text);
+    }
+    assert!(
+        read > 1500 && unread > 500,
+        "{read} lines read, {unread} not"
+    );
+}
+
+/// Plays a script to all who watch.
+fn watched(text: &str) {
+    let script = script::read(text).expect("a script");
+    let mut telling = Telling::to(Vec::new(), &script.boards, Colours::On);
+    let told = script::play(&script, &mut telling);
+    telling.finish().expect("room");
+    let mut recording = Recording::of(&script.boards);
+    let played = script::play(&script, &mut recording);
+    let left = played.as_ref().ok().map(script::Host::copy);
+    assert_eq!(told.is_ok(), played.is_ok(), "{text}");
+    script::page::page("a script", &script.boards, recording, left.as_ref());
+    let mut expanding = Expanding::to(Vec::new());
+    assert_eq!(script::play(&script, &mut expanding).is_ok(), told.is_ok());
 }

@@ -1,9 +1,8 @@
 //! Reading a line of words for people.
 
-use bench::{Kind, LinkEnd, Refusal, Setting};
+use bench::{Kind, LinkEnd, Setting};
 
 use super::{start, End, Put, Request, Whose, Word, FORMS};
-use crate::answer::Answer;
 use crate::boards::{is_name, Boards};
 use crate::call::{self, Call};
 use crate::names::{CONTROLS, UNNAMED};
@@ -14,23 +13,27 @@ use crate::words::{either, number_of, Expected, Words};
 /// Reads a line of words; none where it is a plain call.
 pub fn read_words(line: &str, boards: &Boards) -> Result<Option<Word>, Expected> {
     let mut words = Words::within(line, line, Some(boards));
-    let name = words.choice(&all_names())?;
-    let Some((_, form)) = FORMS.iter().find(|(known, _)| *known == name) else {
-        return Ok(None);
-    };
-    if !is_for_people(name, line) {
-        return Ok(None);
+    let name = words.next();
+    let is_named = |(known, _): &&(&str, &str)| Some(*known) == name;
+    match (
+        FORMS.iter().find(is_named),
+        call::FORMS.iter().find(is_named),
+    ) {
+        (Some((name, form)), _) if is_for_people(name, line) => {
+            let read = word_named(name, line, words);
+            read.map(Some).map_err(|wrong| wrong.in_form(form))
+        }
+        (None, None) => Err(words.no_choice(name, &all_names())),
+        _ => Ok(None),
     }
-    let read = word_named(name, line, words);
-    read.map(Some).map_err(|wrong| wrong.in_form(form))
 }
 
 /// What a line may begin with, of either kind.
-fn all_names() -> Vec<(&'static str, &'static str)> {
+fn all_names() -> Vec<&'static str> {
     let plain = call::FORMS.iter().map(|(name, _)| *name);
     let words = FORMS.iter().map(|(name, _)| *name);
     let words = words.filter(|name| call::FORMS.iter().all(|(plain, _)| plain != name));
-    plain.chain(words).map(|name| (name, name)).collect()
+    plain.chain(words).collect()
 }
 
 /// Some words are plain calls too: a start that has its memory's length, a single Step.
@@ -112,30 +115,29 @@ fn board(words: &mut Words) -> Result<Word, Expected> {
 fn route(words: &mut Words) -> Result<Word, Expected> {
     let slot = slot(words)?;
     words.choice(&[("bit", ()), ("bits", ())])?;
-    let what = "a bit, or bits FIRST..LAST of 0..15";
-    let word = words.whole_word(what)?;
-    let Some(bits) = bits(word) else {
-        return Err(words.unmet(what, Some(word)));
+    let word = words.next_whole();
+    let Some(bits) = word.and_then(bits) else {
+        return Err(words.unmet("a bit, or bits FIRST..LAST of 0..15", word));
     };
     words.exactly("->")?;
     words.exactly("direction")?;
-    let value = words.number("a direction")?;
-    let set = |bit| Call::Set {
+    let direction = words.number("a direction")?;
+    Ok(Word::Route {
         slot,
-        setting: Setting::Direction { bit, value },
-    };
-    Ok(Word::Calls(bits.map(set).collect()))
+        bits,
+        direction,
+    })
 }
 
 /// A single bit may be one that is not there, as for the call; of several each is.
-fn bits(word: &str) -> Option<std::ops::RangeInclusive<u32>> {
+fn bits(word: &str) -> Option<(u32, u32)> {
     let bit = |word: &str| u32::try_from(number_of(word)?).ok();
     match word.split_once("..") {
         Some((first, last)) => {
             let (first, last) = (bit(first)?, bit(last)?);
-            (first <= last && last < bench::sizes::BITS).then_some(first..=last)
+            (first <= last && last < bench::sizes::BITS).then_some((first, last))
         }
-        None => bit(word).map(|bit| bit..=bit),
+        None => bit(word).map(|bit| (bit, bit)),
     }
 }
 
@@ -169,11 +171,11 @@ fn link_call(slot: usize, link: usize, words: &mut Words) -> Result<Call, Expect
 
 /// `BOARD.PORT COUNT times`.
 fn steps(words: &mut Words) -> Result<Word, Expected> {
-    let bench::StepRecord { slot, port } = record(words)?;
+    let record = record(words)?;
     let most = |count: u32| (count as usize <= MOST_STEPS).then_some(count as usize);
     let count = words.number_for(&format!("a count, at most {MOST_STEPS}"), most)?;
     words.exactly("times")?;
-    Ok(Word::Calls(vec![Call::Step { slot, port }; count]))
+    Ok(Word::Steps { record, count })
 }
 
 /// `BOARD.CHANNELEND`.
@@ -251,27 +253,15 @@ fn message(head: &mut Words, rest: &mut Words) -> Result<Word, Expected> {
 const NOTHING: &str = "nothing";
 
 fn receive(head: &mut Words, rest: &mut Words) -> Result<Word, Expected> {
-    let End { slot, channel_end } = end(head)?;
-    let input = |kind| Call::Input {
-        slot,
-        channel_end,
-        kind,
-    };
-    let inputs = match tokens(rest, &[NOTHING])? {
-        Some(tokens) => {
-            let taken = tokens.into_iter();
-            let taken = taken.map(|put| (input(put.kind), Answer::Token(put.value)));
-            taken.collect()
-        }
-        None => vec![(input(Kind::Data), Answer::No(Refusal::Empty))],
-    };
-    Ok(Word::Receive(inputs))
+    let end = end(head)?;
+    let tokens = tokens(rest, &[NOTHING])?;
+    Ok(Word::Receive { end, tokens })
 }
 
 /// One token or more; none where one of these words stands in their place.
 fn tokens(words: &mut Words, instead: &[&str]) -> Result<Option<Vec<Put>>, Expected> {
     if words.peek().is_some_and(|word| instead.contains(&word)) {
-        words.whole_word("a token")?;
+        words.next();
         return Ok(None);
     }
     let mut tokens = vec![token(words, instead)?];
@@ -283,15 +273,20 @@ fn tokens(words: &mut Words, instead: &[&str]) -> Result<Option<Vec<Put>>, Expec
 
 /// Data by its value, control by its name or as `control-VALUE`.
 fn token(words: &mut Words, instead: &[&str]) -> Result<Put, Expected> {
+    let word = words.next_whole();
+    word.and_then(put)
+        .ok_or_else(|| no_token(words, word, instead))
+}
+
+fn no_token(words: &Words, word: Option<&str>, instead: &[&str]) -> Expected {
     let names: Vec<&str> = CONTROLS.iter().map(|(name, _)| *name).collect();
     let names = [&names, instead].concat();
     let unnamed = format!("{UNNAMED}VALUE");
     let all = [&["a value 0..255"], &names[..], &[&unnamed]].concat();
     let what = format!("a token: {}", either(&all));
-    let word = words.whole_word(&what)?;
-    match put(word) {
-        Some(put) => Ok(put),
-        None => Err(words.unmet_by(&what, word, names)),
+    match word {
+        Some(word) => words.unmet_by(&what, word, names),
+        None => words.unmet(&what, None),
     }
 }
 
