@@ -177,21 +177,18 @@ pub fn route(slot: usize, bits: (u32, u32), value: u32) -> Vec<Call> {
     (bits.0..=bits.1).map(set).collect()
 }
 
-/// An Input for each token, and what it must answer.
-pub fn receive(end: End, tokens: Option<&[Put]>) -> Vec<(Call, Answer)> {
-    let input = |kind| Call::Input {
+/// An Input for each token, and what it must answer; a line may have very many.
+pub fn receive(end: End, tokens: Option<Vec<Put>>) -> impl Iterator<Item = (Call, Answer)> {
+    let input = move |kind| Call::Input {
         slot: end.slot,
         channel_end: end.channel_end,
         kind,
     };
-    match tokens {
-        Some(tokens) => {
-            let taken = tokens.iter();
-            let taken = taken.map(|put| (input(put.kind), Answer::Token(put.value)));
-            taken.collect()
-        }
-        None => vec![(input(Kind::Data), Answer::No(Refusal::Empty))],
-    }
+    let nothing = (input(Kind::Data), Answer::No(Refusal::Empty));
+    let nothing = tokens.is_none().then_some(nothing);
+    let taken = tokens.into_iter().flatten();
+    let taken = taken.map(move |put| (input(put.kind), Answer::Token(put.value)));
+    taken.chain(nothing)
 }
 
 impl End {
@@ -213,18 +210,24 @@ impl End {
         }
     }
 
-    fn outputs(self, tokens: &[Put]) -> impl Iterator<Item = Call> + use<'_> {
-        tokens.iter().map(move |put| self.output(*put))
+    fn outputs(self, tokens: Vec<Put>) -> impl Iterator<Item = Call> {
+        tokens.into_iter().map(move |put| self.output(put))
     }
 }
 
-/// An Aim, where a destination is named, and an Output for each token.
-pub fn send(looks: Looks, from: End, to: Option<(Whose, u32, u32)>, tokens: &[Put]) -> Vec<Call> {
+/// An Aim, where a destination is named, and an Output for each token, of which a line may have very
+/// many.
+pub fn send(
+    looks: Looks,
+    from: End,
+    to: Option<(Whose, u32, u32)>,
+    tokens: Vec<Put>,
+) -> impl Iterator<Item = Call> + use<> {
     let aim = to.map(|(whose, channel, network)| {
         let number = whose.number(looks);
         from.aim(Destination::Channel { number, channel }, network)
     });
-    aim.into_iter().chain(from.outputs(tokens)).collect()
+    aim.into_iter().chain(from.outputs(tokens))
 }
 
 /// An Aim at a control unit and the message: the command, where the reply goes (here), the
@@ -252,5 +255,5 @@ pub fn message(looks: Looks, from: End, to: Whose, network: u32, request: Reques
     tokens.extend(data.into_iter().map(byte));
     tokens.push(control(END));
     let aim = from.aim(Destination::Control { number }, network);
-    std::iter::once(aim).chain(from.outputs(&tokens)).collect()
+    std::iter::once(aim).chain(from.outputs(tokens)).collect()
 }

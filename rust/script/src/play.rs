@@ -192,35 +192,46 @@ impl<'w, W: Watch> Playing<'w, W> {
                 bits,
                 direction,
             } => people::route(slot, bits, direction),
-            Word::Send { from, to, tokens } => people::send(looks, from, to, &tokens),
+            Word::Send { from, to, tokens } => {
+                let calls = people::send(looks, from, to, tokens);
+                return self.make_all(line, calls);
+            }
             Word::Message {
                 from,
                 to,
                 network,
                 request,
             } => people::message(looks, from, to, network, request),
-            Word::Steps { record, count } => return self.step_often(line, record, count),
+            Word::Steps { record, count } => {
+                let StepRecord { slot, port } = record;
+                let steps = std::iter::repeat_n(Call::Step { slot, port }, count);
+                return self.make_all(line, steps);
+            }
             Word::Receive { end, tokens } => {
-                return self.receive(line, people::receive(end, tokens.as_deref()))
+                return self.receive(line, people::receive(end, tokens))
             }
             Word::Settle => return self.settle(line),
         };
+        self.make_all(line, calls)
+    }
+
+    fn make_all(
+        &mut self,
+        line: usize,
+        calls: impl IntoIterator<Item = Call>,
+    ) -> Result<(), Fault> {
         for call in calls {
             self.make(line, call)?;
         }
         Ok(())
     }
 
-    fn step_often(&mut self, line: usize, record: StepRecord, count: usize) -> Result<(), Fault> {
-        let StepRecord { slot, port } = record;
-        for _ in 0..count {
-            self.make(line, Call::Step { slot, port })?;
-        }
-        Ok(())
-    }
-
     /// Inputs that must answer so.
-    fn receive(&mut self, line: usize, inputs: Vec<(Call, Answer)>) -> Result<(), Fault> {
+    fn receive(
+        &mut self,
+        line: usize,
+        inputs: impl Iterator<Item = (Call, Answer)>,
+    ) -> Result<(), Fault> {
         for (call, wanted) in inputs {
             let Made { call, found, .. } = self.make(line, call)?;
             self.compared += 1;
