@@ -423,15 +423,22 @@ fn loaded(browser: &Path, name: &str, page: &str, keys: &[&str]) -> String {
 fn text_of(dom: &str, begins: &str, ends: &str) -> String {
     let inside = between(dom, begins, ends);
     let parts = inside.split('<');
-    let parts = parts.map(|part| part.split_once('>').map_or(part, |(_, text)| text));
-    parts.collect()
+    let first = parts.clone().take(1);
+    let rest = parts
+        .skip(1)
+        .filter_map(|part| Some(part.split_once('>')?.1));
+    first.chain(rest).collect()
 }
 
 /// That no script failed, and what is said of the call that the page stands at.
 #[track_caller]
 fn said_in(dom: &str) -> String {
-    let untroubled = "class=\"trouble\" role=\"alert\" hidden";
-    assert!(dom.contains(untroubled), "a script has failed");
+    let trouble = text_of(
+        dom,
+        "<p id=\"trouble\" class=\"trouble\" role=\"alert\"",
+        "</p>",
+    );
+    assert_eq!(trouble, " hidden=\"\">", "a script has failed");
     text_of(dom, "<p id=\"said\">", "</p>")
 }
 

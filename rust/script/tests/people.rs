@@ -345,6 +345,30 @@ fn a_wrong_word_is_answered() {
     }
 }
 
+/// The script that docs/USING.md explains the words with has all of them, and does what is said there.
+#[test]
+fn the_script_of_the_page_runs() {
+    let path = concat!(env!("CARGO_MANIFEST_DIR"), "/../../docs/USING.md");
+    let page = std::fs::read_to_string(path).expect("docs/USING.md");
+    let (_, part) = page.split_once("\n    // a comment, ").expect("a script");
+    let lines = part
+        .lines()
+        .skip(1)
+        .map_while(|line| line.strip_prefix("    "));
+    let script: String = lines.map(|line| format!("{line}\n")).collect();
+    for (word, _) in script::people::FORMS {
+        let begins = script.lines().any(|line| line.starts_with(word));
+        assert!(begins || word == "blank", "{word}");
+    }
+    let output = bench(&["check", &script_file(&script)]);
+    assert_eq!(
+        text(&output.stdout),
+        "3 calls agree\n",
+        "{}",
+        text(&output.stderr)
+    );
+}
+
 /// A column counts letters, not bytes.
 #[test]
 fn a_column_counts_letters() {

@@ -112,6 +112,18 @@ fn steps_one_by_one_and_as_a_list() {
     tells(&listed, &[aimed, moved, waits, refused]);
 }
 
+/// What is said once more of the same place is said once.
+#[test]
+fn the_same_again() {
+    tells(
+        "step hub.A 3 times\nstep hub.B",
+        &[
+            "hub, port 0 (in by link A): holds nothing",
+            "hub, port 1 (in by link B): holds nothing",
+        ],
+    );
+}
+
 #[test]
 fn ends_of_messages_and_waits() {
     let malformed = "aim hub.0 control 0 0 0\nsend hub.0: READC END\nsettle";

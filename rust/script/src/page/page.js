@@ -211,6 +211,7 @@
     row.style.borderLeftColor = "";
     row.replaceChildren(element("b", "", rowName(name)));
     row.classList.toggle("rest", part === undefined);
+    row.hidden = part === undefined && rowName(name) === "";
     row.classList.toggle("lit", changed.has(name) || changed.has("w" + name.slice(1)));
     if (part !== undefined) fill[name[0]](row, part, name);
   };

@@ -66,6 +66,7 @@ impl Fact {
     /// Adds another to this one, where they are alike.
     fn joins(&mut self, other: &Fact) -> bool {
         match (self, other) {
+            (Fact::Said(said), Fact::Said(again)) => return said == again,
             (
                 Fact::Leads { bits, direction },
                 Fact::Leads {
