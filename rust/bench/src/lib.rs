@@ -9,6 +9,7 @@
 //!   answered;
 //! * [`Looks`]: the state of a network, read through the proved looks alone, with its
 //!   [digest](Looks::digest);
+//! * [`probe`]: tokens as transitions of a link's wires, and back;
 //! * [`raw`]: each proved function over the caller's own slices, of any length and contents;
 //! * [`Refusal`]: the paper's numbers for no, with their names.
 
@@ -18,6 +19,7 @@ mod digest;
 mod list;
 mod looks;
 mod network;
+pub mod probe;
 mod proved;
 pub mod raw;
 mod records;

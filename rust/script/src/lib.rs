@@ -4,7 +4,8 @@
 //! lines that begin with `//` are passed over. Numbers are decimal, or hexadecimal with `0x`.
 //! [`FORMS`] lists the calls. The command `bench` runs and checks scripts, and says what the network
 //! is like that a script leaves: in words ([`show`]), by an END that is sent on a copy ([`route`],
-//! [`matrix`]), as a picture ([`draw`]) and beside another one ([`diff`]). This is what it is made of.
+//! [`matrix`]), as a picture ([`draw`]) and beside another one ([`diff`]); and what a logic probe
+//! would see on its links ([`probe`], [`capture`]). This is what it is made of.
 //!
 //! ```
 //! let mut lines = Vec::new();
@@ -17,6 +18,7 @@
 
 mod answer;
 mod call;
+pub mod capture;
 pub mod diff;
 pub mod draw;
 mod facts;
@@ -25,6 +27,7 @@ pub mod matrix;
 mod names;
 mod parse;
 mod play;
+pub mod probe;
 pub mod question;
 mod rounds;
 pub mod route;

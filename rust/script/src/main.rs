@@ -1,6 +1,8 @@
 //! The command `bench`: runs and checks scripts of calls on the proved bench, and says what the
 //! network is like that they leave.
 
+mod probing;
+
 use std::ffi::OsString;
 use std::fmt::Write as _;
 use std::io::{self, ErrorKind, Write};
@@ -10,7 +12,7 @@ use std::process::ExitCode;
 use bench::Bench;
 use script::matrix::{self, Matrix};
 use script::question::{read_door, Door, Question};
-use script::{diff, draw, route, show, source, Expected, Fault, Made, FORMS};
+use script::{capture, diff, draw, probe, route, show, source, Expected, Fault, Made, FORMS};
 
 const USAGE: &str = "\
 usage: bench run FILE
@@ -20,6 +22,11 @@ usage: bench run FILE
        bench matrix [--csv] FILE [CHANNEL [NETWORK]]
        bench draw FILE
        bench diff BEFORE AFTER [CHANNEL [NETWORK]]
+       bench probe port|line FILE SLOT PORT|LINK serial|fast
+       bench probe write|read serial|fast
+       bench probe tokens CAPTURE serial|fast WIRE WIRE ..
+       bench probe check FILE
+       bench capture FILE SLOT LINK serial|fast [--vcd]
        bench help [VERB]";
 
 const ABOUT: &str = "\
@@ -36,6 +43,10 @@ bench: makes the calls of a script on the proved bench
   bench draw FILE     prints the network as Graphviz DOT
   bench diff BEFORE AFTER [CHANNEL [NETWORK]]
                       prints what differs between the networks that two scripts leave
+  bench probe port|line|write|read|tokens|check ..
+                      tokens as transitions of a link's wires, and back, for the logic probe
+  bench capture FILE SLOT LINK serial|fast [--vcd]
+                      prints the transitions of all tokens that the run sends over a link
   bench --help        prints this; bench VERB --help, or bench help VERB, says more of a verb
 
 A script has one call a line, CALL, or with what came of it, CALL -> ANSWER # DIGEST. Empty lines
@@ -139,6 +150,8 @@ fn obey(words: &[Word]) -> Ended {
         ["matrix", ..] => ask_all(&words[1..]),
         ["draw", _] => print(&draw::draw(&network(file(1))?)),
         ["diff", _, _, ref door @ ..] => compare(file(1), file(2), door),
+        ["probe", ..] => probing::probe(&words[1..]),
+        ["capture", ..] => probing::capture(&words[1..]),
         _ => Err(complaint(USAGE.to_owned())),
     }
 }
@@ -164,6 +177,8 @@ fn help_for(verb: &str) -> Result<&'static str, Complaint> {
         "matrix" => Ok(matrix::HELP),
         "draw" => Ok(draw::HELP),
         "diff" => Ok(diff::HELP),
+        "probe" => Ok(probe::HELP),
+        "capture" => Ok(capture::HELP),
         _ => Err(complaint(USAGE.to_owned())),
     }
 }

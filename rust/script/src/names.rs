@@ -97,7 +97,8 @@ pub fn tokens(words: impl Iterator<Item = u32>) -> String {
     text
 }
 
-fn token_word(token: Token) -> String {
+/// A token alone: `25` of a header, `42`, `END`.
+pub fn token_word(token: Token) -> String {
     match (token.header, token.kind) {
         (Some(_), _) => format!("{:02X}", token.value),
         (None, Kind::Data) => token.value.to_string(),
