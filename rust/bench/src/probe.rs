@@ -141,7 +141,7 @@ mod standing_in {
             } else {
                 Kind::Data
             };
-            crate::Token::from_word((*word).into()).map(|_| Token::plain(kind, *word as u8))
+            (*word < 0x800).then(|| Token::plain(kind, *word as u8))
         };
         let good: Vec<Token> = tokens.iter().map_while(of).collect();
         let room = if good.len() < tokens.len() {

@@ -12,7 +12,6 @@ use bench::probe::{self, Form, Refused};
 use bench::sizes::{LINKS, PORTS};
 use bench::{Looks, Token};
 
-use crate::names::counted;
 use crate::words::{expected, Expected, Words};
 use recording::{Recording, Unclear};
 
@@ -104,9 +103,13 @@ fn form(words: &mut Words) -> Result<Form, Expected> {
 /// That the board is there, and this place of it.
 pub fn is_there(looks: Looks, asked: Asked, what: &str, most: usize) -> Result<(), String> {
     let Asked { slot, index, .. } = asked;
-    if slot >= looks.nodes() {
-        let boards = counted(looks.nodes(), "board");
-        return Err(format!("no board {slot}: there are {boards}, from 0 on"));
+    match looks.nodes() {
+        1 if slot > 0 => return Err(format!("no board {slot}: there is board 0 alone")),
+        boards if slot >= boards => {
+            let last = boards.saturating_sub(1);
+            return Err(format!("no board {slot}: there are boards 0..{last}"));
+        }
+        _ => (),
     }
     if index >= most {
         let last = most - 1;
