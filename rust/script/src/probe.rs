@@ -169,6 +169,8 @@ pub fn recorded<'a>(file: &'a str, form: Form, wires: &[&str]) -> Result<Recordi
         let what = "each wire under a name of its own";
         return Err(Unclear::Words(expected(what, Some(twice))));
     }
+    // Some programs begin a text with a mark of its order of bytes.
+    let file = file.strip_prefix('\u{feff}').unwrap_or(file);
     // Every VCD has this keyword, and no CSV has.
     match file.contains(vcd::END_OF_NAMES) {
         true => vcd::read(file, wires),

@@ -149,6 +149,8 @@ fn recordings_as_csv() {
     let dressed = dressed.replace("1,0 , , 7", "1,0,7\r\n1 , 0 , 8");
     let dressed = dressed.replace("a,b , 7", "; by hand\r\n\r\n# too\r\nMETA\r\n\"a\", b ,c");
     assert_eq!(recorded(&dressed), read_as("data 0"));
+    let marked = format!("\u{feff}{DATA_0}");
+    assert_eq!(recorded(&marked), read_as("data 0"));
     // Nothing changes, or nothing is there.
     for still in ["a,b\n", "a,b\n1,1\n1,1\n"] {
         assert_eq!(recorded(still), (0, String::new(), String::new()));
