@@ -5,13 +5,12 @@ mod vcd;
 use std::io;
 
 use bench::probe::{self, Form, Refused};
-use bench::{Bench, Hop, LinkEnd, Looks, Stepped};
+use bench::{Bench, Hop, LinkEnd, Looks, StepRecord, Stepped};
 
 use crate::answer::Answer;
 use crate::call::Call;
 use crate::host::{Host, Made};
-use crate::parse::parse;
-use crate::play::Fault;
+use crate::play::{run, Fault};
 use crate::probe::{text, words_of};
 
 pub const HELP: &str = "\
@@ -42,16 +41,27 @@ pub fn sent(
     end: LinkEnd,
     mut tell: impl FnMut(&Made) -> io::Result<()>,
 ) -> Result<(Vec<u16>, Host), Fault> {
+    let mut calls = Vec::new();
+    let host = run(script, |made| {
+        tell(made)?;
+        calls.push(made.call.clone());
+        Ok(())
+    })?;
+    Ok((seen(calls, end), host))
+}
+
+/// What calls send, which are made once more: a token is seen in the state before the Step that moves
+/// it.
+fn seen(calls: Vec<Call>, end: LinkEnd) -> Vec<u16> {
     let mut seen = Seen {
         host: Host::default(),
         end,
         sent: Vec::new(),
     };
-    for line in parse(script).map_err(Fault::BadLine)? {
-        let made = seen.make(line.number, line.call);
-        tell(&made).map_err(Fault::Untold)?;
+    for call in calls {
+        seen.make(call);
     }
-    Ok((words_of(seen.sent.into_iter()), seen.host))
+    words_of(seen.sent.into_iter())
 }
 
 /// A network whose calls are seen by someone who stands at one end of a cable.
@@ -62,44 +72,30 @@ struct Seen {
 }
 
 impl Seen {
-    fn make(&mut self, line: usize, call: Call) -> Made {
-        match call {
-            Call::Step { slot, port } => {
-                let leaving = self.leaving(self.host.looks(), slot, port);
-                let made = self.host.make(line, call);
-                if made.found.answer == Answer::Moved {
-                    self.sent.extend(leaving);
-                }
-                made
-            }
-            Call::Steps { .. } => self.make_list(line, call),
-            Call::Fresh { .. } | Call::Blank { .. } => {
-                let made = self.host.make(line, call);
-                if made.found.answer == Answer::Done {
-                    self.sent.clear();
-                }
-                made
-            }
-            _ => self.host.make(line, call),
+    fn make(&mut self, call: Call) {
+        let leaving = match call {
+            Call::Step { slot, port } => self.leaving(self.host.looks(), slot, port),
+            _ => None,
+        };
+        let is_start = matches!(call, Call::Fresh { .. } | Call::Blank { .. });
+        let before = matches!(call, Call::Steps { .. }).then(|| self.host.copy());
+        let made = self.host.make(0, call);
+        match (made.found.answer, made.call) {
+            (Answer::Moved, _) => self.sent.extend(leaving),
+            (Answer::Done, _) if is_start => self.sent.clear(),
+            (Answer::Results(_), Call::Steps { list, .. }) => self.list(before, &list),
+            _ => (),
         }
     }
 
     /// A list is seen as its Steps, which are made one by one on a copy.
-    fn make_list(&mut self, line: usize, call: Call) -> Made {
-        let mut copy = self.host.copy();
-        let made = self.host.make(line, call);
-        if let (Call::Steps { list, .. }, Answer::Results(_)) = (&made.call, &made.found.answer) {
-            for record in list {
-                self.step_of_list(&mut copy, record.slot, record.port);
+    fn list(&mut self, before: Option<Bench>, list: &[StepRecord]) {
+        let Some(mut copy) = before else { return };
+        for StepRecord { slot, port } in list {
+            let leaving = self.leaving(copy.looks(), *slot, *port);
+            if copy.step(*slot, *port) == Ok(Stepped::Moved) {
+                self.sent.extend(leaving);
             }
-        }
-        made
-    }
-
-    fn step_of_list(&mut self, copy: &mut Bench, slot: usize, port: usize) {
-        let leaving = self.leaving(copy.looks(), slot, port);
-        if copy.step(slot, port) == Ok(Stepped::Moved) {
-            self.sent.extend(leaving);
         }
     }
 

@@ -9,10 +9,11 @@ use std::io::{self, ErrorKind, Write};
 use std::path::{Path, PathBuf};
 use std::process::ExitCode;
 
-use bench::{Bench, Looks};
+use bench::Bench;
 use script::matrix::{self, Matrix};
 use script::question::{read_door, Door, Question};
-use script::{capture, diff, draw, probe, route, show, source, Expected, Fault, Made, FORMS};
+use script::{capture, probe};
+use script::{diff, draw, route, show, source, Expected, Fault, Made, FORMS};
 
 const USAGE: &str = "\
 usage: bench run FILE
@@ -259,18 +260,12 @@ fn network(file: &Path) -> Result<Bench, Complaint> {
         Ok(())
     });
     let bench = ran.map_err(|fault| faulty(file, fault))?.copy();
-    is_network(file, bench.looks())?;
-    Ok(bench)
-}
-
-/// That a script leaves a network.
-fn is_network(file: &Path, looks: Looks) -> Result<(), Complaint> {
-    match looks.nodes() {
+    match bench.looks().nodes() {
         0 => Err(complaint(format!(
             "{}: no network: no fresh or blank of it succeeds",
             source::name(file)
         ))),
-        _ => Ok(()),
+        _ => Ok(bench),
     }
 }
 

@@ -8,11 +8,13 @@ pub mod recording;
 pub mod text;
 mod vcd;
 
+use std::convert::Infallible;
+
 use bench::probe::{self, Form, Refused};
 use bench::sizes::{LINKS, PORTS};
 use bench::{Looks, Token};
 
-use crate::words::{expected, Expected, Words};
+use crate::words::{Expected, Words};
 use recording::{Recording, Unclear};
 
 pub const HELP: &str = "\
@@ -100,10 +102,19 @@ fn form(words: &mut Words) -> Result<Form, Expected> {
     })
 }
 
+/// The complaint that something else was expected than this word, or than nothing.
+fn unmet(what: &str, found: &str) -> Expected {
+    match Words::of(found).meaning(what, |_| None::<Infallible>) {
+        Err(expected) => expected,
+        Ok(never) => match never {},
+    }
+}
+
 /// That the board is there, and this place of it.
 pub fn is_there(looks: Looks, asked: Asked, what: &str, most: usize) -> Result<(), String> {
     let Asked { slot, index, .. } = asked;
     match looks.nodes() {
+        0 => return Err("no network: no fresh or blank of it succeeds".to_owned()),
         1 if slot > 0 => return Err(format!("no board {slot}: there is board 0 alone")),
         boards if slot >= boards => {
             let last = boards.saturating_sub(1);
@@ -163,11 +174,11 @@ pub fn recorded<'a>(file: &'a str, form: Form, wires: &[&str]) -> Result<Recordi
     if wires.len() != form.wires() {
         let what = format!("{} wires for {}", form.wires(), form.name());
         let found = wires.len().to_string();
-        return Err(Unclear::Words(expected(&what, Some(&found))));
+        return Err(Unclear::Words(unmet(&what, &found)));
     }
     if let Some(twice) = named_twice(wires) {
         let what = "each wire under a name of its own";
-        return Err(Unclear::Words(expected(what, Some(twice))));
+        return Err(Unclear::Words(unmet(what, twice)));
     }
     // Some programs begin a text with a mark of its order of bytes.
     let file = file.strip_prefix('\u{feff}').unwrap_or(file);

@@ -11,8 +11,7 @@ use script::probe::{self, check, text, Asked};
 use script::{capture as captured, source, Expected};
 
 use crate::{
-    complaint, faulty, is_network, network, print, read, say_what_fails, unasked, Complaint, Ended,
-    Word, USAGE,
+    complaint, faulty, network, print, read, say_what_fails, unasked, Complaint, Ended, Word, USAGE,
 };
 
 /// What a place of a network holds, or why it cannot be said.
@@ -119,7 +118,6 @@ pub fn capture(words: &[Word]) -> Ended {
         Ok(())
     });
     let (sent, host) = sent.map_err(|fault| faulty(file, fault))?;
-    is_network(file, host.looks())?;
     let there = probe::is_there(host.looks(), asked, "link", LINKS);
     there.map_err(|why| complaint(format!("{name}: {why}")))?;
     let printed = captured::printed(asked.form, end, &sent, !options.is_empty());

@@ -517,12 +517,12 @@ fn what_is_not_asked() {
     let bad = file_of("jump\n");
     let port = |slot, port, form| ["probe", "port", &script, slot, port, form];
     let cases: [(&[&str], &str); 19] = [
-        (&["probe"], "usage: bench run FILE"),
-        (&["probe", "dance"], "usage: bench run FILE"),
-        (&["probe", "write"], "usage: bench run FILE"),
-        (&["probe", "write", "fast", "fast"], "usage: bench run FILE"),
-        (&["probe", "check"], "usage: bench run FILE"),
-        (&["capture"], "usage: bench run FILE"),
+        (&["probe"], "usage: bench "),
+        (&["probe", "dance"], "usage: bench "),
+        (&["probe", "write"], "usage: bench "),
+        (&["probe", "write", "fast", "fast"], "usage: bench "),
+        (&["probe", "check"], "usage: bench "),
+        (&["capture"], "usage: bench "),
         (
             &["probe", "write", "quick"],
             "expected serial or fast, found quick",

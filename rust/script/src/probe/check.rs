@@ -6,15 +6,15 @@ use std::fmt;
 use bench::probe::{self, Form, Refused};
 
 use super::text::{digits, read_digits, read_tokens, tokens};
-use crate::words::{expected, Expected, Words};
-use crate::BadLine;
+use super::unmet;
+use crate::words::{Expected, Words};
 
 /// Why a file was not checked to its end.
 #[derive(Clone, Debug, PartialEq, Eq)]
 #[non_exhaustive]
 pub enum Fault {
-    /// A line that is not of the form, or the first one, which names no form.
-    BadLine(BadLine),
+    /// A line that is none, or the first one, which names no form.
+    Line { line: usize, expected: Expected },
     /// A line that states something else than was found.
     Differs {
         line: usize,
@@ -29,7 +29,7 @@ impl Fault {
     pub fn exit_status(&self) -> u8 {
         match self {
             Fault::Differs { .. } => 1,
-            Fault::BadLine(_) => 2,
+            Fault::Line { .. } => 2,
         }
     }
 }
@@ -37,7 +37,7 @@ impl Fault {
 impl fmt::Display for Fault {
     fn fmt(&self, f: &mut fmt::Formatter<'_>) -> fmt::Result {
         match self {
-            Fault::BadLine(bad) => write!(f, "{bad}"),
+            Fault::Line { line, expected } => write!(f, "line {line}: {expected}"),
             Fault::Differs {
                 line,
                 asked,
@@ -90,9 +90,9 @@ impl fmt::Display for Outcome {
 pub fn check(file: &str) -> Result<usize, Fault> {
     let numbered = (1..).zip(file.lines().map(str::trim));
     let mut lines = numbered.filter(|(_, line)| !line.is_empty() && !line.starts_with("//"));
-    let bad = |line, expected| Fault::BadLine(BadLine { line, expected });
+    let bad = |line, expected| Fault::Line { line, expected };
     let Some((line, first)) = lines.next() else {
-        return Err(bad(1, expected("serial or fast", None)));
+        return Err(bad(1, unmet("serial or fast", "")));
     };
     let form = super::read_form(first).map_err(|expected| bad(line, expected))?;
     let read = |(line, text)| match read_line(text) {
@@ -118,7 +118,7 @@ pub fn check(file: &str) -> Result<usize, Fault> {
 /// `write TOKENS = DIGITS`, `read DIGITS = TOKENS`, or either with a refusal.
 fn read_line(line: &str) -> Result<(Asked, Outcome), Expected> {
     let Some((left, right)) = line.split_once('=') else {
-        return Err(expected("= and what comes of it", None));
+        return Err(unmet("= and what comes of it", ""));
     };
     let (verb, rest) = match left.trim_start().split_once(char::is_whitespace) {
         Some(split) => split,
@@ -133,7 +133,7 @@ fn read_line(line: &str) -> Result<(Asked, Outcome), Expected> {
             Asked::Read(read_digits(rest)?),
             stated(right, |text| read_tokens(text).map(Outcome::Tokens))?,
         )),
-        other => Err(expected("write or read", Some(other))),
+        other => Err(unmet("write or read", other)),
     }
 }
 

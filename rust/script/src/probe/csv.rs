@@ -1,7 +1,7 @@
 //! A recording as CSV: a line an instant, a column a wire.
 
 use super::recording::{Instant, Levels, Recording, Unclear};
-use crate::words::expected;
+use super::unmet;
 
 /// Reads the columns of these names.
 pub fn read<'a>(file: &'a str, names: &[&str]) -> Result<Recording<'a>, Unclear> {
@@ -9,7 +9,7 @@ pub fn read<'a>(file: &'a str, names: &[&str]) -> Result<Recording<'a>, Unclear>
     let mut rows = lines.filter(|(_, line)| !is_comment(line));
     // There are two wires or more: a line without a comma is none of their columns.
     let Some((_, head)) = rows.find(|(_, line)| line.contains(',')) else {
-        let expected = expected("the names of columns", None);
+        let expected = unmet("the names of columns", "");
         return Err(Unclear::Line { line: 1, expected });
     };
     let columns: Vec<&str> = cells(head).collect();
@@ -58,7 +58,7 @@ fn level(cells: &[&str], place: usize, line: usize) -> Result<Option<bool>, Uncl
         Some("0") => Ok(Some(false)),
         Some("1") => Ok(Some(true)),
         found => {
-            let expected = expected("a level 0 or 1", found);
+            let expected = unmet("a level 0 or 1", found.unwrap_or_default());
             Err(Unclear::Line { line, expected })
         }
     }

@@ -2,7 +2,8 @@
 
 use bench::{Kind, Token};
 
-use crate::words::{expected, Expected, Words};
+use super::unmet;
+use crate::words::{Expected, Words};
 
 /// `data 42 control 1 ..`, as the words of unmarked tokens.
 pub fn read_tokens(text: &str) -> Result<Vec<u16>, Expected> {
@@ -47,7 +48,7 @@ pub fn read_digits(text: &str) -> Result<Vec<u8>, Expected> {
             Some(digit) => transitions.push(digit as u8),
             None => {
                 let found = letter.to_string();
-                return Err(expected("a digit, the number of a wire", Some(&found)));
+                return Err(unmet("a digit, the number of a wire", &found));
             }
         }
     }

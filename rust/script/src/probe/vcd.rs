@@ -4,7 +4,7 @@ use std::collections::BTreeMap;
 use std::str::SplitWhitespace;
 
 use super::recording::{Instant, Levels, Recording, Scale, Unclear};
-use crate::words::expected;
+use super::unmet;
 
 /// The keyword that ends the declarations of every VCD.
 pub const END_OF_NAMES: &str = "$enddefinitions";
@@ -30,7 +30,7 @@ impl<'a> Tokens<'a> {
     }
 
     fn unexpected(&self, what: &str, found: Option<&str>) -> Unclear {
-        let (line, expected) = (self.line, expected(what, found));
+        let (line, expected) = (self.line, unmet(what, found.unwrap_or_default()));
         Unclear::Line { line, expected }
     }
 
