@@ -14,26 +14,26 @@ use Rattle.probe.specs.declared.fast.Four.{Four}
 use Rattle.probe.specs.declared.sequence.Sequence.{Sequence}
 use Rattle.probe.proofs.Tables.{at, same, alike}
 
-endOf : ℕ → List ℕ
+unfoldable pub endOf : ℕ → List ℕ
 endOf s = escape ∷ escape ∷ lowestTwo s / 4 ∷ lowestTwo s % 4 ∷ []
 
-pauseOf : ℕ → List ℕ
+unfoldable pub pauseOf : ℕ → List ℕ
 pauseOf s = lowestTwo s / 4 ∷ lowestTwo s % 4 ∷ escape ∷ escape ∷ []
 
-returnOf : ℕ → List ℕ
+unfoldable pub returnOf : ℕ → List ℕ
 returnOf s =
     pick (ltb (alone s) 4) (escape ∷ 3 ∷ 3 ∷ alone s ∷ []) (escape ∷ lowestTwo s / 4 ∷ lowestTwo s % 4 ∷ escape ∷ [])
 
 module _ (s : ℕ) (h : s < 32) where
-  pub end-least : escape ∷ escape ∷ lowestTwo s / 4 ∷ lowestTwo s % 4 ∷ [] ≡ leastOf s endForms
+  pub end-least : endOf s ≡ leastOf s endForms
   unfolding all changed after high leastOf endOf
   end-least = alike (endOf s) (leastOf s endForms) (at 32 (λ s. same (endOf s) (leastOf s endForms)) refl s h)
 
-  pub pause-least : lowestTwo s / 4 ∷ lowestTwo s % 4 ∷ escape ∷ escape ∷ [] ≡ leastOf s pauseForms
+  pub pause-least : pauseOf s ≡ leastOf s pauseForms
   unfolding all changed after high leastOf pauseOf
   pause-least = alike (pauseOf s) (leastOf s pauseForms) (at 32 (λ s. same (pauseOf s) (leastOf s pauseForms)) refl s h)
 
-  return-least : returnOf s ≡ leastOf s returnForms
+  pub return-least : returnOf s ≡ leastOf s returnForms
   unfolding all first changed after high leastOf alone returnOf
   return-least = alike (returnOf s) (leastOf s returnForms) (at 32 (λ s. same (returnOf s) (leastOf s returnForms)) refl s h)
 

@@ -62,8 +62,8 @@ module _ (F : Form) (xs : List ℕ) where
   gathered-grows zero i h = let q : i ≡ 0 = omega arith in rw q (omega arith)
   gathered-grows (suc m) i h =
       ⊎-elim
-      (λ l. rw length-append (omega (arith, gathered-grows m i (omega arith))))
-      (λ l. let q : i ≡ suc m = omega arith in rw q (omega arith))
+      (λ (l : i < suc m). rw length-append (omega (arith, gathered-grows m i (omega arith))))
+      (λ (l : suc m ≤ i). let q : i ≡ suc m = omega arith in rw q (omega arith))
       (order i (suc m))
 
   pub gathered-more : (i n : ℕ) (s : Said) → n ≡ length (gathered F xs i) → s ≡ saidAt F xs i → n + length (tokensIn s) ≡ length (gathered F xs (i + 1))

@@ -46,8 +46,8 @@ module _ (F : Form) (ts : List ℕ) where
   written-grows zero i h = let q : i ≡ 0 = omega arith in rw q (omega arith)
   written-grows (suc m) i h =
       ⊎-elim
-      (λ l. rw length-append (omega (arith, written-grows m i (omega arith))))
-      (λ l. let q : i ≡ suc m = omega arith in rw q (omega arith))
+      (λ (l : i < suc m). rw length-append (omega (arith, written-grows m i (omega arith))))
+      (λ (l : suc m ≤ i). let q : i ≡ suc m = omega arith in rw q (omega arith))
       (order i (suc m))
 
   -- the state of a loop before the i-th token

@@ -1,12 +1,10 @@
 -- What the serial and the fast link share (002, 4.2 and 4.3): tokens go as sequences of transitions, all of one width, each of which says
 -- something by itself.
-use Prim.Native.Nat.{ℕ, zero, suc, _*_, _/_, _%_, _<_}
-use mathlib.Core.Path.{_≡_}
+use Prim.Native.Nat.{ℕ, zero, suc, _*_, _/_, _%_}
 use mathlib.Core.Bool.{Bool, true, false, not, _&&_}
-use mathlib.Core.Logic.{_⊎_}
 use mathlib.Core.List.{List, [], _∷_, _++_}
 use lib.Dec.{ltb}
-use lib.ListN.{length, getD, take, drop}
+use lib.ListN.{length, getD}
 use Rattle.laws.specs.All.{first}
 use Rattle.laws.specs.Row.{row}
 use Rattle.probe.specs.Wires.{low, after}
@@ -72,14 +70,3 @@ tokens F xs = gathered F xs (whole F xs)
 -- which is the first whole sequence of no meaning, their number where each has one
 unfoldable pub firstMeaningless : Form → List ℕ → ℕ
 firstMeaningless F xs = first (whole F xs) (λ i. meaningless (saidAt F xs i))
-
--- THE TWO FACTS OF A FORM. What is written of a token is one sequence, or that and a return
-pub record Tells (F : Form) (t : ℕ) (q : List ℕ) : Type 0 where
-  pub long : (length q ≡ F .width) ⊎ ((length q ≡ F .width * 2) × (F .says (drop (F .width) q) ≡ Return))
-  pub said : F .says (take (F .width) q) ≡ Token t
-
-pub record Faithful (F : Form) : Type 0 where
-  -- a sequence has transitions
-  pub wide : 0 < F .width
-  -- a token that can be written is what is said of it, from every state of the wires
-  pub tells : (s t : ℕ) → s < 32 → t < 512 → F .writes t ≡ true → Tells F t (F .one s t)

@@ -6,4 +6,6 @@ pub mod Serial
 pub mod Fast
 pub mod Answer
 pub mod Calls
+pub mod Facts
+pub mod Examples
 pub mod Needs

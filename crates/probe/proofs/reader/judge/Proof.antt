@@ -11,7 +11,7 @@ use Rattle.laws.proofs.All.{none-more}
 use Rattle.probe.specs.Form.{meaningless, saidAt, gathered}
 use Rattle.probe.specs.Calls.{formOf}
 use Rattle.probe.proofs.Reading.{inside, is-whole, is-said, gathered-none, gathered-few, gathered-more, judged-bad, judged-cut, judged-whole, one-token}
-use Rattle.probe.proofs.Widths.{wide}
+use Rattle.probe.proofs.Faithfuls.{faithful}
 use Rattle.probe.proofs.reader.judge.Statement.{statement}
 use Rattle.probe.proofs.reader.judge.Tie as tie
 
@@ -23,7 +23,7 @@ abbrev μ-loop : tie.MeasureT-loop
 μ-loop mode capture k whole n₀ i₀ n i = whole - i
 
 div-whole : tie.Need-div-whole Inv-loop μ-loop
-div-whole c = rw (c .width .ensures) (wide (c .before .before .args .mode))
+div-whole c = rw (c .width .ensures) (faithful (c .before .before .args .mode) .wide)
 
 loop-holds : tie.Need-loop-holds Inv-loop μ-loop
 loop-holds c =
@@ -103,7 +103,7 @@ loop-again c =
     )
 
 rem-if2 : tie.Need-rem-if2 Inv-loop μ-loop
-rem-if2 c = rw (c .before .before .width .ensures) (wide (c .before .before .before .before .args .mode))
+rem-if2 c = rw (c .before .before .width .ensures) (faithful (c .before .before .before .before .args .mode) .wide)
 
 returns-2 : tie.Need-returns-2 Inv-loop μ-loop
 returns-2 c =
