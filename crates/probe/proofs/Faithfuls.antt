@@ -24,6 +24,7 @@ use Rattle.probe.specs.declared.form.Mode.the-variants.{Serial, Fast}
 use Rattle.probe.specs.declared.sequence.Said.{Said}
 use Rattle.probe.specs.declared.sequence.Said.the-variants.{Token, Return, Nothing}
 use Rattle.probe.proofs.Tables.{at}
+use Rattle.probe.proofs.Reading.{wide}
 
 -- what a sequence says, as tests
 abbrev isToken : Said → ℕ → Bool
@@ -70,7 +71,7 @@ pub serial-faithful : Faithful serial
 unfolding serial
 serial-faithful =
     record {
-      wide = omega arith;
+      wide = wide Serial;
       tells = λ s t hs ht w. tested serial t (serialOne t) (at 512 (λ t. tellsTest serial t (serialOne t)) serial-tested t ht);
     }
 
@@ -105,7 +106,7 @@ fast-tells s t hs ht w =
 
 pub fast-faithful : Faithful fast
 unfolding fast
-fast-faithful = record { wide = omega arith; tells = λ s t hs ht w. fast-tells s t hs ht (ltb-true t 508 w) }
+fast-faithful = record { wide = wide Fast; tells = λ s t hs ht w. fast-tells s t hs ht (ltb-true t 508 w) }
 
 pub faithful : (m : Mode) → Faithful (formOf m)
 faithful Serial = serial-faithful

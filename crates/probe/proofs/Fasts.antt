@@ -1,5 +1,5 @@
 -- The four transitions that the code reads, as the definition reads them off a sequence. Assumes nothing.
-use Prim.Native.Nat.{ℕ, _+_, _<_}
+use Prim.Native.Nat.{ℕ, _+_, _*_, _<_}
 use mathlib.Core.Path.{_≡_}
 use mathlib.Core.Bool.{Bool, true, false, not, _&&_}
 use mathlib.Core.List.{List}
@@ -13,9 +13,19 @@ use Rattle.laws.specs.All.{all}
 use Rattle.laws.specs.Row.{row}
 use Rattle.laws.proofs.All.{below, also}
 use Rattle.laws.proofs.Row.{row-at}
-use Rattle.probe.specs.Fast.{symbolsSay, fastSays}
+use Rattle.probe.specs.Digits.{number}
+use Rattle.probe.specs.Fast.{three, four, symbolsSay, fastSays}
 use Rattle.probe.specs.declared.sequence.Said.{Said}
 use Rattle.probe.specs.declared.sequence.Said.the-variants.{Nothing}
+
+-- the value of three symbols and of four, as the code adds them up
+pub three-is : (k a b c : ℕ) → k + a * 16 + b * 4 + c ≡ k + three a b c
+unfolding number
+three-is k a b c = omega arith
+
+pub four-is : (a b c d : ℕ) → a * 64 + b * 16 + c * 4 + d ≡ four a b c d
+unfolding number
+four-is a b c d = omega arith
 
 -- four symbols that are wires
 abbrev wired : ℕ → ℕ → ℕ → ℕ → Bool

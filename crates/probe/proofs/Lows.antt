@@ -23,15 +23,15 @@ use Rattle.probe.proofs.Writing.{written-next}
 use Rattle.probe.proofs.Faithfuls.{steady}
 
 -- "The two signal wires are both at rest between tokens" (002, 4.2)
-serial-tested : all 512 (λ t. eqb (after low (serialOne t)) low) ≡ true
+rest-tested : all 512 (λ t. eqb (after low (serialOne t)) low) ≡ true
 unfolding all changed after ones serialOne
-serial-tested = refl
+rest-tested = refl
 
 pub at-rest : (ts : List ℕ) (n : ℕ) → after low (written serial ts n) ≡ low
 unfolding written after serial
 at-rest ts zero = refl
 at-rest ts (suc n) =
-    let one = agree 512 (λ t. after low (serialOne t)) (λ t. low) serial-tested (unmarked (getD ts n 0)) (omega arith) in
+    let one = agree 512 (λ t. after low (serialOne t)) (λ t. low) rest-tested (unmarked (getD ts n 0)) (omega arith) in
     after-append (written serial ts n) (serialOne (unmarked (getD ts n 0))) low
     ∙ ap (λ (s : ℕ). after s (serialOne (unmarked (getD ts n 0)))) (at-rest ts n)
     ∙ one

@@ -15,7 +15,11 @@ use Rattle.laws.specs.Row.{row}
 use Rattle.laws.proofs.All.{first-here, first-none}
 use Rattle.laws.proofs.Order.{order, next, by-test, never}
 use Rattle.probe.specs.Form.{Form, whole, saidAt, meaningless, tokensIn, gathered, tokens, firstMeaningless}
-use Rattle.probe.specs.Calls.{Out, out, filled, delivered, reading}
+use Rattle.probe.specs.Serial.{serial}
+use Rattle.probe.specs.Fast.{fast}
+use Rattle.probe.specs.Calls.{formOf, Out, out, filled, delivered, reading}
+use Rattle.probe.specs.declared.form.Mode.{Mode}
+use Rattle.probe.specs.declared.form.Mode.the-variants.{Serial, Fast}
 use Rattle.probe.specs.declared.answer.Answer.the-variants as Answers
 use Rattle.probe.specs.declared.reader.Judged.{Judged}
 use Rattle.probe.specs.Needs.{judged, laidIn}
@@ -23,6 +27,12 @@ use Rattle.probe.specs.declared.reader.Judged.the-variants.{Whole, Bad, 
 use Rattle.probe.specs.declared.sequence.Said.{Said}
 use Rattle.probe.specs.declared.sequence.Said.the-variants.{Token, Return, Nothing}
 use Rattle.probe.proofs.Lays.{lay-behind}
+
+-- a sequence has transitions, in either form
+pub wide : (m : Mode) → 0 < formOf m .width
+unfolding serial fast
+wide Serial = omega arith
+wide Fast = omega arith
 
 -- at most one token a sequence
 pub one-token : (s : Said) → length (tokensIn s) ≤ 1

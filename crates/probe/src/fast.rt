@@ -262,7 +262,7 @@ fn two_values(a: u8, b: u8, c: u8, d: u8) -> Said
         return control_said(0x40 + a * 16 + b * 4 + d);
     }
     if d == ESCAPE {
-        return control_said(a * 16 + b * 4 + c);
+        return control_said(0x00 + a * 16 + b * 4 + c);
     }
     Said::Token((a * 64 + b * 16 + c * 4 + d) as u16)
 }

@@ -1,11 +1,9 @@
 -- `probe::fast::escape_first` meets its contract. Assumes nothing.
-use Prim.Native.Nat.{_+_, _*_}
-use mathlib.Core.Path.{_≡_, ap, _∙_}
-use native.Mathlib.Omega.{arith}
+use mathlib.Core.Path.{ap, _∙_}
 use borrow.Author.Tests.{eq-eqb, ne-eqb}
 use borrow.Author.Needs.{needs}
-use Rattle.probe.specs.Digits.{number}
-use Rattle.probe.specs.Fast.{three, controlSaid}
+use Rattle.probe.specs.Fast.{controlSaid}
+use Rattle.probe.proofs.Fasts.{three-is}
 use Rattle.probe.proofs.fast.escape_first.Statement.{statement}
 use Rattle.probe.proofs.fast.escape_first.Tie as tie
 
@@ -21,14 +19,12 @@ returns-3 c =
     rw (ne-eqb _ _ (second .before .if1 .left), ne-eqb _ _ (second .if2 .left), eq-eqb _ _ (c .if3 .taken))
 
 returns-4 : tie.Need-returns-4
-unfolding number
 returns-4 c =
     let third = c .before in
     let second = third .before in
     let a = second .before .before .args in
-    let value : 0xC0 + a .b * 16 + a .c * 4 + a .d ≡ 0xC0 + three (a .b) (a .c) (a .d) = omega arith in
     rw (ne-eqb _ _ (second .before .if1 .left), ne-eqb _ _ (second .if2 .left), ne-eqb _ _ (third .if3 .left))
-    (c .control-said .ensures ∙ ap controlSaid value)
+    (c .control-said .ensures ∙ ap controlSaid (three-is _ (a .b) (a .c) (a .d)))
 
 pub escape-first-spec : {M : Type 1} → statement M
 escape-first-spec =

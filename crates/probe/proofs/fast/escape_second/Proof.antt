@@ -1,11 +1,9 @@
 -- `probe::fast::escape_second` meets its contract. Assumes nothing.
-use Prim.Native.Nat.{_+_, _*_}
-use mathlib.Core.Path.{_≡_, ap, _∙_}
-use native.Mathlib.Omega.{arith}
+use mathlib.Core.Path.{ap, _∙_}
 use borrow.Author.Tests.{eq-eqb, ne-eqb}
 use borrow.Author.Needs.{needs}
-use Rattle.probe.specs.Digits.{number}
-use Rattle.probe.specs.Fast.{three, controlSaid}
+use Rattle.probe.specs.Fast.{controlSaid}
+use Rattle.probe.proofs.Fasts.{three-is}
 use Rattle.probe.proofs.fast.escape_second.Statement.{statement}
 use Rattle.probe.proofs.fast.escape_second.Tie as tie
 
@@ -16,13 +14,11 @@ returns-2 : tie.Need-returns-2
 returns-2 c = rw (ne-eqb _ _ (c .before .if1 .left), eq-eqb _ _ (c .if2 .taken))
 
 returns-3 : tie.Need-returns-3
-unfolding number
 returns-3 c =
     let second = c .before in
     let a = second .before .before .args in
-    let value : 0x80 + a .a * 16 + a .c * 4 + a .d ≡ 0x80 + three (a .a) (a .c) (a .d) = omega arith in
     rw (ne-eqb _ _ (second .before .if1 .left), ne-eqb _ _ (second .if2 .left))
-    (c .control-said .ensures ∙ ap controlSaid value)
+    (c .control-said .ensures ∙ ap controlSaid (three-is _ (a .a) (a .c) (a .d)))
 
 pub escape-second-spec : {M : Type 1} → statement M
 escape-second-spec =

@@ -1,12 +1,10 @@
 -- `probe::fast::two_values` meets its contract. Assumes nothing.
-use Prim.Native.Nat.{_+_, _*_}
-use mathlib.Core.Path.{_≡_, ap, _∙_}
-use native.Mathlib.Omega.{arith}
+use mathlib.Core.Path.{ap, _∙_}
 use borrow.Author.Tests.{eq-eqb, ne-eqb}
 use borrow.Author.Needs.{needs}
-use Rattle.probe.specs.Digits.{number}
-use Rattle.probe.specs.Fast.{three, four, controlSaid}
+use Rattle.probe.specs.Fast.{controlSaid}
 use Rattle.probe.specs.declared.sequence.Said.the-variants.{Token}
+use Rattle.probe.proofs.Fasts.{three-is, four-is}
 use Rattle.probe.proofs.fast.two_values.Statement.{statement}
 use Rattle.probe.proofs.fast.two_values.Tie as tie
 
@@ -14,27 +12,23 @@ returns : tie.Need-returns
 returns c = rw (eq-eqb _ _ (c .before .if1 .taken), eq-eqb _ _ (c .if2 .taken))
 
 returns-2 : tie.Need-returns-2
-unfolding number
 returns-2 c =
     let second = c .before in
     let a = second .before .before .args in
-    let value : 0x40 + a .a * 16 + a .b * 4 + a .d ≡ 0x40 + three (a .a) (a .b) (a .d) = omega arith in
-    rw (eq-eqb _ _ (second .before .if1 .taken), ne-eqb _ _ (second .if2 .left)) (c .control-said .ensures ∙ ap controlSaid value)
+    rw (eq-eqb _ _ (second .before .if1 .taken), ne-eqb _ _ (second .if2 .left))
+    (c .control-said .ensures ∙ ap controlSaid (three-is _ (a .a) (a .b) (a .d)))
 
 returns-3 : tie.Need-returns-3
-unfolding number
 returns-3 c =
     let third = c .before in
     let a = third .before .before .args in
-    let value : a .a * 16 + a .b * 4 + a .c ≡ 0x00 + three (a .a) (a .b) (a .c) = omega arith in
-    rw (ne-eqb _ _ (third .before .if1 .left), eq-eqb _ _ (third .if3 .taken)) (c .control-said2 .ensures ∙ ap controlSaid value)
+    rw (ne-eqb _ _ (third .before .if1 .left), eq-eqb _ _ (third .if3 .taken))
+    (c .control-said2 .ensures ∙ ap controlSaid (three-is _ (a .a) (a .b) (a .c)))
 
 returns-4 : tie.Need-returns-4
-unfolding number
 returns-4 c =
     let a = c .before .before .args in
-    let value : a .a * 64 + a .b * 16 + a .c * 4 + a .d ≡ four (a .a) (a .b) (a .c) (a .d) = omega arith in
-    rw (ne-eqb _ _ (c .before .if1 .left), ne-eqb _ _ (c .if3 .left)) (ap Token value)
+    rw (ne-eqb _ _ (c .before .if1 .left), ne-eqb _ _ (c .if3 .left)) (ap Token (four-is (a .a) (a .b) (a .c) (a .d)))
 
 pub two-values-spec : {M : Type 1} → statement M
 two-values-spec =
@@ -48,6 +42,7 @@ two-values-spec =
     (λ c. search needs)
     (λ c κs. search needs)
     returns-2
+    (λ c. search needs)
     (λ c. search needs)
     (λ c. search needs)
     (λ c. search needs)

@@ -8,8 +8,7 @@ use borrow.Author.Needs.{needs}
 use Rattle.probe.specs.Form.{saidAt, tokensIn, gathered, tokens, whole}
 use Rattle.probe.specs.Calls.{formOf, filled}
 use Rattle.probe.proofs.Lays.{filled-long}
-use Rattle.probe.proofs.Reading.{inside, is-whole, is-said, gathered-none, gathered-grows, gathered-more, lay-next}
-use Rattle.probe.proofs.Faithfuls.{faithful}
+use Rattle.probe.proofs.Reading.{wide, inside, is-whole, is-said, gathered-none, gathered-grows, gathered-more, lay-next}
 use Rattle.probe.proofs.reader.unload.Statement.{statement}
 use Rattle.probe.proofs.reader.unload.Tie as tie
 
@@ -21,7 +20,7 @@ abbrev μ-loop : tie.MeasureT-loop
 μ-loop mode capture buffer₀ k whole at₀ i₀ buffer at i = whole - i
 
 div-whole : tie.Need-div-whole Inv-loop μ-loop
-div-whole c = rw (c .width .ensures) (faithful (c .before .before .before .args .mode) .wide)
+div-whole c = rw (c .width .ensures) (wide (c .before .before .before .args .mode))
 
 loop-holds : tie.Need-loop-holds Inv-loop μ-loop
 loop-holds c =
