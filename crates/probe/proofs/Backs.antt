@@ -16,7 +16,8 @@ use Rattle.laws.specs.Row.{row}
 use Rattle.laws.proofs.All.{first-none, first-least, also, below, as-is}
 use Rattle.laws.proofs.Order.{next, by-test, never}
 use Rattle.probe.specs.Wires.{low, after}
-use Rattle.probe.specs.Form.{Form, unmarked, writable, written, transitions, firstUnwritable, whole, saidAt, meaningless, tokensIn, gathered, firstMeaningless}
+use Rattle.probe.specs.Form.{Form, unmarked, writable, written, transitions, firstUnwritable}
+use Rattle.probe.specs.Form.{whole, saidAt, meaningless, tokensIn, gathered, firstMeaningless}
 use Rattle.probe.specs.Calls.{Out, out, filled, delivered, writing, reading}
 use Rattle.probe.specs.Facts.{Tells, Faithful}
 use Rattle.probe.specs.declared.answer.Answer.the-variants.{Filled, Bad, NoSuch}
@@ -113,7 +114,8 @@ module _ (F : Form) (f : Faithful F) (ts : List ℕ) (can : (i : ℕ) → i < le
             let rest : length (drop k q) ≡ k = rw length-drop (omega (arith, two .0)) in
             let first = reads-more F w (take k q) us (s .many) (s .reads) front (rw (tells .said)) in
             let second = reads-more F (w ++ take k q) (drop k q) _ (suc (s .many)) first rest (rw (two .1)) in
-            let parts : (w ++ take k q) ++ drop k q ≡ w ++ q = append-assoc w (take k q) (drop k q) ∙ ap (λ (l : List ℕ). w ++ l) (take-append-drop k q) in
+            let parts : (w ++ take k q) ++ drop k q ≡ w ++ q =
+            append-assoc w (take k q) (drop k q) ∙ ap (λ (l : List ℕ). w ++ l) (take-append-drop k q) in
             rw (parts, tells .said, two .1, append-nil) at second;
       })
       (tells .long)

@@ -1,4 +1,5 @@
--- The forms that END, PAUSE and returns take, state by state, as the code finds them: computed at all 32 states of the wires. Assumes nothing.
+-- The forms that END, PAUSE and returns take, state by state, as the code finds them: computed at all 32 states of the wires. Assumes
+-- nothing.
 use Prim.Native.Nat.{ℕ, _<_, _≤_, _/_, _%_}
 use mathlib.Core.Path.{_≡_, refl}
 use mathlib.Core.Bool.{true, not, _||_}

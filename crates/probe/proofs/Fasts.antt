@@ -46,7 +46,8 @@ module _ (xs : List ℕ) (at : ℕ) where
   read-four : fastSays (row 4 at xs) ≡ pick asked said Nothing
   unfolding fastSays all
   read-four =
-      rw (row-at 4 at 0 xs 0 (omega arith), row-at 4 at 1 xs 0 (omega arith), row-at 4 at 2 xs 0 (omega arith), row-at 4 at 3 xs 0 (omega arith), add-zero at)
+      let here : (j : ℕ) → j < 4 → getD (row 4 at xs) j 0 ≡ getD xs (at + j) 0 = λ j. row-at 4 at j xs 0 in
+      rw (here 0 (omega arith), here 1 (omega arith), here 2 (omega arith), here 3 (omega arith), add-zero at)
 
   pub four-unsaid : not asked ≡ true → Nothing ≡ fastSays (row 4 at xs)
   four-unsaid e = rw (read-four, not-true asked e)

@@ -108,24 +108,23 @@ module _ (F : Form) (xs : List ℕ) (wide : 0 < F .width) where
       ⊎-elim (λ f. never (cc)) (λ f. let g = answers f in never (cc)) (fills (tokens F xs) b))
       (λ d. record { sound = none-bad (ltb-false _ _ h); over = eqb-false _ 0 d }))
 
--- A call fills the buffer, or leaves it as it was
-pub record Filling (b : List ℕ) (o : Out) : Type 0 where
-  pub count : ℕ
-  pub told : o .answer ≡ Filled count
-
-delivered-or-kept : (ys b : List ℕ) → Filling b (delivered ys b) ⊎ (delivered ys b .buffer ≡ b)
+-- What is not Filled leaves the buffer as it was
+delivered-keeps : (ys b : List ℕ) → ((n : ℕ) → delivered ys b .answer ≡ Filled n → ⊥) → delivered ys b .buffer ≡ b
 unfolding delivered
-delivered-or-kept ys b =
-    by-test (leb (length ys) (length b)) (λ e. inl (record { count = length ys; told = rw e })) (λ e. inr (rw e))
+delivered-keeps ys b h = by-test (leb (length ys) (length b)) (λ e. absurd (h (length ys) (rw e))) (λ e. rw e)
 
-pub read-or-kept : (F : Form) (xs b : List ℕ) → Filling b (reading F xs b) ⊎ (reading F xs b .buffer ≡ b)
+pub read-keeps : (F : Form) (xs b : List ℕ) → ((n : ℕ) → reading F xs b .answer ≡ Filled n → ⊥) → reading F xs b .buffer ≡ b
 unfolding reading
-read-or-kept F xs b =
+read-keeps F xs b h =
     by-test (ltb (firstMeaningless F xs) (whole F xs))
-    (λ h. inr (rw h))
-    (λ h. by-test (eqb (length xs % F .width) 0) (λ d. rw (h, d) (delivered-or-kept (tokens F xs) b)) (λ d. inr (rw (h, d))))
+    (λ e. rw e)
+    (λ e. by-test (eqb (length xs % F .width) 0)
+    (λ d. rw (e, d) (delivered-keeps (tokens F xs) b (λ n q. h n (rw (e, d) q))))
+    (λ d. rw (e, d)))
 
-pub written-or-kept : (F : Form) (ts b : List ℕ) → Filling b (writing F ts b) ⊎ (writing F ts b .buffer ≡ b)
+pub write-keeps : (F : Form) (ts b : List ℕ) → ((n : ℕ) → writing F ts b .answer ≡ Filled n → ⊥) → writing F ts b .buffer ≡ b
 unfolding writing
-written-or-kept F ts b =
-    by-test (ltb (firstUnwritable F ts) (length ts)) (λ h. inr (rw h)) (λ h. rw h (delivered-or-kept (transitions F ts) b))
+write-keeps F ts b h =
+    by-test (ltb (firstUnwritable F ts) (length ts))
+    (λ e. rw e)
+    (λ e. rw e (delivered-keeps (transitions F ts) b (λ n q. h n (rw e q))))

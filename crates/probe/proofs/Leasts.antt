@@ -72,19 +72,25 @@ module _ (s : ℕ) (h : s < 32) where
   least-end =
       record {
         among = least-among s endForms (omega arith);
-        none = rw (end-least s h) at (none-better s (endOf s) endForms (at 32 (λ s. each (noBetter s (endOf s)) endForms) ends-tested s h));
+        none =
+            let tested = at 32 (λ s. each (noBetter s (endOf s)) endForms) ends-tested s h in
+            rw (end-least s h) at (none-better s (endOf s) endForms tested);
       }
 
   pub least-pause : Least s pauseForms
   least-pause =
       record {
         among = least-among s pauseForms (omega arith);
-        none = rw (pause-least s h) at (none-better s (pauseOf s) pauseForms (at 32 (λ s. each (noBetter s (pauseOf s)) pauseForms) pauses-tested s h));
+        none =
+            let tested = at 32 (λ s. each (noBetter s (pauseOf s)) pauseForms) pauses-tested s h in
+            rw (pause-least s h) at (none-better s (pauseOf s) pauseForms tested);
       }
 
   pub least-return : Least s returnForms
   least-return =
       record {
         among = least-among s returnForms (omega arith);
-        none = rw (return-least s h) at (none-better s (returnOf s) returnForms (at 32 (λ s. each (noBetter s (returnOf s)) returnForms) returns-tested s h));
+        none =
+            let tested = at 32 (λ s. each (noBetter s (returnOf s)) returnForms) returns-tested s h in
+            rw (return-least s h) at (none-better s (returnOf s) returnForms tested);
       }

@@ -87,7 +87,8 @@ each-at (x ∷ q) e (suc i) h = each-at q (e .1) i (omega arith)
 pub parity : (q : List ℕ) → length q ≡ 10 → Each (λ x. x < 2) q → Means (not (meaningless (serialSays q))) (after low q ≡ low)
 unfolding serialSays
 parity q d e =
-    let bits : all 10 (λ i. ltb (getD q i 0) 2) ≡ true = each 10 (λ i. ltb (getD q i 0) 2) (λ i. below (getD q i 0) 2) .back (λ i h. each-at q e i (omega arith)) in
+    let bits : all 10 (λ i. ltb (getD q i 0) 2) ≡ true =
+    each 10 (λ i. ltb (getD q i 0) 2) (λ i. below (getD q i 0) 2) .back (λ i h. each-at q e i (omega arith)) in
     by-test (eqb (ones 10 q % 2) 0)
     (λ h. rw (bits, h) (record { sure = λ z. even-low q d e .sure h; back = λ z. refl }))
     (λ h. rw (bits, h) (record { sure = λ z. clash (sym z); back = λ z. clash (sym (even-low q d e .back z) ∙ h) }))

@@ -76,7 +76,10 @@ module _ (F : Form) (xs : List ℕ) where
       (λ (l : suc m ≤ i). let q : i ≡ suc m = omega arith in rw q (omega arith))
       (order i (suc m))
 
-  pub gathered-more : (i n : ℕ) (s : Said) → n ≡ length (gathered F xs i) → s ≡ saidAt F xs i → n + length (tokensIn s) ≡ length (gathered F xs (i + 1))
+  pub gathered-more : (i n : ℕ) (s : Said)
+      → n ≡ length (gathered F xs i)
+      → s ≡ saidAt F xs i
+      → n + length (tokensIn s) ≡ length (gathered F xs (i + 1))
   gathered-more i n s e d = rw (gathered-next, length-append, e, d)
 
   -- a buffer with the tokens so far in front takes what the i-th sequence says

@@ -39,7 +39,14 @@ module _ (xs : List ℕ) (place : ℕ) where
   pub sofar-none : Sofar 0 0 0
   unfolding number ones
   sofar-none =
-      record { inside = omega arith; value = refl; parity = refl; binary = all-none (λ j. ltb (getD q j 0) 2); few = omega arith; small = omega arith }
+      record {
+        inside = omega arith;
+        value = refl;
+        parity = refl;
+        binary = all-none (λ j. ltb (getD q j 0) 2);
+        few = omega arith;
+        small = omega arith;
+      }
 
   module _ (i bits sum : ℕ) (s : Sofar i bits sum) where
     pub few-bits : i < 10 → bits < 512

@@ -27,8 +27,8 @@ pub const FIRST_RETURN: u16 = 0x01FC;
 
 const ESCAPE: u8 = 4;
 
-// The words of CREDIT8, CREDIT64, HELLO and CREDIT16, in the order of their values.
-const LINK_LEVEL: [u16; 4] = [0x01E0, 0x01E1, 0x01E6, 0x01E4];
+// CREDIT8, CREDIT64, HELLO and CREDIT16, in the order of their values.
+const LINK_LEVEL: [u8; 4] = [0xE0, 0xE1, 0xE6, 0xE4];
 
 // For each set of high data wires the two to change, 4 times the first and the second: the two lowest, or wire 0 twice.
 const PAIRS: [u8; 16] = [0, 0, 0, 1, 0, 2, 6, 1, 0, 3, 7, 1, 11, 2, 6, 1];
@@ -216,7 +216,7 @@ fn link_said(b: u8, d: u8) -> Said
         return Said::Nothing;
     }
     let i = b as usize;
-    Said::Token(LINK_LEVEL[i])
+    Said::Token(of_control(LINK_LEVEL[i]))
 }
 
 // Escape, ..

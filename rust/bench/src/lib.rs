@@ -9,6 +9,8 @@
 //!   answered;
 //! * [`Looks`]: the state of a network, read through the proved looks alone, with its
 //!   [digest](Looks::digest);
+//! * [`Probed`]: what writing tokens as wire transitions, or reading a capture of them, answered
+//!   ([`raw::write_fast`] and its like);
 //! * [`raw`]: each proved function over the caller's own slices, of any length and contents;
 //! * [`Refusal`]: the paper's numbers for no, with their names.
 
@@ -18,6 +20,7 @@ mod digest;
 mod list;
 mod looks;
 mod network;
+mod probe;
 mod proved;
 pub mod raw;
 mod records;
@@ -30,6 +33,7 @@ pub use clause::Clause;
 pub use list::{StepRecord, StepResult};
 pub use looks::Looks;
 pub use network::{Bench, LinkEnd, Setting};
+pub use probe::Probed;
 pub use records::{
     ChannelEnd, Circuit, ControlUnit, Destination, Hop, Line, Link, Node, Peer, Port, TileLink,
 };

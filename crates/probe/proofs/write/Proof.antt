@@ -16,17 +16,19 @@ returns : tie.Need-returns
 returns c =
     let asked = c .before in
     let a = asked .before .before .before .args in
-    wrote-bad (formOf (a .mode)) (a .tokens .now) (a .buffer .now) (asked .first-unwritable .result) (asked .first-unwritable .ensures) (c .if1 .taken)
+    let first = asked .first-unwritable in
+    wrote-bad (formOf (a .mode)) (a .tokens .now) (a .buffer .now) (first .result) (first .ensures) (c .if1 .taken)
 
 returns-2 : tie.Need-returns-2
 returns-2 c =
     let found = c .before .before in
     let asked = found .before .before in
     let a = asked .before .before .before .args in
+    let first = asked .first-unwritable in
     let ys = transitions (formOf (a .mode)) (a .tokens .now) in
     let short = measured-over (length ys) (length (a .buffer .now)) (sym (found .measure .ensures) ∙ c .enum-told .given .1) in
     delivered-short ys (a .buffer .now) short
-    ∙ wrote (formOf (a .mode)) (a .tokens .now) (a .buffer .now) (asked .first-unwritable .result) (asked .first-unwritable .ensures) (found .before .if1 .left)
+    ∙ wrote (formOf (a .mode)) (a .tokens .now) (a .buffer .now) (first .result) (first .ensures) (found .before .if1 .left)
 
 -- what is measured fits
 fits : (c : tie.After-known-told) → let a = c .before .before .before .before .before .before .before .before .args in
@@ -48,10 +50,11 @@ returns-3 c =
     let found = told .before .before .before in
     let asked = found .before .before in
     let a = asked .before .before .before .args in
+    let first = asked .first-unwritable in
     let ys = transitions (formOf (a .mode)) (a .tokens .now) in
     ap (out (Filled (told .before .n .given .0 .0))) (laid .fill .ensures)
     ∙ delivered-whole ys (a .buffer .now) (told .before .n .given .0 .0) (fits told .0) (fits told .1)
-    ∙ wrote (formOf (a .mode)) (a .tokens .now) (a .buffer .now) (asked .first-unwritable .result) (asked .first-unwritable .ensures) (found .before .if1 .left)
+    ∙ wrote (formOf (a .mode)) (a .tokens .now) (a .buffer .now) (first .result) (first .ensures) (found .before .if1 .left)
 
 pub write-spec : {M : Type 1} → statement M
 write-spec =

@@ -11,13 +11,15 @@ returns : tie.Need-returns
 returns c =
     let chosen = c .before in
     let s = chosen .before .before .args .wires in
-    rw (chosen .before .if1 .taken) (is-closed (c .closed .result) s (chosen .ending .result) endForms (chosen .ending .ensures) (c .closed .ensures))
+    rw (chosen .before .if1 .taken)
+    (is-closed (c .closed .result) s (chosen .ending .result) endForms (chosen .ending .ensures) (c .closed .ensures))
 
 returns-2 : tie.Need-returns-2
 returns-2 c =
     let chosen = c .before in
     let s = chosen .before .before .before .args .wires in
-    rw (chosen .before .if2 .taken) (is-closed (c .closed2 .result) s (chosen .pausing .result) pauseForms (chosen .pausing .ensures) (c .closed2 .ensures))
+    rw (chosen .before .if2 .taken)
+    (is-closed (c .closed2 .result) s (chosen .pausing .result) pauseForms (chosen .pausing .ensures) (c .closed2 .ensures))
 
 returns-3 : tie.Need-returns-3
 returns-3 c =

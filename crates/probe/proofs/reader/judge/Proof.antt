@@ -10,7 +10,8 @@ use Rattle.laws.specs.All.{NoneBelow}
 use Rattle.laws.proofs.All.{none-more}
 use Rattle.probe.specs.Form.{meaningless, saidAt, gathered}
 use Rattle.probe.specs.Calls.{formOf}
-use Rattle.probe.proofs.Reading.{wide, inside, is-whole, is-said, gathered-none, gathered-few, gathered-more, judged-bad, judged-cut, judged-whole, one-token}
+use Rattle.probe.proofs.Reading.{wide, inside, is-whole, is-said, gathered-none, gathered-few}
+use Rattle.probe.proofs.Reading.{gathered-more, judged-bad, judged-cut, judged-whole, one-token}
 use Rattle.probe.proofs.reader.judge.Statement.{statement}
 use Rattle.probe.proofs.reader.judge.Tie as tie
 
@@ -35,7 +36,8 @@ lies : (c : tie.In-loop Inv-loop μ-loop) → let a = c .before .before .before 
 lies c =
     let k = c .before .before .width in
     let a = c .before .before .before .before .args in
-    inside (formOf (a .mode)) (a .capture .now) (c .before .loop .i) (k .result) (length (a .capture .now) / k .result) (k .ensures) refl (c .loop-test .taken)
+    let xs = a .capture .now in
+    inside (formOf (a .mode)) xs (c .before .loop .i) (k .result) (length xs / k .result) (k .ensures) refl (c .loop-test .taken)
 
 mul-says : tie.Need-mul-says Inv-loop μ-loop
 mul-says c = record { fits = omega (arith, lies c) }

@@ -3,6 +3,8 @@ use mathlib.Core.Path.{sym, _∙_}
 use native.Mathlib.Nat.{add-zero}
 use native.Mathlib.Omega.{arith}
 use borrow.Author.Needs.{needs}
+use Prim.Native.Nat.{_<_}
+use lib.ListN.{length}
 use Rattle.probe.proofs.Lays.{lay-one, lay-none}
 use Rattle.probe.proofs.reader.lay.Statement.{statement}
 use Rattle.probe.proofs.reader.lay.Tie as tie
@@ -13,7 +15,8 @@ slice-write-buffer c = omega (arith, rw (c .before .said .given .1) at (c .befor
 returns : tie.Need-returns
 returns c =
     let a = c .before .before .before .args in
-    rw (c .before .said .given .1) (omega arith, lay-one (a .buffer .now) (a .at) _ (omega (arith, rw (c .before .said .given .1) at (c .before .before .before .pre))))
+    let inside : a .at < length (a .buffer .now) = slice-write-buffer c in
+    rw (c .before .said .given .1) (omega arith, lay-one (a .buffer .now) (a .at) _ inside)
 
 returns-2 : tie.Need-returns-2
 returns-2 c = let a = c .before .before .args in rw (c .enum-told .given .1) (omega arith, sym (lay-none (a .buffer .now) (a .at)))

@@ -8,7 +8,8 @@ use borrow.Author.Needs.{needs}
 use Rattle.probe.specs.Form.{saidAt, tokensIn, gathered, tokens, whole}
 use Rattle.probe.specs.Calls.{formOf, filled}
 use Rattle.probe.proofs.Lays.{filled-long}
-use Rattle.probe.proofs.Reading.{wide, inside, is-whole, is-said, gathered-none, gathered-grows, gathered-more, lay-next}
+use Rattle.probe.proofs.Reading.{wide, inside, is-whole, is-said, gathered-none, gathered-grows}
+use Rattle.probe.proofs.Reading.{gathered-more, lay-next}
 use Rattle.probe.proofs.reader.unload.Statement.{statement}
 use Rattle.probe.proofs.reader.unload.Tie as tie
 
@@ -34,7 +35,8 @@ lies : (c : tie.In-loop Inv-loop μ-loop) → let a = c .before .before .before 
 lies c =
     let k = c .before .before .width in
     let a = c .before .before .before .before .before .args in
-    inside (formOf (a .mode)) (a .capture .now) (c .before .loop .i) (k .result) (length (a .capture .now) / k .result) (k .ensures) refl (c .loop-test .taken)
+    let xs = a .capture .now in
+    inside (formOf (a .mode)) xs (c .before .loop .i) (k .result) (length xs / k .result) (k .ensures) refl (c .loop-test .taken)
 
 mul-says : tie.Need-mul-says Inv-loop μ-loop
 mul-says c = record { fits = omega (arith, lies c) }
