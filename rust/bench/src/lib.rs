@@ -9,7 +9,8 @@
 //!   answered;
 //! * [`Looks`]: the state of a network, read through the proved looks alone, with its
 //!   [digest](Looks::digest);
-//! * [`probe`]: tokens as transitions of a link's wires, and back;
+//! * [`probe`]: tokens as transitions of a link's wires, and back; [`Probed`] is what its raw form
+//!   ([`raw::write_fast`] and its like) answers;
 //! * [`raw`]: each proved function over the caller's own slices, of any length and contents;
 //! * [`Refusal`]: the paper's numbers for no, with their names.
 
@@ -32,6 +33,7 @@ pub use clause::Clause;
 pub use list::{StepRecord, StepResult};
 pub use looks::Looks;
 pub use network::{Bench, LinkEnd, Setting};
+pub use probe::Probed;
 pub use records::{
     ChannelEnd, Circuit, ControlUnit, Destination, Hop, Line, Link, Node, Peer, Port, TileLink,
 };

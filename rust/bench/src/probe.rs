@@ -19,6 +19,61 @@
 use std::error::Error;
 use std::fmt;
 
+use crate::raw;
+
+/// What writing tokens as transitions, or reading a capture, came to. Every answer but
+/// [`Filled`](Probed::Filled) is a refusal, and has left the buffer as it was.
+#[derive(Clone, Copy, Debug, PartialEq, Eq)]
+pub enum Probed {
+    /// So many words of the buffer were filled, from its start; those behind are as they were.
+    Filled(usize),
+    /// The word, or the sequence that begins, at this place of the list or capture has no form or no
+    /// meaning. Places are counted from 0; a sequence begins at a multiple of 10 or of 4.
+    Bad(usize),
+    /// The capture ends within a sequence.
+    Cut,
+    /// The buffer is too short for the whole result.
+    NoSuch,
+}
+
+impl Probed {
+    /// The answer of a number and of the word that it bears.
+    pub(crate) fn from_crossed(number: u8, value: usize) -> Option<Probed> {
+        match number {
+            0 => Some(Probed::Filled(value)),
+            2 => Some(Probed::NoSuch),
+            14 => Some(Probed::Bad(value)),
+            15 => Some(Probed::Cut),
+            _ => None,
+        }
+    }
+}
+
+impl From<Probed> for Result<usize, Refused> {
+    /// How many, or the refusal.
+    fn from(probed: Probed) -> Result<usize, Refused> {
+        match probed {
+            Probed::Filled(count) => Ok(count),
+            Probed::Bad(place) => Err(Refused::Bad { place }),
+            Probed::Cut => Err(Refused::Cut),
+            Probed::NoSuch => Err(Refused::NoSuch),
+        }
+    }
+}
+
+impl fmt::Display for Probed {
+    fn fmt(&self, to: &mut fmt::Formatter<'_>) -> fmt::Result {
+        match self {
+            Probed::Filled(count) => write!(to, "filled {count}"),
+            Probed::Bad(place) => write!(to, "bad {place}"),
+            Probed::Cut => write!(to, "cut"),
+            Probed::NoSuch => write!(to, "nosuch"),
+        }
+    }
+}
+
+impl Error for Probed {}
+
 /// How a link uses its wires.
 #[derive(Clone, Copy, Debug, PartialEq, Eq, Hash)]
 pub enum Form {
@@ -104,64 +159,19 @@ pub fn read(form: Form, transitions: &[u8]) -> Result<Vec<u16>, Refused> {
 /// Writes tokens into a buffer of your own: how many transitions they took. What stands behind them,
 /// and all of it where nothing is written, stays as it was.
 pub fn write_into(form: Form, tokens: &[u16], out: &mut [u8]) -> Result<usize, Refused> {
-    standing_in::write(form, tokens, out)
+    let write = match form {
+        Form::Serial => raw::write_serial,
+        Form::Fast => raw::write_fast,
+    };
+    write(tokens, out).into()
 }
 
 /// Reads transitions into a buffer of your own: how many tokens they are. What stands behind them, and
 /// all of it where nothing is read, stays as it was.
 pub fn read_into(form: Form, transitions: &[u8], out: &mut [u16]) -> Result<usize, Refused> {
-    standing_in::read(form, transitions, out)
-}
-
-/// The model, until the library has the functions.
-mod standing_in {
-    use super::{Form, Refused};
-    use model::probe as m;
-    use model::tokens::{Kind, Token};
-
-    fn form_of(form: Form) -> m::Form {
-        match form {
-            Form::Serial => m::Form::Serial,
-            Form::Fast => m::Form::Fast,
-        }
-    }
-
-    fn refused(no: m::Refused) -> Refused {
-        match no {
-            m::Refused::Bad(place) => Refused::Bad { place },
-            m::Refused::Cut => Refused::Cut,
-            m::Refused::NoSuch => Refused::NoSuch,
-        }
-    }
-
-    pub fn write(form: Form, tokens: &[u16], out: &mut [u8]) -> Result<usize, Refused> {
-        let of = |word: &u16| {
-            let kind = if word >> 8 & 1 == 1 {
-                Kind::Control
-            } else {
-                Kind::Data
-            };
-            (*word < 0x800).then(|| Token::plain(kind, *word as u8))
-        };
-        let good: Vec<Token> = tokens.iter().map_while(of).collect();
-        let room = if good.len() < tokens.len() {
-            usize::MAX
-        } else {
-            out.len()
-        };
-        let done = m::write(form_of(form), &good, room).map_err(refused)?;
-        if good.len() < tokens.len() {
-            return Err(Refused::Bad { place: good.len() });
-        }
-        out[..done.len()].copy_from_slice(&done);
-        Ok(done.len())
-    }
-
-    pub fn read(form: Form, transitions: &[u8], out: &mut [u16]) -> Result<usize, Refused> {
-        let done = m::read(form_of(form), transitions, out.len()).map_err(refused)?;
-        for (place, token) in done.iter().enumerate() {
-            out[place] = u16::from(token.kind == Kind::Control) << 8 | u16::from(token.value);
-        }
-        Ok(done.len())
-    }
+    let read = match form {
+        Form::Serial => raw::read_serial,
+        Form::Fast => raw::read_fast,
+    };
+    read(transitions, out).into()
 }
