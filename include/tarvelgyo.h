@@ -317,6 +317,37 @@ uint64_t tarvelgyo_port_token(const uint32_t *state, size_t words, const uint16_
 /* The token at place `place` of channel-end `channel_end`, 0..31; place 0 is the oldest. */
 uint64_t tarvelgyo_end_token(const uint32_t *state, size_t words, size_t slot, size_t channel_end, size_t place);
 
+/* ---- the probe ----
+ *
+ * Tokens as transitions on the wires of a link, and a capture read back. A token is a word as a port holds it; its header marks are not
+ * looked at, and a word of 2048 or more is none. A transition is a byte, the number of the wire that changes: 0 or 1 on the serial link, ten
+ * a token; 0..4 on the fast link, four a token and four more where END or PAUSE needs a return. All wires are low at first. No network is
+ * touched: these functions have none of the parameters above.
+ *
+ * Each answers one of these numbers, or TARVELGYO_NO_NO_SUCH where the buffer is too short for the whole result, and stores what it bears.
+ * Every answer but TARVELGYO_PROBE_FILLED leaves the buffer as it was.
+ */
+
+#define TARVELGYO_PROBE_FILLED 0 /* bears how many words were filled; those behind are as they were */
+#define TARVELGYO_PROBE_BAD 14   /* bears the place, counted from 0, of a word without a form or of the start of a sequence without a meaning */
+#define TARVELGYO_PROBE_CUT 15   /* the capture ends within a sequence; bears 0, as TARVELGYO_NO_NO_SUCH does */
+
+/* The tokens of `list`, `count` words, oldest first, as transitions of the serial link into `out` of `room` bytes; what the answer bears
+ * goes to `value`. */
+uint8_t tarvelgyo_write_serial(const uint16_t *list, size_t count, uint8_t *out, size_t room, size_t *value);
+
+/* The tokens of `list`, `count` words, oldest first, as transitions of the fast link into `out` of `room` bytes; what the answer bears goes
+ * to `value`. Control 0xFC..0xFF are the returns, and are not written. */
+uint8_t tarvelgyo_write_fast(const uint16_t *list, size_t count, uint8_t *out, size_t room, size_t *value);
+
+/* The transitions of `capture`, `length` bytes of the serial link, as tokens without header marks into `out` of `room` words; what the
+ * answer bears goes to `value`. */
+uint8_t tarvelgyo_read_serial(const uint8_t *capture, size_t length, uint16_t *out, size_t room, size_t *value);
+
+/* The transitions of `capture`, `length` bytes of the fast link, as tokens without header marks into `out` of `room` words; returns are
+ * passed over, and what the answer bears goes to `value`. */
+uint8_t tarvelgyo_read_fast(const uint8_t *capture, size_t length, uint16_t *out, size_t room, size_t *value);
+
 #ifdef __cplusplus
 }
 #endif

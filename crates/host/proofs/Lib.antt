@@ -4,3 +4,4 @@ pub mod Crosses
 pub mod Told
 pub mod Param
 pub mod Frame
+pub mod Probes

@@ -9,6 +9,8 @@ use Rattle.names.specs.declared.Slot.{Slot}
 use Rattle.answers.specs.Out.{Out}
 use Rattle.answers.specs.Answer.{packed, answerNumber}
 use Rattle.cells.specs.World.{World}
+use Rattle.probe.specs.Answer as Probe
+use Rattle.probe.specs.Calls as Calls
 use Rattle.looks.specs.declared.Seen.{Seen}
 use Rattle.looks.specs.declared.Seen.the-variants.{Token, Nothing}
 
@@ -43,3 +45,15 @@ shown answer buffer = record { answer = answer; buffer = buffer }
 -- a record's words are shown in a buffer that has exactly their number, and any other buffer is left as it is
 unfoldable pub showing : List ℕ → List ℕ → Shown
 showing words buffer = pick (eqb (length buffer) (length words)) (shown true words) (shown false buffer)
+
+-- what comes of a call of the probe: its answer's number, what that bears, and the caller's buffer
+pub record Probing : Type 0 where
+  pub number : ℕ
+  pub value : ℕ
+  pub buffer : List ℕ
+
+abbrev pub probing : ℕ → ℕ → List ℕ → Probing
+probing n v b = record { number = n; value = v; buffer = b }
+
+abbrev pub probed : Calls.Out → Probing
+probed o = probing (Probe.answerNumber (o .answer)) (Probe.answerValue (o .answer)) (o .buffer)

@@ -9,6 +9,8 @@
 //!   answered;
 //! * [`Looks`]: the state of a network, read through the proved looks alone, with its
 //!   [digest](Looks::digest);
+//! * [`probe`]: tokens as transitions of a link's wires, and back; [`Probed`] is what its raw form
+//!   ([`raw::write_fast`] and its like) answers;
 //! * [`raw`]: each proved function over the caller's own slices, of any length and contents;
 //! * [`Refusal`]: the paper's numbers for no, with their names.
 
@@ -18,6 +20,7 @@ mod digest;
 mod list;
 mod looks;
 mod network;
+pub mod probe;
 mod proved;
 pub mod raw;
 mod records;
@@ -30,6 +33,7 @@ pub use clause::Clause;
 pub use list::{StepRecord, StepResult};
 pub use looks::Looks;
 pub use network::{Bench, LinkEnd, Setting};
+pub use probe::Probed;
 pub use records::{
     ChannelEnd, Circuit, ControlUnit, Destination, Hop, Line, Link, Node, Peer, Port, TileLink,
 };

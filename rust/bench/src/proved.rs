@@ -259,4 +259,32 @@ extern "C" {
         channel_end: usize,
         place: usize,
     ) -> u64;
+    pub fn tarvelgyo_write_serial(
+        list: *const u16,
+        count: usize,
+        out: *mut u8,
+        room: usize,
+        value: *mut usize,
+    ) -> u8;
+    pub fn tarvelgyo_write_fast(
+        list: *const u16,
+        count: usize,
+        out: *mut u8,
+        room: usize,
+        value: *mut usize,
+    ) -> u8;
+    pub fn tarvelgyo_read_serial(
+        capture: *const u8,
+        length: usize,
+        out: *mut u16,
+        room: usize,
+        value: *mut usize,
+    ) -> u8;
+    pub fn tarvelgyo_read_fast(
+        capture: *const u8,
+        length: usize,
+        out: *mut u16,
+        room: usize,
+        value: *mut usize,
+    ) -> u8;
 }

@@ -33,6 +33,7 @@
 
 use crate::answer::{parts, Answer};
 use crate::list::{StepRecord, StepResult};
+use crate::probe::Probed;
 use crate::proved;
 
 // SAFETY, of every call below: the slices are borrowed while the call lasts, each goes over with
@@ -610,6 +611,94 @@ pub fn end_token(state: &[u32], slot: usize, channel_end: usize, place: usize) -
     seen(unsafe {
         proved::tarvelgyo_end_token(state.as_ptr(), state.len(), slot, channel_end, place)
     })
+}
+
+/// Tokens, oldest first, as transitions of the serial link (002, 4.2), from both wires low: ten bytes
+/// a token, each the number of the wire that changes, 0 or 1. A token is a word as a port holds it;
+/// its header marks are not looked at, and a word of 2048 or more is none.
+pub fn write_serial(tokens: &[u16], out: &mut [u8]) -> Probed {
+    let mut value = 0;
+    // SAFETY: as said above.
+    let number = unsafe {
+        proved::tarvelgyo_write_serial(
+            tokens.as_ptr(),
+            tokens.len(),
+            out.as_mut_ptr(),
+            out.len(),
+            &mut value,
+        )
+    };
+    probed(number, value)
+}
+
+/// Tokens, oldest first, as transitions of the fast link (002, 4.3), from all wires low: four bytes a
+/// token, each the number of the wire that changes, 0..4, and four more where END or PAUSE needs a
+/// return. The returns themselves, control 0xFC..0xFF, are not written.
+///
+/// ```
+/// use bench::{raw, Probed};
+///
+/// let mut transitions = [9; 16];
+/// assert_eq!(raw::write_fast(&[0x109, 0x101], &mut transitions), Probed::Filled(12));
+/// assert_eq!(transitions, [0, 2, 1, 4, 4, 4, 0, 1, 4, 3, 3, 2, 9, 9, 9, 9]);
+///
+/// let mut tokens = [0; 2];
+/// assert_eq!(raw::read_fast(&transitions[..12], &mut tokens), Probed::Filled(2));
+/// assert_eq!(tokens, [0x109, 0x101]);
+/// assert_eq!(raw::read_fast(&transitions[..13], &mut tokens), Probed::Cut);
+/// assert_eq!(raw::read_fast(&transitions, &mut tokens), Probed::Bad(12));
+/// ```
+pub fn write_fast(tokens: &[u16], out: &mut [u8]) -> Probed {
+    let mut value = 0;
+    // SAFETY: as said above.
+    let number = unsafe {
+        proved::tarvelgyo_write_fast(
+            tokens.as_ptr(),
+            tokens.len(),
+            out.as_mut_ptr(),
+            out.len(),
+            &mut value,
+        )
+    };
+    probed(number, value)
+}
+
+/// Transitions of the serial link as tokens, without header marks.
+pub fn read_serial(capture: &[u8], out: &mut [u16]) -> Probed {
+    let mut value = 0;
+    // SAFETY: as said above.
+    let number = unsafe {
+        proved::tarvelgyo_read_serial(
+            capture.as_ptr(),
+            capture.len(),
+            out.as_mut_ptr(),
+            out.len(),
+            &mut value,
+        )
+    };
+    probed(number, value)
+}
+
+/// Transitions of the fast link as tokens, without header marks; returns are passed over.
+pub fn read_fast(capture: &[u8], out: &mut [u16]) -> Probed {
+    let mut value = 0;
+    // SAFETY: as said above.
+    let number = unsafe {
+        proved::tarvelgyo_read_fast(
+            capture.as_ptr(),
+            capture.len(),
+            out.as_mut_ptr(),
+            out.len(),
+            &mut value,
+        )
+    };
+    probed(number, value)
+}
+
+/// What a call of the probe answered. Every number that the proved functions give stands for one.
+fn probed(number: u8, value: usize) -> Probed {
+    let answer = Probed::from_crossed(number, value);
+    answer.unwrap_or_else(|| unreachable!("no answer crosses as {number}"))
 }
 
 /// What a look at a token found: case 1 carries the token's word, case 0 is nothing.

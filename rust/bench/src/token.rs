@@ -48,4 +48,23 @@ impl Token {
             header,
         })
     }
+
+    /// Its word, which [`Token::from_word`] reads.
+    ///
+    /// ```
+    /// use bench::Token;
+    ///
+    /// for word in (0..0x400).chain(0x600..0x800) {
+    ///     assert_eq!(Token::from_word(word).map(|token| u32::from(token.word())), Some(word));
+    /// }
+    /// ```
+    pub fn word(self) -> u16 {
+        let marks = match self.header {
+            None => 0,
+            Some(Width::One) => 1 << 9,
+            Some(Width::Three) => 3 << 9,
+        };
+        let control = u16::from(self.kind == Kind::Control) << 8;
+        marks | control | u16::from(self.value)
+    }
 }

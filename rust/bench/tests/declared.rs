@@ -60,7 +60,8 @@ fn functions(text: &str, mark: &str, end: &str) -> Functions {
     found
 }
 
-/// What a type crosses as: a slice as two words, its pointer and its length.
+/// What a type crosses as: a slice as two words, its pointer and its length; one word of the caller's
+/// as its pointer.
 fn crossing(kind: &str) -> Vec<String> {
     let kind = kind.trim();
     let slice = |start| {
@@ -72,6 +73,9 @@ fn crossing(kind: &str) -> Vec<String> {
     }
     if let Some(words) = slice("&[") {
         return vec![format!("*const {words}"), "usize".to_owned()];
+    }
+    if let Some(word) = kind.strip_prefix("&mut ") {
+        return vec![format!("*mut {word}")];
     }
     vec![kind.to_owned()]
 }
@@ -125,8 +129,9 @@ fn what_is_declared_is_what_is_exported() {
 /// The pointers that slices cross as. A record behind one has the same fields on both sides
 /// (`the_records_that_cross_are_the_same`).
 #[rustfmt::skip]
-const POINTERS: [&str; 6] = [
+const POINTERS: [&str; 9] = [
     "*mut u32", "*const u32", "*mut u16", "*const u16", "*mut u64", "*const StepRecord",
+    "*mut u8", "*const u8", "*mut usize",
 ];
 
 /// A type that crosses both ways under one name and width, and no other.

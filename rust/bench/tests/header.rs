@@ -222,11 +222,11 @@ fn expected_sizes() -> Vec<(&'static str, usize)> {
 }
 
 /// What document 01 gives numbers to: the sink, control tokens, and the marks of a token's word, which
-/// `Token::from_word` reads.
+/// `Token::from_word` reads; and the answers of the probe that the papers give no number.
 #[rustfmt::skip]
-const GIVEN: [(&str, u64); 13] = [
+const GIVEN: [(&str, u64); 16] = [
     ("SINK", 255), ("END", 1), ("PAUSE", 2), ("ACK", 3), ("NACK", 4), ("WRITEC", 0xC0), ("READC", 0xC1),
-    ("SEEN_NOTHING", 0), ("SEEN_TOKEN", 1),
+    ("SEEN_NOTHING", 0), ("SEEN_TOKEN", 1), ("PROBE_FILLED", 0), ("PROBE_BAD", 14), ("PROBE_CUT", 15),
     ("TOKEN_VALUE", 0xFF), ("TOKEN_CONTROL", 0x100), ("TOKEN_HEADER", 0x200), ("TOKEN_THREE", 0x400),
 ];
 

@@ -11,7 +11,7 @@
 //! at random, [`verdict`] asks both sides whether the same words are sound, and [`damaged`] all that
 //! can be asked of them. [`watch`] stands beside one of the sides, keeps [`books`] of its circuits,
 //! and says where a stream goes wrong. [`soak`] does all of it for one seed, and [`reduce`] makes a
-//! run that differs as short as it can be.
+//! run that differs as short as it can be. [`probe`] holds transitions of a link's wires to the model's.
 
 pub mod asking;
 pub mod books;
@@ -25,6 +25,7 @@ pub mod filling;
 pub mod layout;
 pub mod lists;
 pub mod pair;
+pub mod probe;
 pub mod reached;
 pub mod reading;
 pub mod reduce;

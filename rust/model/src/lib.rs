@@ -13,6 +13,8 @@
 //! The door is [`calls::apply`]: one [`calls::Call`] in, one [`answers::Answer`]
 //! out, for any arguments. [`sound`] is the list "Sound", [`digest`] the digest of
 //! a state, [`script`] the text form of runs, and [`runs`] makes random ones.
+//! [`probe`], which knows tokens alone, writes them as transitions of a link's wires
+//! and reads them back, as Ask 8 has it.
 
 pub mod answers;
 pub mod calls;
@@ -23,6 +25,7 @@ pub mod messages;
 pub mod network;
 pub mod output;
 mod print;
+pub mod probe;
 pub mod random;
 pub mod registers;
 pub mod routing;

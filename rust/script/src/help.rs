@@ -6,7 +6,7 @@ mod manual;
 
 use crate::nearest::nearest;
 use crate::words::printable;
-use crate::{call, diff, draw, expand, matrix, page, people, route, show, tell};
+use crate::{call, capture, diff, draw, expand, matrix, page, people, probe, route, show, tell};
 pub use completion::completion;
 pub use manual::manual;
 
@@ -24,7 +24,7 @@ pub struct Verb {
 }
 
 /// The verbs, as they are listed.
-pub const VERBS: [Verb; 13] = [
+pub const VERBS: [Verb; 15] = [
     Verb {
         name: "tell",
         arguments: "FILE",
@@ -85,6 +85,18 @@ pub const VERBS: [Verb; 13] = [
         arguments: "BEFORE AFTER [CHANNEL [NETWORK]]",
         about: "prints what differs between the networks that two scripts leave",
         help: diff::HELP,
+    },
+    Verb {
+        name: "probe",
+        arguments: "port|line|write|read|tokens|check ..",
+        about: "tokens as transitions of a link's wires, and back, for the logic probe",
+        help: probe::HELP,
+    },
+    Verb {
+        name: "capture",
+        arguments: "FILE SLOT LINK serial|fast [--vcd]",
+        about: "prints the transitions of all tokens that the run sends over a link",
+        help: capture::HELP,
     },
     Verb {
         name: "help",

@@ -7,7 +7,8 @@
 //! The command `bench` runs and checks scripts of either kind, tells a run in words ([`tell`]) and makes a
 //! page of it ([`page`]), and says what the network is like that a script leaves: in words ([`show`]), by
 //! an END that is sent on a copy ([`route`], [`matrix`]), as a picture ([`draw`]) and beside another one
-//! ([`diff`]). This is what it is made of.
+//! ([`diff`]); and what a logic probe would see on its links ([`probe`], [`capture`]). This is what it is
+//! made of.
 //!
 //! ```
 //! let mut lines = Vec::new();
@@ -25,6 +26,7 @@
 mod answer;
 mod boards;
 mod call;
+pub mod capture;
 pub mod diff;
 pub mod draw;
 pub mod expand;
@@ -38,6 +40,7 @@ pub mod page;
 mod parse;
 pub mod people;
 mod play;
+pub mod probe;
 pub mod question;
 mod reader;
 mod rounds;

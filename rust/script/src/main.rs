@@ -1,6 +1,8 @@
 //! The command `bench`: runs and checks scripts of calls on the proved bench, and says what the
 //! network is like that they leave.
 
+mod probing;
+
 use std::ffi::OsString;
 use std::io::{self, ErrorKind, IsTerminal, Write};
 use std::path::{Path, PathBuf};
@@ -79,6 +81,8 @@ fn obey(words: &[Word]) -> Ended {
         ["draw", _] => print(&draw::draw(&network(file(1))?)),
         ["page", _] => page(file(1)),
         ["diff", _, _, ref door @ ..] => compare(file(1), file(2), door),
+        ["probe", ..] => probing::probe(&words[1..]),
+        ["capture", ..] => probing::capture(&words[1..]),
         [verb, ..] => Err(complaint(help::usage_for(verb))),
         [] => Err(complaint(help::usage())),
     }

@@ -128,7 +128,8 @@ pub fn chips(words: impl Iterator<Item = u32>) -> Vec<(&'static str, String)> {
     chips
 }
 
-fn token_word(token: Token) -> String {
+/// A token alone: `25` of a header, `42`, `END`.
+pub fn token_word(token: Token) -> String {
     match (token.header, token.kind) {
         (Some(_), _) => format!("{:02X}", token.value),
         (None, Kind::Data) => token.value.to_string(),

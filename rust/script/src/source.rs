@@ -38,7 +38,16 @@ impl Error for Unread {}
 
 /// Reads a script.
 pub fn read(path: &Path) -> Result<String, Unread> {
-    let bytes = bytes(path).map_err(Unread::File)?;
+    text(bytes(path))
+}
+
+/// Reads what comes in, as from standard input, to its end.
+pub fn read_from(incoming: impl Read) -> Result<String, Unread> {
+    text(limited(incoming))
+}
+
+fn text(bytes: io::Result<Option<Vec<u8>>>) -> Result<String, Unread> {
+    let bytes = bytes.map_err(Unread::File)?;
     let bytes = bytes.ok_or(Unread::TooLong)?;
     String::from_utf8(bytes).map_err(|error| no_text(&error))
 }
@@ -55,8 +64,12 @@ fn bytes(path: &Path) -> io::Result<Option<Vec<u8>>> {
     if file.metadata()?.len() > MOST_BYTES {
         return Ok(None);
     }
+    limited(file)
+}
+
+fn limited(incoming: impl Read) -> io::Result<Option<Vec<u8>>> {
     let mut bytes = Vec::new();
-    file.take(MOST_BYTES + 1).read_to_end(&mut bytes)?;
+    incoming.take(MOST_BYTES + 1).read_to_end(&mut bytes)?;
     Ok((bytes.len() as u64 <= MOST_BYTES).then_some(bytes))
 }
 

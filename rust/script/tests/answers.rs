@@ -425,7 +425,10 @@ fn what_is_no_question_is_named() {
 /// Every verb has its help, which names its form and its exit statuses.
 #[test]
 fn each_verb_has_help() {
-    for verb in ["run", "check", "show", "route", "matrix", "draw", "diff"] {
+    let verbs = [
+        "run", "check", "show", "route", "matrix", "draw", "diff", "probe", "capture",
+    ];
+    for verb in verbs {
         let help = bench(&[verb, "--help"]);
         assert!(help.status.success());
         let said = text(&help.stdout);

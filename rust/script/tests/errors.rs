@@ -2,7 +2,9 @@
 
 use std::error::Error;
 
+use bench::probe::Form;
 use bench::{Bench, Looks, Setting};
+use script::probe::{self, recorded};
 use script::question::Question;
 use script::{check, source, Expected, Fault};
 
@@ -43,6 +45,12 @@ fn each_says_what_it_is() {
     assert_eq!(said[1], "expected a slot, found x");
     assert_eq!(said[2], "no 2, NoSuch");
     assert!(said[3].starts_with("clause 1: "), "{said:?}");
+    let unclear = recorded("a,b\n0,0\n1,1\n", Form::Serial, &["a", "b"]).expect_err("together");
+    assert_eq!(unclear.to_string(), "line 3: a and b change at one instant");
+    let differs = probe::check::check("fast\nread 0214 = cut\n").expect_err("a token");
+    assert!(differs.to_string().starts_with("line 2: "), "{differs}");
     fn is_error<E: Error + Send + Sync + 'static>(_: &E) {}
+    is_error(&unclear);
+    is_error(&differs);
     is_error::<Expected>(&unasked);
 }
