@@ -41,7 +41,7 @@ pub const VERBS: [Verb; 15] = [
         name: "check",
         arguments: "FILE",
         about:
-            "makes the calls and compares with what FILE states; names the first line that differs",
+            "makes the calls and compares with what FILE states, up to the first line that differs",
         help: CHECK,
     },
     Verb {
@@ -101,8 +101,7 @@ pub const VERBS: [Verb; 15] = [
     Verb {
         name: "help",
         arguments: "[VERB]",
-        about:
-            "prints this, as --help does; of a verb all that there is to say, as bench VERB --help",
+        about: "prints this, as --help does; of a verb all there is to say, as VERB --help",
         help: HELP,
     },
     Verb {
