@@ -18,12 +18,14 @@ use crate::words::{Expected, Words};
 use recording::{Recording, Unclear};
 
 pub const HELP: &str = "\
-bench probe port FILE SLOT PORT serial|fast
-bench probe line FILE SLOT LINK serial|fast
-bench probe write serial|fast
-bench probe read serial|fast
-bench probe tokens CAPTURE serial|fast WIRE WIRE ..
-bench probe check FILE
+bench probe port|line|write|read|tokens|check ..: tokens as transitions of a link's wires, and back
+
+  bench probe port FILE SLOT PORT serial|fast
+  bench probe line FILE SLOT LINK serial|fast
+  bench probe write serial|fast
+  bench probe read serial|fast
+  bench probe tokens CAPTURE serial|fast WIRE WIRE ..
+  bench probe check FILE
 
 Tokens as transitions of a link's wires, and back, by the two forms of the maker's papers: serial, two
 wires and ten transitions a token; fast, five wires and four transitions a sequence. A transition is a
@@ -50,8 +52,9 @@ then nothing is printed.
 In a VCD a wire is a variable of one bit, NAME or SCOPE.NAME. What stands at time 0, or before the first
 time, is where the wires start; a wire that is not there starts low. A CSV has its columns' names in its
 first line that has a comma, but for lines that begin with ; or #, and then an instant a line, a level 0
-or 1 for each wire; a column whose name begins with Time has the instant's. Of a level that a wire starts with nothing is asked. Two
-wires that change at one instant are refused with the time: nobody knows which was first.
+or 1 for each wire; a column whose name begins with Time has the instant's. Of a level that a wire
+starts with nothing is asked. Two wires that change at one instant are refused with the time: nobody
+knows which was first.
 
 FILE of check has serial or fast on its first line. The others are, with // and empty lines between:
 

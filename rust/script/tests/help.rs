@@ -44,11 +44,9 @@ fn the_front_page_has_every_verb() {
     let readme = std::fs::read_to_string(path).expect("README.md");
     let of_scripts = VERBS.iter().filter(|verb| !verb.arguments.is_empty());
     for verb in of_scripts.filter(|verb| verb.name != "help") {
-        assert!(
-            readme.contains(&format!("\n| `./{}", verb.usage())),
-            "{}",
-            verb.name
-        );
+        // A bar parts the cells of a row, so it is escaped there.
+        let typed = verb.usage().replace('|', "\\|");
+        assert!(readme.contains(&format!("\n| `./{typed}")), "{typed}");
     }
 }
 
@@ -197,4 +195,9 @@ fn completion_goes_by_the_place() {
         ["control"]
     );
     assert_eq!(completed(&["run", "ring.txt", "half"]), [""; 0]);
+    assert_eq!(completed(&["probe", "t"]), ["tokens"]);
+    assert_eq!(
+        completed(&["capture", "ring.txt", "0", "0", ""]),
+        ["serial", "fast"]
+    );
 }

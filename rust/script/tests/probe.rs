@@ -563,7 +563,7 @@ fn what_is_not_asked() {
         ),
         (
             &["capture", &bad, "0", "0", "fast"],
-            "line 1: expected fresh, blank,",
+            "line 1, column 1: expected fresh, blank,",
         ),
         (&["probe", "check", "no-such-file"], "No such file"),
     ];

@@ -7,7 +7,7 @@ bench completion: prints what completes the command's words in bash
 
   source <(./bench completion)
 
-Verbs, options and files are completed, and `control` where a channel is asked for.
+Verbs, options, files and words to choose from are completed, and `control` where a channel is asked for.
 
 Exit status: 0 printed.
 ";
@@ -25,6 +25,7 @@ fn kinds(verb: &Verb) -> String {
     let words = verb.arguments.split_whitespace();
     let words = words.map(|word| word.trim_matches(['[', ']']));
     let (options, kinds): (Vec<&str>, Vec<&str>) = words.partition(|word| word.starts_with('-'));
+    let kinds: Vec<String> = kinds.iter().map(|kind| format!("'{kind}'")).collect();
     let (name, kinds, options) = (verb.name, kinds.join(" "), options.join(" "));
     format!("    {name}) kinds=({kinds}) options='{options}' ;;\n")
 }
@@ -57,6 +58,7 @@ const TAIL: &str = "    esac
     FILE | BEFORE | AFTER) mapfile -t COMPREPLY < <(compgen -f -- \"$word\") ;;
     CHANNEL) mapfile -t COMPREPLY < <(compgen -W control -- \"$word\") ;;
     VERB) mapfile -t COMPREPLY < <(compgen -W \"$verbs\" -- \"$word\") ;;
+    *'|'*) mapfile -t COMPREPLY < <(compgen -W \"${kinds[place]//|/ }\" -- \"$word\") ;;
     esac
 }
 complete -o filenames -F _bench bench ./bench
