@@ -62,7 +62,8 @@ all-whole c =
 
 -- the first tokens have room, and the buffer is as long as it was
 room : (c : tie.At-loop Inv-loop μ-loop) (i : ℕ) → let a = c .before .before .before .before .args in
-    i ≤ length (a .capture .now) / c .before .width .result → length (gathered (formOf (a .mode)) (a .capture .now) i) ≤ length (a .buffer .now)
+    i ≤ length (a .capture .now) / c .before .width .result
+    → length (gathered (formOf (a .mode)) (a .capture .now) i) ≤ length (a .buffer .now)
 room c i h =
     let k = c .before .width in
     let entry = c .before .before .before .before in
@@ -90,7 +91,8 @@ add-i c =
     let turn = c .before .before .before .before .before .before in
     let a = turn .before .before .before .before .args in
     let many = div-le-self (length (a .capture .now)) (turn .before .width .result) in
-    record { fits = omega (arith, many, turn .before .before .before .before .good, c .before .before .before .before .before .loop-test .taken) }
+    let inside = c .before .before .before .before .before .loop-test .taken in
+    record { fits = omega (arith, many, turn .before .before .before .before .good, inside) }
 
 loop-again : tie.Need-loop-again Inv-loop μ-loop
 loop-again c =
