@@ -129,7 +129,8 @@ module _ (F : Form) (f : Faithful F) (ts : List ℕ) (can : (i : ℕ) → i < le
       let fine : F .writes t ≡ true = writes-unmarked F (getD ts n 0) (can n h) in
       let small : t < 512 = omega arith in
       let tells = f .tells (after low w) t (after-small w low (omega arith)) small fine in
-      rw (take-suc ts n 0, map-last) (token-more w (map unmarked (take n ts)) (F .one (after low w) t) t (reads-written n (omega arith)) tells)
+      rw (take-suc ts n 0, map-last)
+      (token-more w (map unmarked (take n ts)) (F .one (after low w) t) t (reads-written n (omega arith)) tells)
 
   pub reads-back : (b : List ℕ) → reading F (transitions F ts) b ≡ delivered (map unmarked ts) b
   reads-back b =

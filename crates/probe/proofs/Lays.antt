@@ -1,12 +1,14 @@
 -- Words laid into a buffer from a place on, one stretch behind the other, as both calls do it. Assumes nothing.
-use Prim.Native.Nat.{ℕ, _+_, _<_, _≤_}
+use Prim.Native.Nat.{ℕ, zero, suc, _+_, _<_, _≤_}
 use mathlib.Core.Path.{_≡_, _∙_}
+use mathlib.Core.Logic.{⊎-elim}
 use mathlib.Core.List.{List, [], _∷_, _++_, append-assoc}
 use native.Mathlib.Nat.{add-zero}
 use native.Mathlib.Numerals.{add-one}
 use native.Mathlib.Omega.{arith}
 use lib.ListN.{length, take, drop, set, length-append, length-drop, take-append-drop}
 use lib.Seq.{set-split, drop-drop, take-append-seam, drop-append-add}
+use Rattle.laws.proofs.Order.{order}
 use Rattle.probe.specs.Calls.{filled}
 use Rattle.probe.specs.Needs.{laidIn}
 
@@ -25,3 +27,12 @@ module _ (ys zs l : List ℕ) where
 
 pub filled-long : (ys l : List ℕ) → length ys ≤ length l → length (filled ys l) ≡ length l
 filled-long ys l h = rw (length-append, length-drop) (omega arith)
+
+-- a list that each turn of a loop appends to is never longer before
+pub grows : (f g : ℕ → List ℕ) → ((n : ℕ) → f (suc n) ≡ f n ++ g n) → (m i : ℕ) → i ≤ m → length (f i) ≤ length (f m)
+grows f g e zero i h = let q : i ≡ 0 = omega arith in rw q (omega arith)
+grows f g e (suc m) i h =
+    ⊎-elim
+    (λ (l : i < suc m). rw (e m, length-append) (omega (arith, grows f g e m i (omega arith))))
+    (λ (l : suc m ≤ i). let q : i ≡ suc m = omega arith in rw q (omega arith))
+    (order i (suc m))

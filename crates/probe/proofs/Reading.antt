@@ -26,7 +26,7 @@ use Rattle.probe.specs.Needs.{judged, laidIn}
 use Rattle.probe.specs.declared.reader.Judged.the-variants.{Whole, Bad, Cut}
 use Rattle.probe.specs.declared.sequence.Said.{Said}
 use Rattle.probe.specs.declared.sequence.Said.the-variants.{Token, Return, Nothing}
-use Rattle.probe.proofs.Lays.{lay-behind}
+use Rattle.probe.proofs.Lays.{lay-behind, grows}
 
 -- a sequence has transitions, in either form
 pub wide : (m : Mode) → 0 < formOf m .width
@@ -69,12 +69,7 @@ module _ (F : Form) (xs : List ℕ) where
 
   pub gathered-grows : (m i : ℕ) → i ≤ m → length (gathered F xs i) ≤ length (gathered F xs m)
   unfolding gathered
-  gathered-grows zero i h = let q : i ≡ 0 = omega arith in rw q (omega arith)
-  gathered-grows (suc m) i h =
-      ⊎-elim
-      (λ (l : i < suc m). rw length-append (omega (arith, gathered-grows m i (omega arith))))
-      (λ (l : suc m ≤ i). let q : i ≡ suc m = omega arith in rw q (omega arith))
-      (order i (suc m))
+  gathered-grows = grows (gathered F xs) (λ n. tokensIn (saidAt F xs n)) (λ n. refl)
 
   pub gathered-more : (i n : ℕ) (s : Said)
       → n ≡ length (gathered F xs i)

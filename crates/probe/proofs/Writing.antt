@@ -22,7 +22,7 @@ use Rattle.probe.specs.declared.sequence.Sequence.{Sequence}
 use Rattle.probe.specs.declared.writer.Measured.{Measured}
 use Rattle.probe.specs.declared.writer.Measured.the-variants.{Fits, Over}
 use Rattle.probe.proofs.Levels.{after-small, after-append, after-none}
-use Rattle.probe.proofs.Lays.{lay-behind}
+use Rattle.probe.proofs.Lays.{lay-behind, grows}
 
 pub paste-laid : (d s : List ℕ) (at n : ℕ) → n ≤ length s → paste d at s n ≡ laidIn d at (take n s)
 paste-laid d s at n h = rw (append-assoc, length-take-le n s h)
@@ -43,12 +43,7 @@ module _ (F : Form) (ts : List ℕ) where
   -- more tokens take no fewer transitions
   pub written-grows : (m i : ℕ) → i ≤ m → length (written F ts i) ≤ length (written F ts m)
   unfolding written
-  written-grows zero i h = let q : i ≡ 0 = omega arith in rw q (omega arith)
-  written-grows (suc m) i h =
-      ⊎-elim
-      (λ (l : i < suc m). rw length-append (omega (arith, written-grows m i (omega arith))))
-      (λ (l : suc m ≤ i). let q : i ≡ suc m = omega arith in rw q (omega arith))
-      (order i (suc m))
+  written-grows = grows (written F ts) nextOf (λ n. refl)
 
   -- the state of a loop before the i-th token
   pub record Upto (i wires n : ℕ) : Type 0 where

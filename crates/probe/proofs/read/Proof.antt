@@ -20,7 +20,8 @@ gives : (c : tie.After-judge) (j : Judged) → c .judge .result ≡ j → let a 
 gives c j e =
     let a = c .before .before .before .args in
     let F = formOf (a .mode) in
-    ap (λ (j : Judged). answered F (a .capture .now) j (a .buffer .now)) (sym e ∙ c .judge .ensures) ∙ read-as F (a .capture .now) (a .buffer .now)
+    ap (λ (j : Judged). answered F (a .capture .now) j (a .buffer .now)) (sym e ∙ c .judge .ensures)
+    ∙ read-as F (a .capture .now) (a .buffer .now)
 
 returns : tie.Need-returns
 returns c =

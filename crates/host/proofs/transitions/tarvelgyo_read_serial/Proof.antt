@@ -8,7 +8,8 @@ returns : tie.Need-returns
 returns c =
     let had = c .before in
     let made = had .before .before .before in
-    crosses-probe (c .number .result) (had .bears .result) (made .read .result) _ _ (c .number .ensures) (had .bears .ensures) (made .read .ensures)
+    crosses-probe (c .number .result) (had .bears .result) (made .read .result) _ _
+    (c .number .ensures) (had .bears .ensures) (made .read .ensures)
 
 pub tarvelgyo-read-serial-spec : {M : Type 1} → statement M
 tarvelgyo-read-serial-spec =

@@ -8,7 +8,8 @@ returns : tie.Need-returns
 returns c =
     let had = c .before in
     let made = had .before .before .before in
-    crosses-probe (c .number .result) (had .bears .result) (made .write .result) _ _ (c .number .ensures) (had .bears .ensures) (made .write .ensures)
+    crosses-probe (c .number .result) (had .bears .result) (made .write .result) _ _
+    (c .number .ensures) (had .bears .ensures) (made .write .ensures)
 
 pub tarvelgyo-write-serial-spec : {M : Type 1} → statement M
 tarvelgyo-write-serial-spec =

@@ -36,7 +36,8 @@ returns-4 c =
     let asked = third .before in
     let second = asked .before in
     let v = asked .link-value .ensures in
-    rw (ne-eqb _ _ (second .before .if1 .left), ne-eqb _ _ (second .if2 .left), ← v, le-ltb _ 4 (third .if3 .left), ← told .escaped .ensures)
+    let shape = told .escaped .ensures in
+    rw (ne-eqb _ _ (second .before .if1 .left), ne-eqb _ _ (second .if2 .left), ← v, le-ltb _ 4 (third .if3 .left), ← shape)
     (c .single2 .ensures)
 
 pub control-one-spec : {M : Type 1} → statement M

@@ -8,7 +8,7 @@ use lib.ListN.{length}
 use borrow.Author.Needs.{needs}
 use Rattle.laws.specs.All.{NoneBelow}
 use Rattle.laws.proofs.All.{none-more}
-use Rattle.probe.specs.Form.{meaningless, saidAt, gathered}
+use Rattle.probe.specs.Form.{whole, meaningless, saidAt, gathered}
 use Rattle.probe.specs.Calls.{formOf}
 use Rattle.probe.proofs.Reading.{wide, inside, is-whole, is-said, gathered-none, gathered-few}
 use Rattle.probe.proofs.Reading.{gathered-more, judged-bad, judged-cut, judged-whole, one-token}
@@ -45,6 +45,14 @@ mul-says c = record { fits = omega (arith, lies c) }
 says-requires : tie.Need-says-requires Inv-loop μ-loop
 says-requires c κs = rw (← c .before .before .width .ensures) (lies c)
 
+-- how many sequences the code counts
+all-whole : (c : tie.At-loop Inv-loop μ-loop) → let a = c .before .before .before .args in
+    length (a .capture .now) / c .before .width .result ≡ whole (formOf (a .mode)) (a .capture .now)
+all-whole c =
+    let k = c .before .width in
+    let a = c .before .before .before .args in
+    is-whole (formOf (a .mode)) (a .capture .now) (k .result) (length (a .capture .now) / k .result) (k .ensures) refl
+
 -- what the i-th sequence says, as the code found it
 told : (c : tie.After-says Inv-loop μ-loop) → let a = c .before .before .before .before .before .args in
     c .says .result ≡ saidAt (formOf (a .mode)) (a .capture .now) (c .before .before .loop .i)
@@ -65,9 +73,8 @@ returns c =
     let a = turn .before .before .before .args in
     let F = formOf (a .mode) in
     let l = turn .loop in
-    let all = is-whole F (a .capture .now) (k .result) (length (a .capture .now) / k .result) (k .ensures) refl in
     rw (k .ensures)
-    (judged-bad F (a .capture .now) (l .i) (l .inv .2) (rw all at (said .before .loop-test .taken))
+    (judged-bad F (a .capture .now) (l .i) (l .inv .2) (rw (all-whole turn) at (said .before .loop-test .taken))
     (ap meaningless (sym (told said)) ∙ sym (asked .is-nothing .ensures) ∙ c .if1 .taken))
 
 add-n : tie.Need-add-n Inv-loop μ-loop
@@ -113,9 +120,8 @@ returns-2 c =
     let a = turn .before .before .before .args in
     let F = formOf (a .mode) in
     let l = turn .loop in
-    let all = is-whole F (a .capture .now) (k .result) (length (a .capture .now) / k .result) (k .ensures) refl in
     let done : l .i ≡ length (a .capture .now) / k .result = omega arith in
-    judged-cut F (a .capture .now) (l .i) (l .inv .2) (done ∙ all) (rw (k .ensures) at (c .if2 .taken))
+    judged-cut F (a .capture .now) (l .i) (l .inv .2) (done ∙ all-whole turn) (rw (k .ensures) at (c .if2 .taken))
 
 returns-3 : tie.Need-returns-3 Inv-loop μ-loop
 returns-3 c =
@@ -124,9 +130,8 @@ returns-3 c =
     let a = turn .before .before .before .args in
     let F = formOf (a .mode) in
     let l = turn .loop in
-    let all = is-whole F (a .capture .now) (k .result) (length (a .capture .now) / k .result) (k .ensures) refl in
     let done : l .i ≡ length (a .capture .now) / k .result = omega arith in
-    judged-whole F (a .capture .now) (l .i) (l .inv .2) (done ∙ all) (l .n) (l .inv .1) (rw (k .ensures) at (c .if2 .left))
+    judged-whole F (a .capture .now) (l .i) (l .inv .2) (done ∙ all-whole turn) (l .n) (l .inv .1) (rw (k .ensures) at (c .if2 .left))
 
 pub judge-spec : {M : Type 1} → statement M
 judge-spec =

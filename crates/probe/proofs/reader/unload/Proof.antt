@@ -52,16 +52,24 @@ told c =
     let a = c .before .before .before .before .before .before .args in
     is-said (formOf (a .mode)) (a .capture .now) (c .before .before .loop .i) (k .result) (c .says .result) (k .ensures) (c .says .ensures)
 
+-- how many sequences the code counts
+all-whole : (c : tie.At-loop Inv-loop μ-loop) → let a = c .before .before .before .before .args in
+    length (a .capture .now) / c .before .width .result ≡ whole (formOf (a .mode)) (a .capture .now)
+all-whole c =
+    let k = c .before .width in
+    let a = c .before .before .before .before .args in
+    is-whole (formOf (a .mode)) (a .capture .now) (k .result) (length (a .capture .now) / k .result) (k .ensures) refl
+
 -- the first tokens have room, and the buffer is as long as it was
 room : (c : tie.At-loop Inv-loop μ-loop) (i : ℕ) → let a = c .before .before .before .before .args in
-    i ≤ length (a .capture .now) / c .before .width .result → length (gathered (formOf (a .mode)) (a .capture .now) i) ≤ length (a .buffer .now)
+    i ≤ length (a .capture .now) / c .before .width .result
+    → length (gathered (formOf (a .mode)) (a .capture .now) i) ≤ length (a .buffer .now)
 room c i h =
     let k = c .before .width in
     let entry = c .before .before .before .before in
     let a = entry .args in
     let F = formOf (a .mode) in
-    let all = is-whole F (a .capture .now) (k .result) (length (a .capture .now) / k .result) (k .ensures) refl in
-    omega (arith, gathered-grows F (a .capture .now) (whole F (a .capture .now)) i (rw all at h), entry .pre)
+    omega (arith, gathered-grows F (a .capture .now) (whole F (a .capture .now)) i (rw (all-whole c) at h), entry .pre)
 
 still : (c : tie.At-loop Inv-loop μ-loop) → length (c .loop .buffer) ≡ length (c .before .before .before .before .args .buffer .now)
 still c =
@@ -83,7 +91,8 @@ add-i c =
     let turn = c .before .before .before .before .before .before in
     let a = turn .before .before .before .before .args in
     let many = div-le-self (length (a .capture .now)) (turn .before .width .result) in
-    record { fits = omega (arith, many, turn .before .before .before .before .good, c .before .before .before .before .before .loop-test .taken) }
+    let inside = c .before .before .before .before .before .loop-test .taken in
+    record { fits = omega (arith, many, turn .before .before .before .before .good, inside) }
 
 loop-again : tie.Need-loop-again Inv-loop μ-loop
 loop-again c =
@@ -109,9 +118,8 @@ returns c =
     let a = turn .before .before .before .before .args in
     let F = formOf (a .mode) in
     let l = turn .loop in
-    let all = is-whole F (a .capture .now) (k .result) (length (a .capture .now) / k .result) (k .ensures) refl in
     let done : l .i ≡ length (a .capture .now) / k .result = omega arith in
-    l .inv .2 ∙ ap (λ (i : ℕ). filled (gathered F (a .capture .now) i) (a .buffer .now)) (done ∙ all)
+    l .inv .2 ∙ ap (λ (i : ℕ). filled (gathered F (a .capture .now) i) (a .buffer .now)) (done ∙ all-whole turn)
 
 pub unload-spec : {M : Type 1} → statement M
 unload-spec =

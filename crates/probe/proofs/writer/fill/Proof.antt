@@ -19,7 +19,10 @@ abbrev μ-loop : tie.MeasureT-loop
 μ-loop mode tokens buffer₀ wires₀ at₀ i₀ buffer wires at i = length tokens - i
 
 loop-holds : tie.Need-loop-holds Inv-loop μ-loop
-loop-holds c = let a = c .before .before .args in (upto-none (formOf (a .mode)) (a .tokens .now), rw (written-none (formOf (a .mode)) (a .tokens .now)))
+loop-holds c =
+    let a = c .before .before .args in
+    let F = formOf (a .mode) in
+    (upto-none F (a .tokens .now), rw (written-none F (a .tokens .now)))
 
 one-requires : tie.Need-one-requires Inv-loop μ-loop
 one-requires c κs =
@@ -34,7 +37,8 @@ still c =
     let entry = c .before .before .before in
     let a = entry .args in
     let grows = written-grows (formOf (a .mode)) (a .tokens .now) (length (a .tokens .now)) (l .i) (l .inv .0 .inside) in
-    ap length (l .inv .1) ∙ filled-long (written (formOf (a .mode)) (a .tokens .now) (l .i)) (a .buffer .now) (omega (arith, grows, entry .pre))
+    ap length (l .inv .1)
+    ∙ filled-long (written (formOf (a .mode)) (a .tokens .now) (l .i)) (a .buffer .now) (omega (arith, grows, entry .pre))
 
 room : (c : tie.After-one Inv-loop μ-loop) → let turn = c .before .before .before in
     turn .loop .at + c .one .result .len ≤ length (turn .before .before .before .args .buffer .now)

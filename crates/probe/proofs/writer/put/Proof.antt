@@ -28,7 +28,8 @@ still c =
     let entry = c .before .before .before in
     let a = entry .args in
     ap length (l .inv .1)
-    ∙ length-paste (a .buffer .now) (a .at) (a .q .symbols) (l .i) (omega (arith, entry .pre .1, l .inv .0)) (omega (arith, entry .pre .0 .long, l .inv .0))
+    ∙ length-paste (a .buffer .now) (a .at) (a .q .symbols) (l .i) (omega (arith, entry .pre .1, l .inv .0))
+    (omega (arith, entry .pre .0 .long, l .inv .0))
 
 slice-write-buffer : tie.Need-slice-write-buffer Inv-loop μ-loop
 slice-write-buffer c = omega (arith, still (c .before), c .before .before .before .before .pre .1)
