@@ -1,20 +1,20 @@
 -- What a capture is refused for, exactly, and that a refusal fills nothing. Assumes nothing.
 use Prim.Native.Nat.{ℕ, _+_, _*_, _/_, _%_, _<_, _≤_}
 use mathlib.Core.Path.{_≡_, refl, sym, ap, _∙_}
-use mathlib.Core.Bool.{Bool, true, false}
+use mathlib.Core.Bool.{Bool, true, false, not}
 use mathlib.Core.Logic.{_⊎_, inl, inr, ⊎-elim}
 use mathlib.Core.List.{List}
 use native.Mathlib.Nat.{suc-mul, le-div-iff-mul-le}
 use native.Mathlib.Omega.{arith}
 use lib.Dec.{eqb, ltb, leb}
-use lib.ListN.{length}
-use borrow.Author.Tests.{lt-ltb, le-ltb, ltb-true, ltb-false, eq-eqb, ne-eqb, eqb-false}
+use lib.ListN.{length, getD}
+use borrow.Author.Tests.{lt-ltb, le-ltb, ltb-true, ltb-false, ne-eqb, eqb-false, not-true, not-false}
 use Rattle.laws.specs.All.{first, NoneBelow}
 use Rattle.laws.proofs.All.{first-here, first-none, first-least, first-passes}
 use Rattle.laws.proofs.Order.{by-test, never, clash, order}
-use Rattle.probe.specs.Form.{Form, transitions, firstUnwritable, whole, saidAt, meaningless, tokens, firstMeaningless}
+use Rattle.probe.specs.Form.{Form, writable, transitions, firstUnwritable, whole, saidAt, meaningless, tokens, firstMeaningless}
 use Rattle.probe.specs.Calls.{Out, out, filled, delivered, writing, reading}
-use Rattle.probe.specs.Facts.{FirstBad, Short}
+use Rattle.probe.specs.Facts.{FirstUnwritable, FirstBad, Short}
 use Rattle.probe.specs.declared.answer.Answer.{Answer}
 use Rattle.probe.specs.declared.answer.Answer.the-variants.{Filled, Bad, Cut, NoSuch}
 use Rattle.probe.specs.declared.sequence.Said.{Said}
@@ -32,6 +32,14 @@ has-meaning Nothing h = absurd (h refl)
 
 no-meaning : (s : Said) → meaningless s ≡ false → s ≡ Nothing → ⊥
 no-meaning s e h = clash (ap meaningless (sym h) ∙ e)
+
+-- an answer is Filled or NoSuch where nothing is wrong
+answers : {o p : Out} → o ≡ p → o .answer ≡ p .answer
+answers e = ap (λ (o : Out). o .answer) e
+
+fills : (ys b : List ℕ) → (delivered ys b .answer ≡ Filled (length ys)) ⊎ (delivered ys b ≡ out NoSuch b)
+unfolding delivered
+fills ys b = by-test (leb (length ys) (length b)) (λ e. inl (rw e)) (λ e. inr (rw e))
 
 module _ (F : Form) (xs : List ℕ) (wide : 0 < F .width) where
   -- the i-th sequence is whole exactly where it ends inside the capture
@@ -78,13 +86,6 @@ module _ (F : Form) (xs : List ℕ) (wide : 0 < F .width) where
       rw (at, le-ltb (whole F xs) (whole F xs) (omega arith), ne-eqb (length xs % F .width) 0 (w .over))
 
   -- .. and back: what each answer tells
-  answers : {o p : Out} → o ≡ p → o .answer ≡ p .answer
-  answers e = ap (λ (o : Out). o .answer) e
-
-  fills : (ys b : List ℕ) → (delivered ys b .answer ≡ Filled (length ys)) ⊎ (delivered ys b ≡ out NoSuch b)
-  unfolding delivered
-  fills ys b = by-test (leb (length ys) (length b)) (λ e. inl (rw e)) (λ e. inr (rw e))
-
   pub bad-found : (b : List ℕ) (p : ℕ) → reading F xs b .answer ≡ Bad p → FirstBad F xs p
   unfolding reading
   bad-found b p e =
@@ -107,6 +108,38 @@ module _ (F : Form) (xs : List ℕ) (wide : 0 < F .width) where
       (λ d. let z : delivered (tokens F xs) b .answer ≡ Cut = rw (h, d) at e in
       ⊎-elim (λ f. never (cc)) (λ f. let g = answers f in never (cc)) (fills (tokens F xs) b))
       (λ d. record { sound = none-bad (ltb-false _ _ h); over = eqb-false _ 0 d }))
+
+-- What a list is refused for, exactly
+module _ (F : Form) (ts : List ℕ) where
+  lacks : ℕ → Bool
+  lacks i = not (writable F (getD ts i 0))
+
+  pub word-given : (b : List ℕ) (p : ℕ) → FirstUnwritable F ts p → writing F ts b ≡ out (Bad p) b
+  unfolding writing firstUnwritable lacks
+  word-given b p w =
+      let none : NoneBelow lacks p = λ j h. ap not (w .before j h) in
+      let at = first-here lacks (length ts) p (w .inside) none (ap not (w .bad)) in
+      rw (at, lt-ltb p (length ts) (w .inside))
+
+  first-word : firstUnwritable F ts < length ts → FirstUnwritable F ts (firstUnwritable F ts)
+  unfolding firstUnwritable lacks
+  first-word h =
+      record {
+        inside = h;
+        bad = not-true _ (first-passes lacks (length ts) h);
+        before = λ j l. not-false _ (first-least lacks (length ts) j l);
+      }
+
+  pub word-found : (b : List ℕ) (p : ℕ) → writing F ts b .answer ≡ Bad p → FirstUnwritable F ts p
+  unfolding writing
+  word-found b p e =
+      by-test (ltb (firstUnwritable F ts) (length ts))
+      (λ h.
+      let q : Bad (firstUnwritable F ts) ≡ Bad p = rw h at e in
+      let place : firstUnwritable F ts ≡ p = (cc) in
+      rw (← place) (first-word (ltb-true _ _ h)))
+      (λ h. let z : delivered (transitions F ts) b .answer ≡ Bad p = rw h at e in
+      ⊎-elim (λ f. never (cc)) (λ f. let g = answers f in never (cc)) (fills (transitions F ts) b))
 
 -- What is not Filled leaves the buffer as it was
 delivered-keeps : (ys b : List ℕ) → ((n : ℕ) → delivered ys b .answer ≡ Filled n → ⊥) → delivered ys b .buffer ≡ b

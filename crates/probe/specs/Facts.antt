@@ -4,9 +4,9 @@ use mathlib.Core.Path.{_≡_}
 use mathlib.Core.Bool.{true, false}
 use mathlib.Core.Logic.{_⊎_}
 use mathlib.Core.List.{List, [], _∷_}
-use lib.ListN.{length, take, drop}
+use lib.ListN.{length, getD, take, drop}
 use Rattle.laws.specs.All.{Each}
-use Rattle.probe.specs.Form.{Form, saidAt}
+use Rattle.probe.specs.Form.{Form, writable, saidAt}
 use Rattle.probe.specs.Fast.{left, smaller, leastOf}
 use Rattle.probe.specs.declared.sequence.Said.the-variants.{Token, Return, Nothing}
 
@@ -20,6 +20,12 @@ pub record Faithful (F : Form) : Type 0 where
   pub wide : 0 < F .width
   -- a token that can be written is what is said of it, from every state of the wires
   pub tells : (s t : ℕ) → s < 32 → t < 512 → F .writes t ≡ true → Tells F t (F .one s t)
+
+-- p is the place of the first word of a list that the form cannot write
+pub record FirstUnwritable (F : Form) (ts : List ℕ) (p : ℕ) : Type 0 where
+  pub inside : p < length ts
+  pub bad : writable F (getD ts p 0) ≡ false
+  pub before : (j : ℕ) → j < p → writable F (getD ts j 0) ≡ true
 
 -- p begins the first whole sequence of a capture that has no meaning
 pub record FirstBad (F : Form) (xs : List ℕ) (p : ℕ) : Type 0 where
