@@ -144,17 +144,17 @@ fn wrong_in_writing_and_reading_alike() {
     }
 }
 
-/// Writes each word by itself, with something else for END.
+/// What the model writes, with something else for END.
 fn with_end(words: &[u16], end: &[u8]) -> Result<Vec<u8>, Refused> {
+    let whole = rightly_written(Form::Fast, words)?;
     let mut all = Vec::new();
     for (place, word) in words.iter().enumerate() {
-        match *word {
-            0x101 => all.extend(end),
-            _ => {
-                let one = rightly_written(Form::Fast, &[*word]);
-                all.extend(one.map_err(|_| Refused::Bad { place })?);
-            }
-        }
+        let before = rightly_written(Form::Fast, &words[..place])?.len();
+        let behind = rightly_written(Form::Fast, &words[..=place])?.len();
+        all.extend_from_slice(match *word {
+            0x101 => end,
+            _ => &whole[before..behind],
+        });
     }
     Ok(all)
 }
