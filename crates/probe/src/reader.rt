@@ -29,9 +29,10 @@ pub fn judge(mode: Mode, capture: &[u8]) -> Judged
     let mut n: usize = 0;
     let mut i = 0;
     while i < whole {
-        let said = says(mode, capture, i * k);
+        let at = i * k;
+        let said = says(mode, capture, at);
         if is_nothing(said) {
-            return Judged::Bad(i * k);
+            return Judged::Bad(at);
         }
         n += count(said);
         i += 1;

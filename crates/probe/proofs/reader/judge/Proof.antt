@@ -10,6 +10,7 @@ use Rattle.laws.specs.All.{NoneBelow}
 use Rattle.laws.proofs.All.{none-more}
 use Rattle.probe.specs.Form.{whole, meaningless, saidAt, gathered}
 use Rattle.probe.specs.Calls.{formOf}
+use Rattle.probe.specs.declared.reader.Judged.the-variants.{Bad}
 use Rattle.probe.proofs.Reading.{wide, inside, is-whole, is-said, gathered-none, gathered-few}
 use Rattle.probe.proofs.Reading.{gathered-more, judged-bad, judged-cut, judged-whole, one-token}
 use Rattle.probe.proofs.reader.judge.Statement.{statement}
@@ -39,8 +40,8 @@ lies c =
     let xs = a .capture .now in
     inside (formOf (a .mode)) xs (c .before .loop .i) (k .result) (length xs / k .result) (k .ensures) refl (c .loop-test .taken)
 
-mul-says : tie.Need-mul-says Inv-loop μ-loop
-mul-says c = record { fits = omega (arith, lies c) }
+mul-at : tie.Need-mul-at Inv-loop μ-loop
+mul-at c = record { fits = omega (arith, lies c) }
 
 says-requires : tie.Need-says-requires Inv-loop μ-loop
 says-requires c κs = rw (← c .before .before .width .ensures) (lies c)
@@ -61,9 +62,6 @@ told c =
     let a = c .before .before .before .before .before .args in
     is-said (formOf (a .mode)) (a .capture .now) (c .before .before .loop .i) (k .result) (c .says .result) (k .ensures) (c .says .ensures)
 
-mul-t12 : tie.Need-mul-t12 Inv-loop μ-loop
-mul-t12 c = record { fits = omega (arith, lies (c .before .before .before)) }
-
 returns : tie.Need-returns Inv-loop μ-loop
 returns c =
     let asked = c .before in
@@ -73,9 +71,9 @@ returns c =
     let a = turn .before .before .before .args in
     let F = formOf (a .mode) in
     let l = turn .loop in
-    rw (k .ensures)
-    (judged-bad F (a .capture .now) (l .i) (l .inv .2) (rw (all-whole turn) at (said .before .loop-test .taken))
-    (ap meaningless (sym (told said)) ∙ sym (asked .is-nothing .ensures) ∙ c .if1 .taken))
+    ap (λ x. Bad (l .i * x)) (k .ensures)
+    ∙ judged-bad F (a .capture .now) (l .i) (l .inv .2) (rw (all-whole turn) at (said .before .loop-test .taken))
+    (ap meaningless (sym (told said)) ∙ sym (asked .is-nothing .ensures) ∙ c .if1 .taken)
 
 add-n : tie.Need-add-n Inv-loop μ-loop
 add-n c =
@@ -142,10 +140,9 @@ judge-spec =
     (λ c κs. search needs)
     div-whole
     loop-holds
-    mul-says
+    mul-at
     says-requires
     (λ c κs. search needs)
-    mul-t12
     returns
     (λ c κs. search needs)
     add-n
