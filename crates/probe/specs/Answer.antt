@@ -6,7 +6,7 @@ use Rattle.names.specs.No as No
 use Rattle.probe.specs.declared.answer.Answer.{Answer}
 use Rattle.probe.specs.declared.answer.Answer.the-variants.{Filled, Bad, Cut, NoSuch}
 
--- 2 NoSuch is the paper's; Bad and Cut have no number there, and take the next but one above Ask 10's 13
+-- 2 NoSuch is the paper's; Bad and Cut have no number there, and take the next two above Ask 10's 13
 abbrev pub answerNumber : Answer → ℕ
 answerNumber (Filled n) = passes
 answerNumber (Bad p) = 14
