@@ -3,9 +3,10 @@
  *
  *   cc -I include program.c target/staticlib/libhost.a      (x86-64; docs/USING.md has other processors)
  *
- * A network is two memories that you lend to each call: `state`, TARVELGYO_STATE_WORDS words of 32 bits for each node, and `memory`,
- * TARVELGYO_MEMORY_WORDS words of 16 bits for each node. Nothing is kept elsewhere: two memories copied are a network copied, and calls
- * on two networks may be made at the same time.
+ * A network is three memories that you lend to each call: `state`, TARVELGYO_STATE_WORDS words of 32 bits for each node, `memory`,
+ * TARVELGYO_MEMORY_WORDS words of 16 bits for each node, what ports hold, and `lines`, TARVELGYO_LINE_MEMORY_WORDS words of 16 bits for
+ * each node, what is on its way between ports. Nothing is kept elsewhere: three memories copied are a network copied, and calls on two
+ * networks may be made at the same time.
  *
  * Every function answers for any arguments and for any contents of the memories; a call that is refused has changed nothing. What you
  * must see to: each pointer has behind it as many words as you say, no two of them overlap in a call, and no two threads make calls on one
@@ -15,6 +16,7 @@
  *
  *   state, words      the state, and how many words of 32 bits it has
  *   memory, tokens    the token memory, and how many words of 16 bits it has
+ *   lines, things     the lines' memory, and how many words of 16 bits it has
  *   slot              which node, by its place in the table, 0 for the first; not the number in its switch
  *
  * rust/bench/tests/header.rs holds this file to the declarations that the Rust side is built with.
@@ -32,22 +34,24 @@ extern "C" {
 
 /* ---- sizes ---- */
 
-#define TARVELGYO_STATE_WORDS 778   /* words of state for each node; tarvelgyo_state_words() says it too */
-#define TARVELGYO_MEMORY_WORDS 832  /* words of token memory for each node; tarvelgyo_memory_words() says it too */
-#define TARVELGYO_MOST_NODES 16     /* nodes of a network, at most */
-#define TARVELGYO_LINKS 8           /* links A..H of a node, which are its ports 0..7 */
-#define TARVELGYO_TILE_LINKS 4      /* links from the switch to the tile */
-#define TARVELGYO_FIRST_TILE_PORT 8 /* the first of the four ports from the tile, 8..11 */
-#define TARVELGYO_REPLY_PORT 12     /* the port by which the control unit's replies leave */
-#define TARVELGYO_PORTS 13          /* ports of a node */
-#define TARVELGYO_CHANNEL_ENDS 32   /* channel-ends of a node */
-#define TARVELGYO_CHANNELS 32       /* channels that a header can name, beside the sink */
-#define TARVELGYO_SINK 255          /* the channel of the sink, which takes all and hands nothing */
-#define TARVELGYO_PORT_BUFFER 64    /* tokens that a port holds, at most */
-#define TARVELGYO_END_BUFFER 8      /* tokens that a channel-end holds, at most */
-#define TARVELGYO_UNIT_BUFFER 11    /* tokens of a message that a control unit keeps, at most */
-#define TARVELGYO_DIRECTIONS 16     /* directions of links and of a switch's table */
-#define TARVELGYO_BITS 16           /* bits of a node's number, each with a direction entry */
+#define TARVELGYO_STATE_WORDS 778       /* words of state for each node; tarvelgyo_state_words() says it too */
+#define TARVELGYO_MEMORY_WORDS 832      /* words of token memory for each node; tarvelgyo_memory_words() says it too */
+#define TARVELGYO_LINE_MEMORY_WORDS 528 /* words of the lines' memory for each node; tarvelgyo_line_words() says it too */
+#define TARVELGYO_MOST_NODES 16         /* nodes of a network, at most */
+#define TARVELGYO_LINKS 8               /* links A..H of a node, which are its ports 0..7 */
+#define TARVELGYO_TILE_LINKS 4          /* links from the switch to the tile */
+#define TARVELGYO_FIRST_TILE_PORT 8     /* the first of the four ports from the tile, 8..11 */
+#define TARVELGYO_REPLY_PORT 12         /* the port by which the control unit's replies leave */
+#define TARVELGYO_PORTS 13              /* ports of a node */
+#define TARVELGYO_CHANNEL_ENDS 32       /* channel-ends of a node */
+#define TARVELGYO_CHANNELS 32           /* channels that a header can name, beside the sink */
+#define TARVELGYO_SINK 255              /* the channel of the sink, which takes all and hands nothing */
+#define TARVELGYO_PORT_BUFFER 64        /* tokens that a port holds, at most */
+#define TARVELGYO_LINE_BUFFER 66        /* tokens, credits and HELLOs on a line, at most */
+#define TARVELGYO_END_BUFFER 8          /* tokens that a channel-end holds, at most */
+#define TARVELGYO_UNIT_BUFFER 11        /* tokens of a message that a control unit keeps, at most */
+#define TARVELGYO_DIRECTIONS 16         /* directions of links and of a switch's table */
+#define TARVELGYO_BITS 16               /* bits of a node's number, each with a direction entry */
 
 /* ---- control tokens with a name ---- */
 
@@ -57,6 +61,12 @@ extern "C" {
 #define TARVELGYO_NACK 0x04   /* a switch message was not obeyed */
 #define TARVELGYO_WRITEC 0xC0 /* begins a switch message that writes a register */
 #define TARVELGYO_READC 0xC1  /* begins a switch message that reads one */
+
+/* These are on lines alone: no Output lets them out, and no port holds them. */
+#define TARVELGYO_CREDIT8 0xE0  /* brings credit for 8 tokens */
+#define TARVELGYO_CREDIT16 0xE4 /* .. for 16 */
+#define TARVELGYO_CREDIT64 0xE1 /* .. for 64 */
+#define TARVELGYO_HELLO 0xE6    /* greets, and asks for credit */
 
 /* ---- answers ----
  *
@@ -68,9 +78,9 @@ extern "C" {
 
 #define TARVELGYO_CASE_NO 0              /* refused, nothing is changed; carries a number for no */
 #define TARVELGYO_CASE_DONE 1            /* done; carries 0 */
-#define TARVELGYO_CASE_GRANTED 2         /* of HELLO: carries the grant, 0, 8, 16 or 64 */
+#define TARVELGYO_CASE_GRANTED 2         /* of HELLO: carries 0, as the grant comes when it has arrived */
 #define TARVELGYO_CASE_TOKEN 3           /* of Input: carries the token's value */
-#define TARVELGYO_CASE_IDLE 4            /* of a Step: the port holds nothing */
+#define TARVELGYO_CASE_IDLE 4            /* of a Step: the port holds nothing; of a line step: nothing is on the line */
 #define TARVELGYO_CASE_WAITING 5         /* of a Step: nothing can be done now, and nothing is changed */
 #define TARVELGYO_CASE_MOVED 6           /* of a Step: one token was moved, handed or heard */
 #define TARVELGYO_CASE_OPENED_LINK 7     /* of a Step: a circuit was opened outward; carries the link */
@@ -80,12 +90,14 @@ extern "C" {
 #define TARVELGYO_CASE_DROPPED 11        /* of a Step: one token of a refused circuit was dropped; carries the cause */
 #define TARVELGYO_CASE_MALFORMED 12      /* of a Step: a switch message ended that has no reply and wrote nothing */
 #define TARVELGYO_CASE_UNHEARD 13        /* of a Step: a switch message ended whose reply cannot be carried; what it wrote stays */
+#define TARVELGYO_CASE_ARRIVED 14        /* of a line step: one has arrived; carries the grant that it brought, 0, 8, 16 or 64 */
 
 /* The numbers for no. */
 #define TARVELGYO_NO_UNSOUND 1     /* the memories are no network: tarvelgyo_unsound_clause says why */
 #define TARVELGYO_NO_NO_SUCH 2     /* no such slot, link, port, channel-end, or count of nodes or results */
 #define TARVELGYO_NO_VALUE 3       /* a value out of its range */
-#define TARVELGYO_NO_BUSY 4        /* Wire: an end is wired; HELLO: it is disabled; a setting: the link is in use, or enabled */
+#define TARVELGYO_NO_BUSY 4        /* Wire: an end is wired; HELLO: the link is disabled, or a credit or HELLO is on a line of its cable; a
+                                      setting: the link is in use, or enabled */
 #define TARVELGYO_NO_UNAIMED 5     /* the channel-end has no destination */
 #define TARVELGYO_NO_OPEN 6        /* the channel-end has a circuit open */
 #define TARVELGYO_NO_HARDWARE 7    /* Output of control 0xE0..0xFF */
@@ -101,76 +113,84 @@ extern "C" {
 
 /* ---- starts ---- */
 
-/* Fresh: makes a network of `nodes` nodes, 1 to 16, as the boot ROM leaves them, links E..H enabled, whatever the memories held. Both must
+/* Fresh: makes a network of `nodes` nodes, 1 to 16, as the boot ROM leaves them, links E..H enabled, whatever the memories held. All must
  * have exactly the words of so many nodes, else it is Unsound. */
-uint64_t tarvelgyo_fresh(uint32_t *state, size_t words, uint16_t *memory, size_t tokens, size_t nodes);
+uint64_t tarvelgyo_fresh(uint32_t *state, size_t words, uint16_t *memory, size_t tokens, uint16_t *lines, size_t things, size_t nodes);
 
 /* Blank: the same, `nodes` nodes, with every link disabled. */
-uint64_t tarvelgyo_blank(uint32_t *state, size_t words, uint16_t *memory, size_t tokens, size_t nodes);
+uint64_t tarvelgyo_blank(uint32_t *state, size_t words, uint16_t *memory, size_t tokens, uint16_t *lines, size_t things, size_t nodes);
 
 /* ---- cables and settings ---- */
 
 /* Wire: a cable from link `link` of this node, 0..7 for A..H, to link `far_link` of the node in slot `far_slot`. Both must be unwired, and
  * not the same. It greets nobody. */
-uint64_t tarvelgyo_wire(uint32_t *state, size_t words, const uint16_t *memory, size_t tokens, size_t slot, size_t link, size_t far_slot,
-                        size_t far_link);
+uint64_t tarvelgyo_wire(uint32_t *state, size_t words, const uint16_t *memory, size_t tokens, const uint16_t *lines, size_t things,
+                        size_t slot, size_t link, size_t far_slot, size_t far_link);
 
 /* Set: the node's number, `value` 0..65535. */
-uint64_t tarvelgyo_set_number(uint32_t *state, size_t words, const uint16_t *memory, size_t tokens, size_t slot, uint32_t value);
+uint64_t tarvelgyo_set_number(uint32_t *state, size_t words, const uint16_t *memory, size_t tokens, uint16_t *lines, size_t things,
+                              size_t slot, uint32_t value);
 
 /* Set: how many bytes the node's headers have, `value` 1 or 3. */
-uint64_t tarvelgyo_set_width(uint32_t *state, size_t words, const uint16_t *memory, size_t tokens, size_t slot, uint32_t value);
+uint64_t tarvelgyo_set_width(uint32_t *state, size_t words, const uint16_t *memory, size_t tokens, uint16_t *lines, size_t things,
+                             size_t slot, uint32_t value);
 
 /* Set: the node's direction entry for bit `bit`, 0..15, to direction `value`, 0..15. */
-uint64_t tarvelgyo_set_direction(uint32_t *state, size_t words, const uint16_t *memory, size_t tokens, size_t slot, uint32_t bit,
-                                 uint32_t value);
+uint64_t tarvelgyo_set_direction(uint32_t *state, size_t words, const uint16_t *memory, size_t tokens, uint16_t *lines, size_t things,
+                                 size_t slot, uint32_t bit, uint32_t value);
 
 /* Set: the direction of link `link`, 0..7, to `value`, 0..15. */
-uint64_t tarvelgyo_set_link_direction(uint32_t *state, size_t words, const uint16_t *memory, size_t tokens, size_t slot, size_t link,
-                                      uint32_t value);
+uint64_t tarvelgyo_set_link_direction(uint32_t *state, size_t words, const uint16_t *memory, size_t tokens, uint16_t *lines, size_t things,
+                                      size_t slot, size_t link, uint32_t value);
 
 /* Set: the network of link `link`, 0..7, to `value`, 0..3. Busy where that is another and the link is enabled. */
-uint64_t tarvelgyo_set_network(uint32_t *state, size_t words, const uint16_t *memory, size_t tokens, size_t slot, size_t link,
-                               uint32_t value);
+uint64_t tarvelgyo_set_network(uint32_t *state, size_t words, const uint16_t *memory, size_t tokens, uint16_t *lines, size_t things,
+                               size_t slot, size_t link, uint32_t value);
 
 /* Set: link `link`, 0..7, enabled (`value` 1) or disabled (0). Busy where it would disable a link with a token or a circuit at either
- * end. */
-uint64_t tarvelgyo_set_enable(uint32_t *state, size_t words, const uint16_t *memory, size_t tokens, size_t slot, size_t link,
-                              uint32_t value);
+ * end, or with anything on a line of its cable. */
+uint64_t tarvelgyo_set_enable(uint32_t *state, size_t words, const uint16_t *memory, size_t tokens, uint16_t *lines, size_t things,
+                              size_t slot, size_t link, uint32_t value);
 
-/* HELLO on link `link`, 0..7: asks the far end for credit and answers the grant. Busy on a disabled link; 0 where nobody hears it. */
-uint64_t tarvelgyo_hello(uint32_t *state, size_t words, const uint16_t *memory, size_t tokens, size_t slot, size_t link);
+/* HELLO on link `link`, 0..7: it goes on the line that starts there, or is lost where the far end is absent or disabled. The link is
+ * greeted, and the far end grants, when it arrives, so that the answer carries 0. Busy on a disabled link, and while a credit or a HELLO is
+ * on either line of the cable. */
+uint64_t tarvelgyo_hello(uint32_t *state, size_t words, const uint16_t *memory, size_t tokens, uint16_t *lines, size_t things, size_t slot,
+                         size_t link);
 
 /* ---- a program's side ---- */
 
 /* Aim: channel-end `channel_end`, 0..31, at channel `channel`, 0..31 or the sink, of the nodes of number `number`, on network `network`,
  * 0..3. Refused as Open while it has a circuit open. */
-uint64_t tarvelgyo_aim_channel(uint32_t *state, size_t words, const uint16_t *memory, size_t tokens, size_t slot, size_t channel_end,
-                               uint32_t number, uint32_t channel, uint32_t network);
+uint64_t tarvelgyo_aim_channel(uint32_t *state, size_t words, const uint16_t *memory, size_t tokens, const uint16_t *lines, size_t things,
+                               size_t slot, size_t channel_end, uint32_t number, uint32_t channel, uint32_t network);
 
 /* Aim: channel-end `channel_end`, 0..31, at the control unit of the nodes of number `number`, on network `network`, 0..3. */
-uint64_t tarvelgyo_aim_unit(uint32_t *state, size_t words, const uint16_t *memory, size_t tokens, size_t slot, size_t channel_end,
-                            uint32_t number, uint32_t network);
+uint64_t tarvelgyo_aim_unit(uint32_t *state, size_t words, const uint16_t *memory, size_t tokens, const uint16_t *lines, size_t things,
+                            size_t slot, size_t channel_end, uint32_t number, uint32_t network);
 
 /* Output: a data token of value `value` from channel-end `channel_end`, 0..31. The first token opens a circuit. */
-uint64_t tarvelgyo_output_data(uint32_t *state, size_t words, uint16_t *memory, size_t tokens, size_t slot, size_t channel_end,
-                               uint8_t value);
+uint64_t tarvelgyo_output_data(uint32_t *state, size_t words, uint16_t *memory, size_t tokens, const uint16_t *lines, size_t things,
+                               size_t slot, size_t channel_end, uint8_t value);
 
 /* Output: a control token of value `value` from channel-end `channel_end`, 0..31. END and PAUSE end the circuit. */
-uint64_t tarvelgyo_output_control(uint32_t *state, size_t words, uint16_t *memory, size_t tokens, size_t slot, size_t channel_end,
-                                  uint8_t value);
+uint64_t tarvelgyo_output_control(uint32_t *state, size_t words, uint16_t *memory, size_t tokens, const uint16_t *lines, size_t things,
+                                  size_t slot, size_t channel_end, uint8_t value);
 
 /* Input: takes the next token of channel-end `channel_end`, 0..31, as data and answers its value. A control token is Trap, and stays. */
-uint64_t tarvelgyo_input_data(uint32_t *state, size_t words, const uint16_t *memory, size_t tokens, size_t slot, size_t channel_end);
+uint64_t tarvelgyo_input_data(uint32_t *state, size_t words, const uint16_t *memory, size_t tokens, const uint16_t *lines, size_t things,
+                              size_t slot, size_t channel_end);
 
 /* Input: takes the next token of channel-end `channel_end`, 0..31, as control and answers its value. A data token is Trap, and stays. */
-uint64_t tarvelgyo_input_control(uint32_t *state, size_t words, const uint16_t *memory, size_t tokens, size_t slot, size_t channel_end);
+uint64_t tarvelgyo_input_control(uint32_t *state, size_t words, const uint16_t *memory, size_t tokens, const uint16_t *lines, size_t things,
+                                 size_t slot, size_t channel_end);
 
 /* ---- steps ---- */
 
-/* Step: one of port `port`, 0..12: its circuit is opened, refused or made to wait, or one token passes. The Step that takes the end of a
- * switch message has it obeyed. */
-uint64_t tarvelgyo_step(uint32_t *state, size_t words, uint16_t *memory, size_t tokens, size_t slot, size_t port);
+/* Step: one of port `port`, 0..12: its circuit is opened, refused or made to wait, or one token passes. A token that leaves by a link is
+ * put on the line that starts there; tarvelgyo_line_step takes it off. The Step that takes the end of a switch message has it obeyed. */
+uint64_t tarvelgyo_step(uint32_t *state, size_t words, uint16_t *memory, size_t tokens, uint16_t *lines, size_t things, size_t slot,
+                        size_t port);
 
 /* One Step of a list: port `port` of the node in slot `slot`. */
 typedef struct tarvelgyo_step_record {
@@ -181,8 +201,13 @@ typedef struct tarvelgyo_step_record {
 /* Steps: those of `list`, which has `records` records, in order. What each answers, as tarvelgyo_step would, is written to the same place
  * of `results`, which has room for `room` numbers; a Step that is refused stops nothing. NoSuch, with nothing done and nothing written,
  * where room and records differ. */
-uint64_t tarvelgyo_steps(uint32_t *state, size_t words, uint16_t *memory, size_t tokens, const tarvelgyo_step_record *list,
-                         size_t records, uint64_t *results, size_t room);
+uint64_t tarvelgyo_steps(uint32_t *state, size_t words, uint16_t *memory, size_t tokens, uint16_t *lines, size_t things,
+                         const tarvelgyo_step_record *list, size_t records, uint64_t *results, size_t room);
+
+/* A line step: one off the far end of the line that starts at link `link`, 0..7. A token comes to the far port, a credit or a HELLO to the
+ * far link. Idle where nothing is on the line, or where no cable is. */
+uint64_t tarvelgyo_line_step(uint32_t *state, size_t words, uint16_t *memory, size_t tokens, uint16_t *lines, size_t things, size_t slot,
+                             size_t link);
 
 /* ---- looks at the whole ---- */
 
@@ -192,20 +217,24 @@ size_t tarvelgyo_state_words(void);
 /* How many words of token memory to lend for each node. */
 size_t tarvelgyo_memory_words(void);
 
+/* How many words of the lines' memory to lend for each node. */
+size_t tarvelgyo_line_words(void);
+
 /* How many nodes the state has: what its length says. */
 size_t tarvelgyo_node_count(const uint32_t *state, size_t words);
 
-/* Whether both memories are a network: the list "Sound" of document 01. Where they are not, every call but the starts is Unsound. */
-bool tarvelgyo_is_sound(const uint32_t *state, size_t words, const uint16_t *memory, size_t tokens);
+/* Whether the memories are a network: the list "Sound" of documents 01 and 02. Where they are not, every call but the starts is Unsound. */
+bool tarvelgyo_is_sound(const uint32_t *state, size_t words, const uint16_t *memory, size_t tokens, const uint16_t *lines, size_t things);
 
 /* Whether the ties hold that calls keep beside that list. */
-bool tarvelgyo_is_tight(const uint32_t *state, size_t words, const uint16_t *memory, size_t tokens);
+bool tarvelgyo_is_tight(const uint32_t *state, size_t words, const uint16_t *memory, size_t tokens, const uint16_t *lines, size_t things);
 
-/* Whether there is no token, no claim and no open circuit anywhere. */
-bool tarvelgyo_is_quiet(const uint32_t *state, size_t words, const uint16_t *memory, size_t tokens);
+/* Whether there is no token, no claim and no open circuit anywhere, and nothing on a line. */
+bool tarvelgyo_is_quiet(const uint32_t *state, size_t words, const uint16_t *memory, size_t tokens, const uint16_t *lines, size_t things);
 
-/* The number of the first clause of that list that fails, 1..12 (docs/ARCHITECTURE.md, "Sound"), or 0 where none does. */
-uint32_t tarvelgyo_unsound_clause(const uint32_t *state, size_t words, const uint16_t *memory, size_t tokens);
+/* The number of the first clause of that list that fails, 1..15 (docs/ARCHITECTURE.md, "Sound"), or 0 where none does. */
+uint32_t tarvelgyo_unsound_clause(const uint32_t *state, size_t words, const uint16_t *memory, size_t tokens, const uint16_t *lines,
+                                  size_t things);
 
 /* ---- looks at records ----
  *
@@ -283,8 +312,8 @@ bool tarvelgyo_channel_end(const uint32_t *state, size_t words, size_t slot, siz
 /* The record of the node's control unit, into `out` of `room` words, TARVELGYO_CONTROL_UNIT_WORDS. */
 bool tarvelgyo_control_unit(const uint32_t *state, size_t words, size_t slot, uint32_t *out, size_t room);
 
-/* The line that starts at a link, and that link's count: where in the line's ring the first to arrive lies, how much is on it (nothing, as
- * long as tokens cross at once), and what the link has issued to the far end and not yet received. */
+/* The line that starts at a link, and that link's count: where in the line's ring the first to arrive lies, how much is on it, and what the
+ * link has issued to the far end and not yet received. */
 #define TARVELGYO_LINE_HEAD 0
 #define TARVELGYO_LINE_HELD 1
 #define TARVELGYO_LINE_ISSUED 2
@@ -312,6 +341,11 @@ uint32_t tarvelgyo_direction(const uint32_t *state, size_t words, size_t slot, u
 
 /* The token at place `place` of port `port`, 0..12; place 0 is the oldest. */
 uint64_t tarvelgyo_port_token(const uint32_t *state, size_t words, const uint16_t *memory, size_t tokens, size_t slot, size_t port,
+                              uint32_t place);
+
+/* What is at place `place` of the line that starts at link `link`, 0..7; place 0 is the first to arrive. A credit or a HELLO is a control
+ * token of the values above. */
+uint64_t tarvelgyo_line_token(const uint32_t *state, size_t words, const uint16_t *lines, size_t things, size_t slot, size_t link,
                               uint32_t place);
 
 /* The token at place `place` of channel-end `channel_end`, 0..31; place 0 is the oldest. */

@@ -6,7 +6,7 @@ use Rattle.circuits.specs.declared.Cause.{Cause}
 use Rattle.circuits.specs.declared.Cause.the-variants.{Split, NoRoute}
 use Rattle.answers.specs.declared.Answer.{Answer}
 use Rattle.answers.specs.declared.Answer.the-variants.{No, Done, Granted, Token, Idle, Waiting, Moved, OpenedLink, OpenedChannel}
-use Rattle.answers.specs.declared.Answer.the-variants.{OpenedUnit, Refused, Dropped, Malformed, Unheard}
+use Rattle.answers.specs.declared.Answer.the-variants.{OpenedUnit, Refused, Dropped, Malformed, Unheard, Arrived}
 
 -- "A refused call returns its number": the number for no, and none for every other answer
 abbrev pub numberOf : Answer → ℕ
@@ -24,6 +24,7 @@ numberOf (Refused c) = passes
 numberOf (Dropped c) = passes
 numberOf Malformed = passes
 numberOf Unheard = passes
+numberOf (Arrived g) = passes
 
 -- which case it is, in the order in which they are listed
 abbrev pub caseOf : Answer → ℕ
@@ -41,6 +42,7 @@ caseOf (Refused c) = 10
 caseOf (Dropped c) = 11
 caseOf Malformed = 12
 caseOf Unheard = 13
+caseOf (Arrived g) = 14
 
 -- "it has a cause and no number"
 abbrev pub causeOf : Cause → ℕ
@@ -48,7 +50,7 @@ causeOf Split = 0
 causeOf NoRoute = 1
 
 -- the number that its case bears: a refusal's, "The answer to HELLO gives the grant", the token that Input took, the link that a circuit
--- opened by, a circuit's cause
+-- opened by, a circuit's cause, the grant that an arrival brought
 abbrev pub answerValue : Answer → ℕ
 answerValue (No n) = n
 answerValue Done = 0
@@ -64,6 +66,7 @@ answerValue (Refused c) = causeOf c
 answerValue (Dropped c) = causeOf c
 answerValue Malformed = 0
 answerValue Unheard = 0
+answerValue (Arrived g) = g
 
 -- outside, an enum is one number of 64 bits: which case it is in the upper half, the number that the case bears in the lower
 abbrev pub packed : ℕ → ℕ → ℕ

@@ -33,6 +33,8 @@ pub enum Answer {
     Malformed,
     // a message was obeyed, and the node's width can't carry its reply
     Unheard,
+    // a line's step took one off, and it brought this grant (document 02, Ask 4: "Moved, with any grant")
+    Arrived(u32),
 }
 
 // The paper's number of a refusal, 0 for none.
@@ -54,6 +56,7 @@ pub fn number(a: Answer) -> u8
         Answer::Dropped(_) => 0,
         Answer::Malformed => 0,
         Answer::Unheard => 0,
+        Answer::Arrived(_) => 0,
     }
 }
 
@@ -76,6 +79,7 @@ pub fn case_of(a: Answer) -> u32
         Answer::Dropped(_) => 11,
         Answer::Malformed => 12,
         Answer::Unheard => 13,
+        Answer::Arrived(_) => 14,
     }
 }
 
@@ -107,6 +111,7 @@ pub fn value_of(a: Answer) -> u32
         Answer::Dropped(c) => cause_of(c),
         Answer::Malformed => 0,
         Answer::Unheard => 0,
+        Answer::Arrived(credit) => credit,
     }
 }
 

@@ -11,7 +11,7 @@ use Rattle.answers.specs.Rows.{refusal, Exactly, Passes, rising, distinct}
 use Rattle.answers.specs.Out.{Out, out}
 use Rattle.answers.specs.declared.Answer.{Answer}
 use Rattle.answers.proofs.Refusals.{given, passed, answered, refused-keeps}
-use Rattle.cells.specs.World.{World, world}
+use Rattle.cells.specs.World.{World, lent}
 use Rattle.cells.proofs.Whole.{whole-state}
 use Rattle.settings.specs.declared.Setting.the-variants.{Number, Width, Direction, LinkDirection, Network, Enable, Hello}
 use Rattle.plans.specs.Plan.{stepPlan}
@@ -19,18 +19,23 @@ use Rattle.switch.specs.Step.{stepPerformed}
 use Rattle.plans.specs.declared.Plan.{Plan}
 use Rattle.plans.specs.declared.Plan.the-variants.{Idle, Wait, OpenOut, OpenChannel, OpenUnit, Refuse, MoveOut, Hand, Hear, Drop}
 use Rattle.switch.proofs.Stepped.{heard-answers}
-use Rattle.bench.specs.Calls.{Call, Begin, Wire, Set, Aim, Output, Input, Step, Steps, rows, made, apply}
+use Rattle.travel.specs.Travel.{lineCame}
+use Rattle.travel.specs.declared.Came.{Came}
+use Rattle.travel.specs.declared.Came.the-variants as Comes
+use Rattle.bench.specs.Calls.{cameAnswer}
+use Rattle.bench.specs.Calls.{Call, Begin, Wire, Set, Aim, Output, Input, Step, Line, Steps, rows, made, apply}
 
--- "show that two results meeting it are equal": answer, every word of the state, every word of token memory
-pub one-result : (w : World) (c : Call) (r q : Answer) (st zt mem nem : List ℕ)
-    → out r (world st mem) ≡ apply w c
-    → out q (world zt nem) ≡ apply w c
-    → (r ≡ q) × (st ≡ zt) × (mem ≡ nem)
-one-result w c r q st zt mem nem a b =
-    let e : out r (world st mem) ≡ out q (world zt nem) = a ∙ sym b in (
+-- "show that two results meeting it are equal": answer, every word of the state, every word of token memory, in ports and on lines
+pub one-result : (w : World) (c : Call) (r q : Answer) (st zt mem nem ls ks : List ℕ)
+    → out r (lent st mem ls) ≡ apply w c
+    → out q (lent zt nem ks) ≡ apply w c
+    → (r ≡ q) × (st ≡ zt) × (mem ≡ nem) × (ls ≡ ks)
+one-result w c r q st zt mem nem ls ks a b =
+    let e : out r (lent st mem ls) ≡ out q (lent zt nem ks) = a ∙ sym b in (
       ap (λ (o : Out World). o .answer) e,
       whole-state st zt (ap (λ (o : Out World). o .next .net) e),
       ap (λ (o : Out World). o .next .memory) e,
+      ap (λ (o : Out World). o .next .lineMemory) e,
     )
 
 -- a Step's answer is no refusal of the call
@@ -45,6 +50,11 @@ no-refusal w n p (MoveOut l) = refl
 no-refusal w n p (Hand c t) = refl
 no-refusal w n p Hear = heard-answers (λ a. numberOf a ≡ Names.passes) refl refl refl w n p
 no-refusal w n p (Drop x) = refl
+
+-- nor is a line step's
+no-refusal-came : (x : Came) → numberOf (cameAnswer x) ≡ Names.passes
+no-refusal-came Comes.Idle = refl
+no-refusal-came (Comes.Moved g) = refl
 
 -- what a call makes is no refusal
 passing : (w : World) (c : Call) → numberOf (made w c .answer) ≡ Names.passes
@@ -61,6 +71,7 @@ passing w (Aim a c g v) = refl
 passing w (Output a c x) = refl
 passing w (Input a c k) = refl
 passing w (Step a p) = no-refusal w (a .0) p (stepPlan w (a .0) p)
+passing w (Line a l) = no-refusal-came (lineCame w (a .0) l)
 passing w (Steps n xs) = refl
 
 -- no call has two rows of one number
@@ -72,6 +83,7 @@ once w (Aim a c g v) = refl
 once w (Output a c x) = refl
 once w (Input a c k) = refl
 once w (Step a p) = refl
+once w (Line a l) = refl
 once w (Steps n xs) = refl
 
 -- "The lowest number wins": the rows of a call stand in the order of their numbers; a start looks at the count before the lengths
@@ -83,6 +95,7 @@ InOrder w (Aim a c g v) = rising 0 (rows w (Aim a c g v)) ≡ true
 InOrder w (Output a c x) = rising 0 (rows w (Output a c x)) ≡ true
 InOrder w (Input a c k) = rising 0 (rows w (Input a c k)) ≡ true
 InOrder w (Step a p) = rising 0 (rows w (Step a p)) ≡ true
+InOrder w (Line a l) = rising 0 (rows w (Line a l)) ≡ true
 InOrder w (Steps n xs) = rising 0 (rows w (Steps n xs)) ≡ true
 
 pub in-order : (w : World) (c : Call) → InOrder w c
@@ -93,6 +106,7 @@ in-order w (Aim a c g v) = refl
 in-order w (Output a c x) = refl
 in-order w (Input a c k) = refl
 in-order w (Step a p) = refl
+in-order w (Line a l) = refl
 in-order w (Steps n xs) = refl
 
 module _ (w : World) (c : Call) where
@@ -108,16 +122,19 @@ module _ (w : World) (c : Call) where
   pub accepted : Means (eqb (numberOf (apply w c .answer)) Names.passes) (Passes (rows w c))
   accepted = rw numbered (passed (rows w c))
 
-  -- "A refused call .. leaves the state as it was": every word of both memories
+  -- "A refused call .. leaves the state as it was": every word of the memories
   pub refused-changes-nothing : (numberOf (apply w c .answer) ≡ Names.passes → ⊥) → apply w c .next ≡ w
   unfolding apply
   refused-changes-nothing h = refused-keeps (rows w c) w (made w c) (passing w c) h
 
 -- .. and over the lent words themselves: whatever words meet the contract of a call that is refused are the words that were lent
-pub refused-words : (st mem zt nem : List ℕ) (c : Call) (r : Answer)
-    → (numberOf (apply (world st mem) c .answer) ≡ Names.passes → ⊥)
-    → out r (world zt nem) ≡ apply (world st mem) c
-    → (zt ≡ st) × (nem ≡ mem)
-refused-words st mem zt nem c r h e =
-    let same : world zt nem ≡ world st mem = ap (λ (o : Out World). o .next) e ∙ refused-changes-nothing (world st mem) c h in
-    (whole-state zt st (ap (λ (w : World). w .net) same), ap (λ (w : World). w .memory) same)
+pub refused-words : (st mem ls zt nem ks : List ℕ) (c : Call) (r : Answer)
+    → (numberOf (apply (lent st mem ls) c .answer) ≡ Names.passes → ⊥)
+    → out r (lent zt nem ks) ≡ apply (lent st mem ls) c
+    → (zt ≡ st) × (nem ≡ mem) × (ks ≡ ls)
+refused-words st mem ls zt nem ks c r h e =
+    let same : lent zt nem ks ≡ lent st mem ls = ap (λ (o : Out World). o .next) e ∙ refused-changes-nothing (lent st mem ls) c h in (
+      whole-state zt st (ap (λ (w : World). w .net) same),
+      ap (λ (w : World). w .memory) same,
+      ap (λ (w : World). w .lineMemory) same,
+    )

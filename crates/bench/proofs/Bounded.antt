@@ -25,12 +25,14 @@ use Rattle.answers.specs.Answer.{answerValue}
 use Rattle.answers.specs.Rows.{Row, refusal}
 use Rattle.answers.specs.declared.Answer.{Answer}
 use Rattle.answers.specs.declared.Answer.the-variants.{No, Done, Granted, Token, Idle, Waiting, Moved, OpenedLink, OpenedChannel}
-use Rattle.answers.specs.declared.Answer.the-variants.{OpenedUnit, Refused, Dropped, Malformed, Unheard}
+use Rattle.answers.specs.declared.Answer.the-variants.{OpenedUnit, Refused, Dropped, Malformed, Unheard, Arrived}
 use Rattle.credits.specs.Grant as Grant
 use Rattle.cells.specs.View.{Net}
-use Rattle.cells.specs.World.{World, hop}
+use Rattle.lines.specs.Load.{isHello, creditOf}
+use Rattle.cells.specs.World.{World, farOf, hop}
+use Rattle.cells.specs.declared.link.Far.{Far}
+use Rattle.cells.specs.declared.link.Far.the-variants.{Nowhere, At}
 use Rattle.acts.specs.Acts.{widthAt, numberAt, wordAt, channelClaimed, channelFull}
-use Rattle.grants.proofs.Links.{hello-granted}
 use Rattle.settings.specs.declared.Setting.the-variants as Settings
 use Rattle.plans.specs.Plan.{markedWidth, sizeOf, sameWidth, targetAt, networkAt, lowestTile, herePlan, numberIn, stepByWay, wayPlan}
 use Rattle.plans.specs.Plan.{headerPlan, byHop, stepPlan}
@@ -39,7 +41,10 @@ use Rattle.plans.specs.declared.Plan.the-variants as Plans
 use Rattle.plans.proofs.Routes.{Routed, opens, waits, discards, routed}
 use Rattle.switch.specs.Step.{stepPerformed}
 use Rattle.switch.proofs.Stepped.{heard-answers}
-use Rattle.bench.specs.Calls.{Call, Begin, Wire, Set, Aim, Output, Input, Step, Steps, rows, made, apply}
+use Rattle.travel.specs.Travel.{takenOff, firstOn, tokenIn, greets, lineEmpty, cameBy, lineCame}
+use Rattle.travel.proofs.Granted.{due-granted}
+use Rattle.bench.specs.Calls.{cameAnswer}
+use Rattle.bench.specs.Calls.{Call, Begin, Wire, Set, Aim, Output, Input, Step, Line, Steps, rows, made, apply}
 
 abbrev pub Bounded : Answer → Type 0
 Bounded (No n) = (1 ≤ n) × (n ≤ 12)
@@ -56,6 +61,7 @@ Bounded (Refused c) = Unit
 Bounded (Dropped c) = Unit
 Bounded Malformed = Unit
 Bounded Unheard = Unit
+Bounded (Arrived g) = Grant.Granted g
 
 -- Refusals
 
@@ -147,6 +153,23 @@ performed w n p (Plans.Hand c t) h = tt
 performed w n p Plans.Hear h = heard-answers Bounded tt tt tt w n p
 performed w n p (Plans.Drop x) h = tt
 
+-- Line steps: the grant that an arrival brings
+
+came-bounded : (w : World) (n l : ℕ) (f : Far) → Bounded (cameAnswer (cameBy w n l f))
+came-bounded w n l Nowhere = tt
+came-bounded w n l (At m k) =
+    let y = takenOff w n l in
+    let x = firstOn w n l in
+    by-test (lineEmpty w n l)
+    (λ e. rw e tt)
+    (λ e. rw e (by-test (isHello x)
+    (λ d. rw d (due-granted (greets y n l (m .0) k) (m .0) k))
+    (λ d. rw d (by-test (eqb (creditOf x) 0) (λ g. rw g (due-granted (tokenIn y (m .0) k x) (m .0) k)) (λ g. rw g Grant.none)))))
+
+line-bounded : (w : World) (n l : ℕ) → Bounded (cameAnswer (lineCame w n l))
+unfolding lineCame
+line-bounded w n l = came-bounded w n l (farOf (w .net .links .cables n l))
+
 -- Calls
 
 made-bounded : (w : World) (c : Call) → Bounded (made w c .answer)
@@ -158,11 +181,12 @@ made-bounded w (Set a (Settings.Direction b v)) = tt
 made-bounded w (Set a (Settings.LinkDirection l v)) = tt
 made-bounded w (Set a (Settings.Network l v)) = tt
 made-bounded w (Set a (Settings.Enable l v)) = tt
-made-bounded w (Set a (Settings.Hello l)) = hello-granted (w .net) (a .0) l
+made-bounded w (Set a (Settings.Hello l)) = Grant.none
 made-bounded w (Aim a c g v) = tt
 made-bounded w (Output a c x) = tt
 made-bounded w (Input a c k) = omega arith
 made-bounded w (Step a p) = performed w (a .0) p (stepPlan w (a .0) p) (planned w (a .0) p)
+made-bounded w (Line a l) = line-bounded w (a .0) l
 made-bounded w (Steps n xs) = tt
 
 -- every answer of every call, whatever the arguments and the memories
@@ -199,3 +223,4 @@ small-value (Dropped Split) h = lit≤ tt
 small-value (Dropped NoRoute) h = lit≤ tt
 small-value Malformed h = lit≤ tt
 small-value Unheard h = lit≤ tt
+small-value (Arrived g) h = let z = some-grant g h in omega arith

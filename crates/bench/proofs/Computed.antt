@@ -22,7 +22,7 @@ use Rattle.ends.specs.Input.{inputRows}
 use Rattle.switch.specs.Step.{stepRows}
 use Rattle.kept.specs.Kept.{Kept}
 use Rattle.kept.proofs.Parts.{kept-sound}
-use Rattle.bench.specs.Calls.{Call, Begin, Wire, Set, Aim, Output, Input, Step, Steps, rows, made, apply}
+use Rattle.bench.specs.Calls.{Call, Begin, Wire, Set, Aim, Output, Input, Step, Line, Steps, lineRows, rows, made, apply}
 use Rattle.bench.specs.Runs.{run}
 use Rattle.bench.proofs.Lasts.{call-keeps}
 
@@ -30,11 +30,12 @@ use Rattle.bench.proofs.Lasts.{call-keeps}
 abbrev pub others : World → Call → List Row
 others w (Begin s n) = startRows w n
 others w (Wire a l b k) = wireRows (w .net) (a .0) l (b .0) k
-others w (Set a x) = setRows (w .net) (a .0) x
+others w (Set a x) = setRows w (a .0) x
 others w (Aim a c g v) = aimRows (w .net) (a .0) c g v
 others w (Output a c x) = outputRows (w .net) (a .0) c x
 others w (Input a c k) = inputRows (w .net) (a .0) c k
 others w (Step a p) = stepRows (w .net) (a .0) p
+others w (Line a l) = lineRows (w .net) (a .0) l
 others w (Steps n xs) = rows w (Steps n xs)
 
 abbrev pub applied : World → Call → Out World
@@ -49,6 +50,7 @@ sound-row w k (Aim a c g v) = rw (kept-sound w k .0)
 sound-row w k (Output a c x) = rw (kept-sound w k .0)
 sound-row w k (Input a c x) = rw (kept-sound w k .0)
 sound-row w k (Step a p) = rw (kept-sound w k .0)
+sound-row w k (Line a l) = rw (kept-sound w k .0)
 sound-row w k (Steps n xs) = refl
 
 -- the answers of a run, without that row

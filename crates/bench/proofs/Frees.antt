@@ -36,12 +36,13 @@ use Rattle.plans.specs.Plan.{markedWidth, sizeOf, sameWidth, targetAt, lowestLi
 use Rattle.plans.specs.Plan.{networkAt, herePlan, numberIn, stepByWay, headerPlan, byHop, stepPlan}
 use Rattle.plans.specs.declared.Plan.{Plan}
 use Rattle.plans.specs.declared.Plan.the-variants.{Wait, OpenOut, OpenChannel, OpenUnit, Refuse, MoveOut, Hand, Hear}
-use Rattle.moves.specs.Moves.{took, closesOut, closesChannel, closesUnit, crosses}
+use Rattle.travel.specs.Travel.{sendsOn}
+use Rattle.moves.specs.Moves.{took, closesOut, closesChannel, closesUnit}
 use Rattle.moves.proofs.Frees.{out-frees, channel-frees, unit-frees, dropped-frees}
 use Rattle.switch.specs.Step.{stepPerformed}
 use Rattle.bench.specs.Calls.{Step, rows, apply}
 use Rattle.bench.specs.Frees.{tookOne, Closed}
-use Rattle.bench.proofs.Untouched.{Untouched, cross-leaves, end-leaves}
+use Rattle.bench.proofs.Untouched.{Untouched, send-leaves, end-leaves}
 
 -- circuits are no part of what ports hold or of credits, and no Set changes them
 abbrev legsOf : Net → ℕ → ℕ → Leg
@@ -49,20 +50,20 @@ legsOf s = s .ports .legs
 
 legs-untouched : Untouched legsOf
 legs-untouched =
-    record { counters = λ s n p q. refl; flows = λ s n l k. refl; settings = λ s z v. ap (λ t. t .legs) (v .ports) }
+    record { counters = λ s n p q. refl; flows = λ s n l k. refl; rings = λ s n l c. refl; issued = λ s n l i. refl; settings = λ s z v. ap (λ t. t .legs) (v .ports) }
 
 abbrev usersOf : Net → ℕ → ℕ → Circuit
 usersOf s = s .links .users
 
 users-untouched : Untouched usersOf
-users-untouched = record { counters = λ s n p q. refl; flows = λ s n l k. refl; settings = λ s z v. v .users }
+users-untouched = record { counters = λ s n p q. refl; flows = λ s n l k. refl; rings = λ s n l c. refl; issued = λ s n l i. refl; settings = λ s z v. v .users }
 
 abbrev servingOf : Net → ℕ → ℕ → Circuit
 servingOf s = s .units .serving
 
 serving-untouched : Untouched servingOf
 serving-untouched =
-    record { counters = λ s n p q. refl; flows = λ s n l k. refl; settings = λ s z v. ap (λ t. t .serving) (v .units) }
+    record { counters = λ s n p q. refl; flows = λ s n l k. refl; rings = λ s n l c. refl; issued = λ s n l i. refl; settings = λ s z v. ap (λ t. t .serving) (v .units) }
 
 same-hop : (s z : Net) (n p : ℕ) → z .ports .legs ≡ s .ports .legs → hop z n p ≡ hop s n p
 same-hop s z n p e = ap (λ (t : ℕ → ℕ → Leg). hopOf (t n p .circuit) (t n p .tile)) e
@@ -114,8 +115,8 @@ module _ (w : World) (n p : ℕ) where
         let z = withNet (took w n p) (closesOut (took w n p .net) n p l x) in
         let frees = out-frees (took w n p .net) n p x e l in
         record {
-          shut = same-hop (z .net) (crosses z n l x .net) n p (cross-leaves legsOf legs-untouched z n l x) ∙ frees .0;
-          freed = ap (λ u. u n l) (cross-leaves usersOf users-untouched z n l x) ∙ frees .1;
+          shut = same-hop (z .net) (sendsOn z n l x .net) n p (send-leaves legsOf legs-untouched z n l x) ∙ frees .0;
+          freed = ap (λ u. u n l) (send-leaves usersOf users-untouched z n l x) ∙ frees .1;
         }
 
     closes-channel : (c t : ℕ) → Closes (Hops.Channel c t) (Hand c t)

@@ -8,7 +8,7 @@ use mathlib.Core.List.{List, [], _∷_}
 use mathlib.Core.Logic.{_⊎_}
 use lib.Dec.{eqb}
 use borrow.Author.Tests.{eq-eqb, not-false}
-use Rattle.laws.proofs.All.{also, as-is, equal}
+use Rattle.laws.proofs.All.{also, as-is, equal, below}
 use Rattle.laws.proofs.Order.{clash}
 use Rattle.names.specs.Size.{nodes, links, ports}
 use Rattle.names.specs.No.{number, passes, Unsound}
@@ -20,7 +20,7 @@ use Rattle.ports.specs.Queue.{capacity}
 use Rattle.grammar.specs.Walk.{threes, beginsOne}
 use Rattle.cells.specs.World.{World, shaped, farOf, hop, queue}
 use Rattle.cells.specs.declared.link.Far.the-variants.{At}
-use Rattle.acts.specs.Acts.{withNet}
+use Rattle.travel.specs.Travel.{loadFrom}
 use Rattle.settings.specs.declared.Setting.the-variants.{Enable}
 use Rattle.fresh.specs.Fresh.{startOf}
 use Rattle.fresh.specs.declared.Start.{Start}
@@ -28,10 +28,11 @@ use Rattle.sound.specs.Sound.{sound, tight}
 use Rattle.kept.specs.Kept.{Kept}
 use Rattle.kept.proofs.Parts.{kept-sound}
 use Rattle.kept.proofs.Sets.{attempted}
-use Rattle.kept.proofs.Boards.{wire-boards, set-boards, aim-boards, input-boards, output-boards, step-boards}
+use Rattle.kept.proofs.Boards.{wire-boards, set-boards, aim-boards, input-boards, output-boards, step-boards, line-boards}
 use Rattle.kept.proofs.Calls.{start-kept, keep-start, keep-wire, keep-set-made, keep-aimed, keep-output, keep-inputted, keep-stepped}
+use Rattle.kept.proofs.Arrivals.{keep-line-step}
 use Rattle.kept.proofs.Follows.{room-left, whole-header, not-greeted, no-credit, unused, disable-twice}
-use Rattle.bench.specs.Calls.{Call, Begin, Wire, Set, Aim, Output, Input, Step, Steps, rows, made, apply}
+use Rattle.bench.specs.Calls.{Call, Begin, Wire, Set, Aim, Output, Input, Step, Line, Steps, rows, made, apply}
 use Rattle.bench.specs.Runs.{run}
 use Rattle.bench.specs.Lasts.{OtherBoards, NeverUnsound, Throughout}
 use Rattle.bench.proofs.Applied.{exactly, accepted}
@@ -42,11 +43,12 @@ use Rattle.bench.proofs.Started.{started}
 made-boards : (w : World) (c : Call) → Passes (rows w c) → made w c .next .net .nodes ≡ w .net .nodes
 made-boards w (Begin s n) p = sym (also (as-is (shaped w)) (equal (w .net .nodes) n) .sure (not-false _ (p .1 .0)) .1)
 made-boards w (Wire a l b j) p = wire-boards (w .net) (a .0) l (b .0) j
-made-boards w (Set a x) p = set-boards (w .net) (a .0) x
+made-boards w (Set a x) p = set-boards w (a .0) x
 made-boards w (Aim a c g v) p = aim-boards (w .net) (a .0) c g v
 made-boards w (Output a c x) p = output-boards w (a .0) c x
 made-boards w (Input a c x) p = input-boards (w .net) (a .0) c
 made-boards w (Step a p) q = step-boards w (a .0) p
+made-boards w (Line a l) q = line-boards w (a .0) l
 made-boards w (Steps n xs) q =
     stepped-keeps (λ z. z .net .nodes ≡ w .net .nodes)
     (λ z x e. step-made (λ y. y .net .nodes ≡ w .net .nodes) z x e (λ p. step-boards z (x .slot) (x .port) ∙ e)) xs w refl
@@ -65,6 +67,9 @@ module _ (w : World) (k : Kept w) where
   made-kept (Output a c x) p = keep-output w k (a .0) c x (p .1)
   made-kept (Input a c x) p = keep-inputted w k (a .0) c x (p .1)
   made-kept (Step a p) q = keep-stepped w k (a .0) p (q .1)
+  made-kept (Line a l) q =
+      let z = also (below (a .0) (w .net .nodes)) (below l links) .sure (not-false _ (q .1 .0)) in
+      keep-line-step w k (a .0) l (z .0) (z .1)
   made-kept (Steps n xs) q = stepped-keeps Kept (λ z x h. step-made Kept z x h (λ p. keep-stepped z h (x .slot) (x .port) (p .1))) xs w k
 
   pub call-keeps : (c : Call) → Kept (apply w c .next)
@@ -90,6 +95,7 @@ module _ (w : World) (k : Kept w) where
       given (Output a c x) h = sure h
       given (Input a c x) h = sure h
       given (Step a p) h = sure h
+      given (Line a l) h = sure h
       given (Steps n xs) h = absurd (h .1)
 
 -- EVERY RUN
@@ -116,7 +122,7 @@ module _ (s : Start) (n : ℕ) (some : 1 ≤ n) (few : n ≤ nodes) where
   pub never-unsound : (cs : List Call) → Throughout (NeverUnsound n) cs (run (startOf s n) cs .answers)
   never-unsound cs = run-unsound cs (startOf s n) (start-kept s n some few)
 
--- .. whatever the two memories held before, where that start was not refused
+-- .. whatever the memories held before, where that start was not refused
 pub since-start : (w : World) (s : Start) (n : ℕ) → numberOf (apply w (Begin s n) .answer) ≡ passes → (cs : List Call)
     → Throughout (NeverUnsound n) cs (run (apply w (Begin s n) .next) cs .answers)
 since-start w s n ok cs =
@@ -135,9 +141,10 @@ module _ (s : Start) (n : ℕ) (some : 1 ≤ n) (few : n ≤ nodes) (cs : List C
     hm : m < last .net .nodes
     hm = rw (boards s n cs) there
 
-    -- "credit plus tokens held at the far end at most 64"
+    -- "credit plus tokens held at the far end at most 64", with the credit on the line to the link and the tokens on the line from it
     pub always-room : (b : Slot) (j : ℕ) → farOf (last .net .links .cables m l) ≡ At b j
-        → last .net .links .flows m l .credit + last .net .ports .counters (b .0) j .held ≤ capacity
+        → last .net .links .flows m l .credit + loadFrom last (b .0) j .credit
+        + (loadFrom last m l .tokens + last .net .ports .counters (b .0) j .held) ≤ capacity
     always-room = room-left last last-kept m l hm hl
 
     -- "a circuit that leaves by an unwired link has its whole header at its port's front": three tokens, or one
@@ -160,4 +167,4 @@ module _ (s : Start) (n : ℕ) (some : 1 ≤ n) (few : n ≤ nodes) (cs : List C
       always-disabled =
           let c = Set (record { 0 = m }) (Enable l 0) in
           attempted (λ (w : World). w ≡ last) (rows last c) last (made last c) refl
-          (λ p. ap (withNet last) (disable-twice last last-kept m l hm hl off))
+          (λ p. disable-twice last last-kept m l hm hl off)

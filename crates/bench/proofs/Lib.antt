@@ -3,7 +3,6 @@ pub mod Lifted
 pub mod Applied
 pub mod Bounded
 pub mod Numbers
-pub mod Cabled
 pub mod Started
 pub mod Waits
 pub mod EachStep
@@ -17,4 +16,5 @@ pub mod Computed
 pub mod Example
 pub mod Runs
 pub mod Unsent
+pub mod LineTies
 pub mod Published

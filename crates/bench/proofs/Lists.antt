@@ -22,7 +22,7 @@ use Rattle.kept.proofs.Calls.{start-kept}
 use Rattle.sound.specs.Sound.{sound}
 use Rattle.kept.specs.Kept.{Kept}
 use Rattle.bench.specs.declared.StepRecord.{StepRecord}
-use Rattle.bench.specs.Calls.{Call, Begin, Wire, Set, Aim, Output, Input, Step, Steps, stepBy, stepped, results, apply}
+use Rattle.bench.specs.Calls.{Call, Begin, Wire, Set, Aim, Output, Input, Step, Line, Steps, stepBy, stepped, results, apply}
 use Rattle.bench.specs.Runs.{run, stepOf, stepsOf, singly, flat}
 use Rattle.bench.proofs.Bounded.{Bounded, bounded}
 use Rattle.bench.proofs.Lasts.{call-keeps, call-unsound, run-keeps}
@@ -98,6 +98,7 @@ singly-left w (Aim a c g v) = refl
 singly-left w (Output a c x) = refl
 singly-left w (Input a c k) = refl
 singly-left w (Step a p) = refl
+singly-left w (Line a l) = refl
 singly-left w (Steps n xs) = by-test (eqb n (length xs)) (λ e. rw e (sym (left-by-steps xs w))) (λ e. rw e)
 
 -- a run leaves what its single calls leave

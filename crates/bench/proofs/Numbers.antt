@@ -38,7 +38,7 @@ use Rattle.ends.specs.declared.Token.{Token}
 use Rattle.ends.specs.declared.Wanted.{Wanted}
 use Rattle.ends.specs.declared.aim.Goal.{Goal}
 use Rattle.bench.specs.declared.StepRecord.{StepRecord}
-use Rattle.bench.specs.Calls.{Call, Begin, Wire, Set, Aim, Output, Input, Step, Steps, rows, apply}
+use Rattle.bench.specs.Calls.{Call, Begin, Wire, Set, Aim, Output, Input, Step, Line, Steps, rows, apply}
 use Rattle.bench.proofs.Applied.{exactly}
 
 -- no row of a call before that of number k refuses
@@ -109,7 +109,7 @@ module _ (w : World) where
     pub set-value : Refused w (Set a x) Names.Value (not (inRange x) ≡ true)
     set-value = refused w (Set a x) Names.Value
 
-    pub set-busy : Refused w (Set a x) Names.Busy (setBusy (w .net) (a .0) x ≡ true)
+    pub set-busy : Refused w (Set a x) Names.Busy (setBusy w (a .0) x ≡ true)
     set-busy = refused w (Set a x) Names.Busy
 
   module _ (a : Slot) (c : ℕ) (g : Goal) (v : ℕ) where
@@ -158,7 +158,8 @@ module _ (w : World) where
     -- past the first rows the state is sound, and the channel-end is there and aimed
     sends : (not (sound w) ≡ false) → (not (endAt (w .net) (a .0) c) ≡ false) → (eqb (w .net .ends .aims (a .0) c .kind) 0 ≡ false)
         → Sends w (a .0) c (targetOf (w .net .ends .aims (a .0) c))
-    sends s e aimed = sends-here w (a .0) c (not-false _ s) (not-false _ e) _ (aimed, refl)
+    sends s e aimed =
+        sends-here w (a .0) c (record { lines = w .lineMemory; all = not-false _ s }) (not-false _ e) _ (aimed, refl)
 
     -- 9: "opening at one-byte width towards channel 255 or a control unit"
     pub output-narrow : Refused w (Output a c x) Names.Narrow (opensNarrow (w .net) (a .0) c ≡ true)
@@ -186,6 +187,14 @@ module _ (w : World) where
 
     pub step-no-such : Refused w (Step a p) Names.NoSuch (not (portAt (w .net) (a .0) p) ≡ true)
     step-no-such = refused w (Step a p) Names.NoSuch
+
+  -- a line step: "1 and 2 alone"
+  module _ (a : Slot) (l : ℕ) where
+    pub line-unsound : Refused w (Line a l) Names.Unsound (not (sound w) ≡ true)
+    line-unsound = refused w (Line a l) Names.Unsound
+
+    pub line-no-such : Refused w (Line a l) Names.NoSuch (not (linkAt (w .net) (a .0) l) ≡ true)
+    line-no-such = refused w (Line a l) Names.NoSuch
 
   -- "first, a results buffer of another length than the list is NoSuch" (document 02, Ask 1): no row of a list stands before it
   pub steps-no-such : (n : ℕ) (xs : List StepRecord) → Refused w (Steps n xs) Names.NoSuch (not (eqb n (length xs)) ≡ true)

@@ -1,16 +1,16 @@
 -- WHAT A PRODUCT ABOVE THE BENCH MAY REST ON: every statement of the bench by its name, and no other. A later crate imports this page and
--- nothing below it. Each call's contract (bench/src/lib.rt) is one equation, for all arguments and any two memories lent:
---     out answer (world state' memory') ≡ apply (world state memory) CALL
+-- nothing below it. Each call's contract (bench/src/lib.rt) is one equation, for all arguments and any memories lent:
+--     out answer (lent state' memory' lines') ≡ apply (lent state memory lines) CALL
 -- A list of steps is such a call too; its function, which has the words of the results besides, is host/src/list.rt.
 
 -- THE STATEMENTS' WORDS
--- a world is the state as tables and the token memory; `world` reads it off two lent slices
-pub use Rattle.cells.specs.World.{World, world}
+-- a world is the state as tables, the token memory and the lines' memory; `lent` reads it off three lent slices
+pub use Rattle.cells.specs.World.{World, lent}
 -- Fresh or blank, and what each leaves
 pub use Rattle.fresh.specs.Fresh.{leavesOn, startOf}
 pub use Rattle.fresh.specs.declared.Start.{Start}
 -- calls with their arguments; when each is refused, what it makes, and both together; a list of calls, each on what the one before left
-pub use Rattle.bench.specs.Calls.{Call, rows, made, apply}
+pub use Rattle.bench.specs.Calls.{Call, cameAnswer, rows, made, apply}
 pub use Rattle.bench.specs.Runs.{Ran, run}
 -- a list of steps: each record's Step, what is left and the results; a run as its single calls
 pub use Rattle.bench.specs.Calls.{stepBy, stepped, results}
@@ -34,7 +34,7 @@ pub use Rattle.bench.proofs.Applied.{refused-changes-nothing, refused-w
 -- the bounds of every answer
 pub use Rattle.bench.proofs.Bounded.{bounded, small-value}
 -- "A Waiting or Idle step changes nothing either."
-pub use Rattle.bench.proofs.Waits.{waits-change-nothing}
+pub use Rattle.bench.proofs.Waits.{waits-change-nothing, idle-line-changes-nothing}
 -- what a start leaves that is not refused
 pub use Rattle.bench.proofs.Started.{started, started-sound, started-tight, started-quiet}
 -- END and PAUSE free what the hop held; a circuit stays as it was opened, and its tokens go the way that it was opened
@@ -48,7 +48,7 @@ pub use Rattle.bench.proofs.Numbers.{wire-unsound, wire-no-such, wire-v
 pub use Rattle.bench.proofs.Numbers.{set-unsound, set-no-such, set-value, set-busy, aim-unsound, aim-no-such, aim-value, aim-open}
 pub use Rattle.bench.proofs.Numbers.{output-unsound, output-no-such, output-unaimed, output-hardware, output-privileged}
 pub use Rattle.bench.proofs.Numbers.{output-narrow, output-full, input-unsound, input-no-such, input-empty, input-trap}
-pub use Rattle.bench.proofs.Numbers.{step-unsound, step-no-such, steps-no-such}
+pub use Rattle.bench.proofs.Numbers.{step-unsound, step-no-such, steps-no-such, line-unsound, line-no-such}
 -- a write by switch message is the same Sets made by call, or nothing; the Step that ends the message is those Sets and the reply
 pub use Rattle.bench.proofs.Written.{none-refused, writes-as-sets, call-writes, call-refuses}
 -- a list of steps is the same Steps made one by one, on any memory; the length of its results is looked at first; Unsound is each
@@ -68,6 +68,6 @@ pub use Rattle.bench.proofs.Lasts.{always-room, always-unsent, always-s
 -- THE LOOKS: what may be read of a state, each a contract of its own for any words (`at` of each kind of record in `cells`; `looks`,
 -- `sound`)
 -- a node, link, port, tile link, channel-end and control unit by slot and place; how many nodes there are
-pub use Rattle.cells.specs.View.{Net, view, wholeLink, wholePort, wholeEnd, wholeUnit}
--- a direction entry, the i-th token of a port and of a channel-end
-pub use Rattle.looks.specs.Looks.{direction, portToken, endToken}
+pub use Rattle.cells.specs.View.{Net, view, wholeLink, wholePort, wholeEnd, wholeUnit, wholeLine}
+-- a direction entry, the i-th token of a port and of a channel-end, the i-th on a line
+pub use Rattle.looks.specs.Looks.{direction, portToken, endToken, lineToken}

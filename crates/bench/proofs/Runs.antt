@@ -9,7 +9,7 @@ use Rattle.names.specs.declared.Slot.{Slot}
 use Rattle.circuits.specs.declared.Cause.the-variants.{NoRoute, Split}
 use Rattle.answers.specs.declared.Answer.{Answer}
 use Rattle.answers.specs.declared.Answer.the-variants.{No, Done, Granted, Idle, Moved, OpenedLink, OpenedChannel}
-use Rattle.answers.specs.declared.Answer.the-variants.{OpenedUnit, Refused, Dropped, Waiting}
+use Rattle.answers.specs.declared.Answer.the-variants.{OpenedUnit, Refused, Dropped, Waiting, Arrived}
 use Rattle.answers.specs.declared.Answer.the-variants as Answers
 use Rattle.settings.specs.declared.Setting.the-variants.{Number, Width, Network, Enable, Hello}
 use Rattle.ends.specs.declared.Token.{Token}
@@ -18,7 +18,7 @@ use Rattle.ends.specs.declared.Wanted.the-variants as Wanted
 use Rattle.ends.specs.declared.aim.Goal.the-variants.{Channel, Unit}
 use Rattle.fresh.specs.declared.Start.the-variants.{Fresh, Blank}
 use Rattle.kept.proofs.Computes.{computes}
-use Rattle.bench.specs.Calls.{Call, Wire, Set, Aim, Output, Input, Step, Steps}
+use Rattle.bench.specs.Calls.{Call, Wire, Set, Aim, Output, Input, Step, Line, Steps}
 use Rattle.bench.specs.Runs.{flat}
 use Rattle.bench.proofs.Computed.{Script, calls, Runs, runs}
 
@@ -26,6 +26,14 @@ use Rattle.bench.proofs.Computed.{Script, calls, Runs, runs}
 -- so many Steps of a port, all with one answer
 abbrev steps : ℕ → Slot → ℕ → Answer → Script
 steps k a p x = replicate k (Step a p, x)
+
+-- so many tokens go on from a port, over the line of a link, and arrive; none brings a grant
+abbrev crossing : ℕ → Slot → ℕ → ℕ → Script
+crossing k a p l = replicate k (Step a p, Moved) ++ replicate k (Line a l, Arrived 0)
+
+-- HELLO goes over a link, and the credit of 64 comes back by the far end's
+abbrev greeting : Slot → ℕ → Slot → ℕ → Script
+greeting a l b k = (Set a (Hello l), Granted 0) ∷ (Line a l, Arrived 64) ∷ (Line b k, Arrived 0) ∷ []
 
 -- tokens put out by a channel-end
 abbrev outputs : Slot → ℕ → List Token → Script
@@ -49,13 +57,9 @@ lane = record { 0 = 1 }
 -- joined by their links A, which are enabled and greet each other: number 0 and number 1
 abbrev joined : Script
 joined =
-    (Wire hub 0 lane 0, Done)
-    ∷ (Set hub (Enable 0 1), Done)
-    ∷ (Set lane (Enable 0 1), Done)
-    ∷ (Set hub (Hello 0), Granted 64)
-    ∷ (Set lane (Hello 0), Granted 64)
-    ∷ (Set lane (Number 1), Done)
-    ∷ []
+    ((Wire hub 0 lane 0, Done) ∷ (Set hub (Enable 0 1), Done) ∷ (Set lane (Enable 0 1), Done) ∷ (Set lane (Number 1), Done) ∷ [])
+    ++ greeting hub 0 lane 0
+    ++ greeting lane 0 hub 0
 
 -- to a control unit, reply to channel 3 of number 0, that is to the hub. READC, register 5: the number. WRITEC, register 4, value 1: the
 -- width, one-byte
@@ -73,10 +77,10 @@ update =
     ++ ((Aim hub 0 (Channel 2 5) 0, Done) ∷ [])
     ++ outputs hub 0 (Data 7 ∷ Control 1 ∷ [])
     ++ ((Step hub 8, OpenedLink 0) ∷ [])
-    ++ steps 3 hub 8 Moved
+    ++ crossing 3 hub 8 0
     -- its header is at the lane, not yet read, when the lane becomes number 2
     ++ ((Set lane (Number 2), Done) ∷ [])
-    ++ steps 2 hub 8 Moved
+    ++ crossing 2 hub 8 0
     ++ ((Step lane 0, OpenedChannel) ∷ [])
     ++ steps 2 lane 0 Moved
     ++ inputs lane 5 (Data 7 ∷ Control 1 ∷ [])
@@ -84,11 +88,11 @@ update =
     ++ ((Aim hub 1 (Unit 2) 0, Done) ∷ [])
     ++ outputs hub 1 readNumber
     ++ ((Step hub 8, OpenedLink 0) ∷ [])
-    ++ steps 10 hub 8 Moved
+    ++ crossing 10 hub 8 0
     ++ ((Step lane 0, OpenedUnit) ∷ [])
     ++ steps 7 lane 0 Moved
     ++ ((Step lane 12, OpenedLink 0) ∷ [])
-    ++ steps 9 lane 12 Moved
+    ++ crossing 9 lane 12 0
     ++ ((Step hub 0, OpenedChannel) ∷ [])
     ++ steps 6 hub 0 Moved
     ++ inputs hub 3 (Control 3 ∷ Data 0 ∷ Data 0 ∷ Data 0 ∷ Data 2 ∷ Control 1 ∷ [])
@@ -96,9 +100,9 @@ update =
     ++ ((Aim lane 0 (Channel 0 6) 0, Done) ∷ [])
     ++ outputs lane 0 (Data 9 ∷ Control 1 ∷ [])
     ++ ((Step lane 8, OpenedLink 0) ∷ [])
-    ++ steps 2 lane 8 Moved
+    ++ crossing 2 lane 8 0
     ++ ((Set hub (Width 1), Done) ∷ [])
-    ++ steps 3 lane 8 Moved
+    ++ crossing 3 lane 8 0
     ++ ((Step hub 0, Refused Split) ∷ [])
     ++ steps 5 hub 0 (Dropped Split)
     ++ ((Step hub 0, Idle) ∷ [])
@@ -111,7 +115,7 @@ update =
     ++ ((Set lane (Width 1), Done) ∷ (Aim hub 0 (Channel 10 5) 0, Done) ∷ [])
     ++ outputs hub 0 (Data 6 ∷ Control 2 ∷ [])
     ++ ((Step hub 8, OpenedLink 0) ∷ [])
-    ++ steps 3 hub 8 Moved
+    ++ crossing 3 hub 8 0
     ++ ((Set lane (Number 18), Done) ∷ (Step lane 0, OpenedChannel) ∷ [])
     ++ steps 2 lane 0 Moved
     ++ inputs lane 5 (Data 6 ∷ [])
@@ -124,7 +128,7 @@ halfway =
     ++ ((Set hub (Width 1), Done) ∷ (Aim lane 0 (Channel 0 5) 0, Done) ∷ [])
     ++ outputs lane 0 (Data 7 ∷ Control 1 ∷ [])
     ++ ((Step lane 8, OpenedLink 0) ∷ [])
-    ++ steps 5 lane 8 Moved
+    ++ crossing 5 lane 8 0
     ++ ((Step hub 0, Refused Split) ∷ [])
     ++ steps 5 hub 0 (Dropped Split)
     ++ ((Step hub 0, Idle) ∷ [])
@@ -137,23 +141,25 @@ narrowed =
     ++ ((Aim hub 0 (Unit 1) 0, Done) ∷ [])
     ++ outputs hub 0 writeWidth
     ++ ((Step hub 8, OpenedLink 0) ∷ [])
-    ++ steps 14 hub 8 Moved
+    ++ crossing 14 hub 8 0
     ++ ((Step lane 0, OpenedUnit) ∷ [])
     ++ steps 11 lane 0 Moved
     -- the reply: one header token, ACK, END
     ++ ((Step lane 12, OpenedLink 0) ∷ [])
-    ++ steps 3 lane 12 Moved
+    ++ crossing 3 lane 12 0
     ++ ((Step lane 12, Idle) ∷ (Step hub 0, Refused Split) ∷ [])
     ++ steps 3 hub 0 (Dropped Split)
     ++ ((Step hub 0, Idle) ∷ [])
 
--- the half-done update once more, its Steps as two lists: the lane's port 8, then the hub's port 0
+-- the half-done update once more, its Steps as two lists: the lane's port 8, then, once the line is empty, the hub's port 0
 abbrev pub halfwayByLists : List Call
 halfwayByLists =
     calls joined
     ++ (Set hub (Width 1) ∷ Aim lane 0 (Channel 0 5) 0 ∷ [])
     ++ calls (outputs lane 0 (Data 7 ∷ Control 1 ∷ []))
-    ++ (Steps 6 (replicate 6 (record { slot = 1; port = 8 })) ∷ Steps 7 (replicate 7 (record { slot = 0; port = 0 })) ∷ [])
+    ++ (Steps 6 (replicate 6 (record { slot = 1; port = 8 })) ∷ [])
+    ++ replicate 5 (Line lane 0)
+    ++ (Steps 7 (replicate 7 (record { slot = 0; port = 0 })) ∷ [])
 
 -- .. is that very run
 pub by-lists : flat halfwayByLists ≡ calls halfway
@@ -171,16 +177,18 @@ booted =
     -- Busy: the network of an enabled link
     ++ ((Set hub (Network 4 1), No 4) ∷ [])
     -- a cable between two enabled ends, one of them in use; once it is greeted the circuit goes on, and arrives whole
-    ++ ((Wire hub 4 lane 5, Done) ∷ (Step hub 8, Waiting) ∷ (Set hub (Hello 4), Granted 64) ∷ [])
-    ++ steps 5 hub 8 Moved
+    ++ ((Wire hub 4 lane 5, Done) ∷ (Step hub 8, Waiting) ∷ [])
+    ++ greeting hub 4 lane 5
+    ++ crossing 5 hub 8 4
     ++ ((Step lane 5, OpenedChannel) ∷ [])
     ++ steps 2 lane 5 Moved
     ++ inputs lane 5 (Data 7 ∷ Control 1 ∷ [])
     -- the other way: to link E, the lowest, which leads nowhere, until that is disabled; then to link F
-    ++ ((Set lane (Hello 5), Granted 64) ∷ (Set lane (Enable 4 0), Done) ∷ (Aim lane 0 (Channel 0 6) 0, Done) ∷ [])
+    ++ greeting lane 5 hub 4
+    ++ ((Set lane (Enable 4 0), Done) ∷ (Aim lane 0 (Channel 0 6) 0, Done) ∷ [])
     ++ outputs lane 0 (Control 1 ∷ [])
     ++ ((Step lane 8, OpenedLink 5) ∷ [])
-    ++ steps 4 lane 8 Moved
+    ++ crossing 4 lane 8 5
     ++ ((Step hub 4, OpenedChannel) ∷ (Step hub 4, Moved) ∷ [])
     ++ inputs hub 6 (Control 1 ∷ [])
     -- Busy: a wired end. Disabled, the link changes its network

@@ -19,7 +19,7 @@ use Rattle.bench.specs.Calls.{Begin, rows, apply}
 use Rattle.bench.proofs.Applied.{numbered, accepted}
 
 module _ (w : World) (s : Start) (n : ℕ) (ok : numberOf (apply w (Begin s n) .answer) ≡ passes) where
-  -- the whole of both memories
+  -- the whole of all three memories
   pub started : apply w (Begin s n) ≡ out Done (startOf s n)
   unfolding apply
   started = rw (eq-eqb (refusal (rows w (Begin s n))) passes (sym (numbered w (Begin s n)) ∙ ok))

@@ -41,19 +41,19 @@ use Rattle.ends.specs.Output.{wordOf, goesBehind, goesStraight, outputPerformed
 use Rattle.ends.specs.declared.Token.{Token}
 use Rattle.ends.specs.declared.plan.Plan as Outputs
 use Rattle.ends.specs.declared.plan.Plan.the-variants.{Narrow, Full, Opens, Behind, Straight}
-use Rattle.ends.specs.Needs.{Sends}
+use Rattle.ends.specs.Needs.{withLines, Sends}
 use Rattle.ends.proofs.Possibles.{plan-possible, sends-here}
 use Rattle.plans.specs.Plan.{stepPlan}
 use Rattle.plans.specs.declared.Plan.{Plan}
 use Rattle.plans.specs.declared.Plan.the-variants.{Idle, Wait, OpenOut, OpenChannel, OpenUnit, Refuse, MoveOut, Hand, Hear, Drop}
 use Rattle.moves.specs.Moves.{took, opensChannel, opensUnit, closesOut, closesUnit}
 use Rattle.switch.specs.Step.{stepPerformed}
-use Rattle.bench.specs.Calls.{Call, Begin, Wire, Set, Aim, Output, Input, Step, Steps, rows, made, apply}
+use Rattle.bench.specs.Calls.{Call, Begin, Wire, Set, Aim, Output, Input, Step, Line, Steps, rows, made, apply}
 use Rattle.bench.specs.Runs.{run}
 use Rattle.bench.specs.Stays.{EndsCircuit}
 use Rattle.bench.proofs.Applied.{numbered, accepted, refused-changes-nothing}
 use Rattle.bench.proofs.EachStep.{step-made, stepped-keeps}
-use Rattle.bench.proofs.Untouched.{Untouched, put-leaves, all-leave, took-leaves, strip-leaves, cross-leaves, end-leaves}
+use Rattle.bench.proofs.Untouched.{Untouched, put-leaves, all-leave, took-leaves, strip-leaves, send-leaves, line-leaves, end-leaves}
 
 -- where channel-ends send is no part of what ports hold or of credits, and no Set changes it
 abbrev sendingsOf : Net → ℕ → ℕ → Circuit
@@ -61,7 +61,7 @@ sendingsOf s = s .ends .sendings
 
 sendings-untouched : Untouched sendingsOf
 sendings-untouched =
-    record { counters = λ s n p q. refl; flows = λ s n l k. refl; settings = λ s z v. ap (λ (t : EndTables). t .sendings) (v .ends) }
+    record { counters = λ s n p q. refl; flows = λ s n l k. refl; rings = λ s n l c. refl; issued = λ s n l i. refl; settings = λ s z v. ap (λ (t : EndTables). t .sendings) (v .ends) }
 
 claimed-sendings : (s : Net) (n c : ℕ) (x : Peer) → claimedBy s n c x .ends .sendings ≡ s .ends .sendings
 claimed-sendings s n c x = by-test (eqb c sink) (λ e. rw e) (λ e. rw e)
@@ -85,7 +85,7 @@ module _ (w : World) (n p : ℕ) where
       strip-leaves sendingsOf sendings-untouched (withNet w (opensUnit (w .net) n p)) n p (widthAt (w .net) n)
   step-sendings (Refuse x) = refl
   step-sendings (MoveOut l) =
-      cross-leaves sendingsOf sendings-untouched (withNet (took w n p) (closesOut (took w n p .net) n p l (firstAt w n p))) n l
+      send-leaves sendingsOf sendings-untouched (withNet (took w n p) (closesOut (took w n p .net) n p l (firstAt w n p))) n l
       (firstAt w n p)
       ∙ by-test (closes (firstAt w n p)) (λ e. rw e) (λ e. rw e)
       ∙ taken-sendings
@@ -176,7 +176,7 @@ module _ (w : World) (a : Slot) (c : ℕ) (x : Token) (ok : numberOf (apply w (O
   sends : Sends w (a .0) c (targetOf (w .net .ends .aims (a .0) c))
   sends =
       let p = rows-pass w (Output a c x) ok in
-      sends-here w (a .0) c (not-false _ (p .0)) (not-false _ (p .1 .0)) _ (p .1 .1 .0, refl)
+      sends-here w (a .0) c (record { lines = w .lineMemory; all = not-false _ (p .0) }) (not-false _ (p .1 .0)) _ (p .1 .1 .0, refl)
 
   behind-room : (p : ℕ) → peerOf (w .net .ends .sendings (a .0) c) ≡ Peers.Port p → Room w (a .0) p 1
   unfolding outputPlan
@@ -198,7 +198,7 @@ module _ (w : World) (a : Slot) (c : ℕ) (x : Token) (ok : numberOf (apply w (O
 
   -- and the circuit is what it was, unless the token closes it
   kind-few : w .net .ends .sendings (a .0) c .kind ≤ 2
-  kind-few = end-facts w (sends .all) (a .0) (sends .node) c (sends .end) .sending
+  kind-few = end-facts (withLines w (sends .sure .lines)) (sends .sure .all) (a .0) (sends .node) c (sends .end) .sending
 
   own-stays : isOpen (w .net) (a .0) c ≡ true → closes (wordOf x) ≡ false
       → apply w (Output a c x) .next .net .ends .sendings (a .0) c ≡ w .net .ends .sendings (a .0) c
@@ -245,11 +245,13 @@ module _ (w : World) (n e : ℕ) (going : isOpen (w .net) n e ≡ true) where
   done-stays (Begin s m) none ok = absurd (none tt ok)
   done-stays (Wire a l b k) none ok = as-made (Wire a l b k) ok refl
   done-stays (Set a x) none ok =
-      as-made (Set a x) ok (ap (λ (t : EndTables). t .sendings n e) (setting-leaves (w .net) (a .0) x .ends))
+      as-made (Set a x) ok (ap (λ (t : EndTables). t .sendings n e) (setting-leaves w (a .0) x .ends))
   done-stays (Aim a c g v) none ok = as-made (Aim a c g v) ok refl
   done-stays (Input a c k) none ok = as-made (Input a c k) ok refl
   done-stays (Step a p) none ok =
       as-made (Step a p) ok (ap (λ (f : ℕ → ℕ → Circuit). f n e) (step-sendings w (a .0) p (stepPlan w (a .0) p)))
+  done-stays (Line a l) none ok =
+      as-made (Line a l) ok (ap (λ (f : ℕ → ℕ → Circuit). f n e) (line-leaves sendingsOf sendings-untouched w (a .0) l))
   done-stays (Steps m xs) none ok =
       let its = w .net .ends .sendings n e in
       as-made (Steps m xs) ok (stepped-keeps (λ z. z .net .ends .sendings n e ≡ its)

@@ -1,4 +1,4 @@
--- WHY TIGHT HAS THE TIE `unsent`: boards that pass the list "Sound" and every other tie, and from which Wire, HELLO and a Step lead to a
+-- WHY TIGHT HAS THE TIE `unsent`: boards that pass the list "Sound" and every other tie, and from which Wire, HELLO, its credit and a Step lead to a
 -- state that does not pass the list. The answers are computed: Unsound stands at the end. Assumes nothing.
 use mathlib.Core.Path.{_≡_, refl}
 use mathlib.Core.Bool.{true, false, _&&_}
@@ -13,19 +13,20 @@ use Rattle.circuits.specs.declared.Peer.the-variants.{Port}
 use Rattle.tokens.specs.Control.{end}
 use Rattle.tokens.specs.Word.{controlWord}
 use Rattle.ports.specs.Memory.{place}
-use Rattle.answers.specs.declared.Answer.the-variants.{No, Done, Granted, Moved}
+use Rattle.answers.specs.declared.Answer.the-variants.{No, Done, Granted, Moved, Arrived}
 use Rattle.cells.specs.View.{Net, withCounters, withLeg, withUser}
 use Rattle.cells.specs.World.{World}
 use Rattle.fresh.specs.Fresh.{startOf}
 use Rattle.fresh.specs.declared.Start.the-variants.{Fresh}
-use Rattle.clauses.specs.Ties.{fed, unfed, unsent, idle}
+use Rattle.clauses.specs.Ties.{unfed, unsent, idle}
+use Rattle.line_clauses.specs.Lines.{fedOver, between, towards, helloLast}
 use Rattle.settings.specs.declared.Setting.the-variants.{Hello}
 use Rattle.sound.specs.Tests.{holds}
 use Rattle.sound.specs.Questions.{everywhere}
 use Rattle.sound.specs.Sound.{sound, tight}
 use Rattle.sound.specs.declared.questions.Question.the-variants.{Sends, Replied}
 use Rattle.kept.proofs.Computes.{computes}
-use Rattle.bench.specs.Calls.{Call, Wire, Set, Step, apply}
+use Rattle.bench.specs.Calls.{Call, Wire, Set, Step, Line, apply}
 use Rattle.bench.specs.Runs.{run}
 
 -- two boards as Fresh leaves them, but that port 8 of the first has a circuit out by link E, which leads nowhere, and holds its END: the
@@ -49,7 +50,9 @@ pub passes : sound begun ≡ true
 unfolding computes sound holds every all
 passes = refl
 
-pub other-ties : (every 2 links (λ n l. fed begun n l && (unfed begun n l && idle (begun .net) n l)) ≡ true)
+pub other-ties : (every 2 links (λ n l.
+    fedOver begun n l && (unfed begun n l && (idle (begun .net) n l
+    && (between begun n l && (towards begun n l && helloLast begun n l))))) ≡ true)
     × (everywhere Sends begun ≡ true) × (everywhere Replied begun ≡ true)
 unfolding computes everywhere every all
 other-ties = (refl, refl, refl)
@@ -58,7 +61,7 @@ pub fails : (unsent begun 0 4 ≡ false) × (tight begun ≡ false)
 unfolding computes tight everywhere every all
 fails = (refl, refl)
 
--- a cable from link E to link E, HELLO, and the port's Step: END stands alone at the far port, where a header must
+-- a cable from link E to link E, HELLO and its credit, and the port's Step: END is alone on its way to the far port, where a header must be
 abbrev one : Slot
 one = record { 0 = 0 }
 
@@ -66,8 +69,8 @@ abbrev other : Slot
 other = record { 0 = 1 }
 
 abbrev calls : List Call
-calls = Wire one 4 other 4 ∷ Set one (Hello 4) ∷ Step one 8 ∷ Step other 4 ∷ []
+calls = Wire one 4 other 4 ∷ Set one (Hello 4) ∷ Line one 4 ∷ Line other 4 ∷ Step one 8 ∷ Step other 4 ∷ []
 
-pub unsound-at-the-end : run begun calls .answers ≡ Done ∷ Granted 64 ∷ Moved ∷ No 1 ∷ []
+pub unsound-at-the-end : run begun calls .answers ≡ Done ∷ Granted 0 ∷ Arrived 64 ∷ Arrived 0 ∷ Moved ∷ No 1 ∷ []
 unfolding computes apply sound holds every all
 unsound-at-the-end = refl

@@ -1,9 +1,9 @@
--- What no token on its way touches: a part of the state that hangs neither on what ports hold nor on credits, and that no Set changes, is
--- as it was once tokens are put, taken, passed over a cable, and once a message is obeyed and answered. Assumes nothing.
+-- What no token on its way touches: a part of the state that hangs neither on what ports and lines hold nor on credits, and that no Set
+-- changes, is as it was once tokens are put, taken, passed over a cable, and once a message is obeyed and answered. Assumes nothing.
 use Prim.Native.Nat.{ℕ}
 use mathlib.Core.Path.{_≡_, refl, _∙_}
 use mathlib.Core.List.{List, [], _∷_}
-use lib.Dec.{ltb}
+use lib.Dec.{eqb, ltb}
 use Rattle.laws.specs.Pick.{pick}
 use Rattle.laws.proofs.Order.{by-test}
 use Rattle.names.specs.Size.{links, replyPort}
@@ -11,14 +11,17 @@ use Rattle.tokens.specs.Header.{headerOf, words, isNarrow}
 use Rattle.tokens.specs.declared.header.Target.{Target}
 use Rattle.tokens.specs.declared.header.Width.{Width}
 use Rattle.tokens.specs.declared.header.Width.the-variants.{One, Three}
+use Rattle.ports.specs.Queue.{takeCounters}
 use Rattle.ports.specs.declared.Counters.{Counters}
-use Rattle.cells.specs.View.{Net, withCounters, withFlow}
+use Rattle.lines.specs.Load.{creditWord, isHello, creditOf}
+use Rattle.cells.specs.View.{Net, withCounters, withFlow, withRing, withIssued}
 use Rattle.cells.specs.World.{World, farOf}
 use Rattle.cells.specs.declared.link.Far.{Far}
 use Rattle.cells.specs.declared.link.Far.the-variants.{Nowhere, At}
 use Rattle.cells.specs.declared.link.Flow.{Flow}
 use Rattle.acts.specs.Acts.{withNet, widthAt, pushed, pushedAll, popped}
-use Rattle.grants.specs.Grants.{considered}
+use Rattle.travel.specs.Travel.{putOn, takenOff, firstOn, grantDue, issuedMore, grantsBack, paidOne, sendsOn, tokenIn, greets}
+use Rattle.travel.specs.Travel.{lineEmpty, leftBy, lineStepped}
 use Rattle.settings.proofs.Leaves.{Leaves}
 use Rattle.messages.specs.Register.{fieldsOf, readOf}
 use Rattle.messages.specs.Heard.{messageOf}
@@ -29,13 +32,15 @@ use Rattle.messages.specs.declared.heard.Message.the-variants.{Malformed, Wrong
 use Rattle.messages.specs.declared.reply.Reply.{Reply}
 use Rattle.messages.specs.declared.reply.Reply.the-variants.{Nack, Ack, Value}
 use Rattle.messages.proofs.Writes.{write-leaves}
-use Rattle.moves.specs.Moves.{consideredAt, grantsUp, took, stripped, paid, arrives, crosses}
+use Rattle.moves.specs.Moves.{took, stripped}
 
 -- such a part
 pub record Untouched {A : Type 0} (f : Net → A) : Type 0 where
   pub counters : (s : Net) (n p : ℕ) (q : Counters) → f (withCounters s n p q) ≡ f s
   pub flows : (s : Net) (n l : ℕ) (k : Flow) → f (withFlow s n l k) ≡ f s
-  pub settings : (s z : Net) → Leaves s z → f z ≡ f s
+  pub rings : (s : Net) (n l : ℕ) (c : Counters) → f (withRing s n l c) ≡ f s
+  pub issued : (s : Net) (n l i : ℕ) → f (withIssued s n l i) ≡ f s
+  pub settings : (w z : World) → Leaves w z → f (z .net) ≡ f (w .net)
 
 module _ {A : Type 0} (f : Net → A) (u : Untouched f) where
   -- PUT
@@ -47,33 +52,52 @@ module _ {A : Type 0} (f : Net → A) (u : Untouched f) where
   all-leave [] w n p = refl
   all-leave (t ∷ ts) w n p = all-leave ts (pushed w n p t) n p ∙ put-leaves w n p t
 
-  -- TAKEN, with a grant
-  granting : (s : Net) (x : Far) → f (consideredAt s x) ≡ f s
-  unfolding considered
-  granting s Nowhere = refl
-  granting s (At m j) = u .flows s (m .0) j _
+  -- ON A LINE, and off it
+  on-leaves : (w : World) (n l x : ℕ) → f (putOn w n l x .net) ≡ f (w .net)
+  unfolding putOn
+  on-leaves w n l x = u .rings (w .net) n l _
 
-  granted-up : (s : Net) (n p : ℕ) → f (grantsUp s n p) ≡ f s
-  granted-up s n p = by-test (ltb p links) (λ e. rw e (granting s (farOf (s .links .cables n p)))) (λ e. rw e)
+  -- TAKEN, with a grant
+  pub grant-leaves : (w : World) (n p : ℕ) → f (grantsBack w n p .net) ≡ f (w .net)
+  unfolding grantsBack
+  grant-leaves w n p =
+      let g = grantDue w n p in
+      by-test (eqb g 0)
+      (λ e. rw e)
+      (λ e. rw e (on-leaves (withNet w (issuedMore (w .net) n p g)) n p (creditWord g) ∙ u .issued (w .net) n p _))
 
   pub took-leaves : (w : World) (n p : ℕ) → f (took w n p .net) ≡ f (w .net)
   unfolding took popped
-  took-leaves w n p = granted-up (popped w n p .net) n p ∙ u .counters (w .net) n p _
+  took-leaves w n p =
+      let less = u .counters (w .net) n p (takeCounters (w .net .ports .counters n p)) in
+      by-test (ltb p links) (λ e. rw e (grant-leaves (popped w n p) n p ∙ less)) (λ e. rw e less)
 
   pub strip-leaves : (w : World) (n p : ℕ) (x : Width) → f (stripped w n p x .net) ≡ f (w .net)
   strip-leaves w n p One = took-leaves w n p
   strip-leaves w n p Three = took-leaves (took (took w n p) n p) n p ∙ took-leaves (took w n p) n p ∙ took-leaves w n p
 
   -- OVER A CABLE
-  arrival : (w : World) (x : Far) (t : ℕ) → f (arrives w x t .net) ≡ f (w .net)
-  arrival w Nowhere t = refl
-  arrival w (At m j) t = put-leaves w (m .0) j t
+  pub send-leaves : (w : World) (n l t : ℕ) → f (sendsOn w n l t .net) ≡ f (w .net)
+  send-leaves w n l t = on-leaves (withNet w (paidOne (w .net) n l)) n l t ∙ u .flows (w .net) n l _
 
-  pub cross-leaves : (w : World) (n l t : ℕ) → f (crosses w n l t .net) ≡ f (w .net)
-  unfolding crosses considered
-  cross-leaves w n l t =
-      let z = arrives w (farOf (w .net .links .cables n l)) t .net in
-      u .flows (paid z n l) n l _ ∙ u .flows z n l _ ∙ arrival w (farOf (w .net .links .cables n l)) t
+  arrival-leaves : (w : World) (n l : ℕ) (x : Far) → f (leftBy w n l x .net) ≡ f (w .net)
+  unfolding takenOff
+  arrival-leaves w n l Nowhere = refl
+  arrival-leaves w n l (At m k) =
+      let y = takenOff w n l in
+      let x = firstOn w n l in
+      let off : f (y .net) ≡ f (w .net) = u .rings (w .net) n l _ in
+      by-test (lineEmpty w n l)
+      (λ e. rw e)
+      (λ e. rw e (by-test (isHello x)
+      (λ d. rw d (grant-leaves (greets y n l (m .0) k) (m .0) k ∙ u .issued _ (m .0) k _ ∙ u .flows _ n l _ ∙ off))
+      (λ d. rw d (by-test (eqb (creditOf x) 0)
+      (λ g. rw g (grant-leaves (tokenIn y (m .0) k x) (m .0) k ∙ u .issued _ (m .0) k _ ∙ put-leaves y (m .0) k x ∙ off))
+      (λ g. rw g (u .flows _ (m .0) k _ ∙ off))))))
+
+  pub line-leaves : (w : World) (n l : ℕ) → f (lineStepped w n l .net) ≡ f (w .net)
+  unfolding lineStepped
+  line-leaves w n l = arrival-leaves w n l (farOf (w .net .links .cables n l))
 
   -- A MESSAGE AT ITS END
   answer-leaves : (w : World) (n : ℕ) (g : Target) (x : Reply) → f (replySent w n g x .next .net) ≡ f (w .net)
@@ -91,8 +115,8 @@ module _ {A : Type 0} (f : Net → A) (u : Untouched f) where
   obeyed-leaves w n (Read g r) = answer-leaves w n g (Value (readOf (w .net) n r))
   obeyed-leaves w n (Write g r v) =
       let xs = fieldsOf r v in
-      answer-leaves (withNet w (written (w .net) n xs)) n g (pick (accepted (w .net) n xs) Ack Nack)
-      ∙ u .settings (w .net) (written (w .net) n xs) (write-leaves (w .net) n xs)
+      answer-leaves (written w n xs) n g (pick (accepted w n xs) Ack Nack)
+      ∙ u .settings w (written w n xs) (write-leaves w n xs)
 
   pub end-leaves : (w : World) (n x : ℕ) → f (ended w n x .next .net) ≡ f (w .net)
   unfolding ended

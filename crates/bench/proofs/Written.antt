@@ -15,13 +15,13 @@ use Rattle.names.specs.No.{passes}
 use Rattle.names.specs.declared.Slot.{Slot}
 use Rattle.tokens.specs.declared.header.Target.{Target}
 use Rattle.answers.specs.Answer.{numberOf}
-use Rattle.answers.specs.Out.{Out, out}
+use Rattle.answers.specs.Out.{Out}
 use Rattle.answers.proofs.Refusals.{certain}
 use Rattle.cells.specs.View.{Net}
 use Rattle.cells.specs.World.{World}
 use Rattle.cells.specs.declared.unit.Hearing.{Hearing}
-use Rattle.acts.specs.Acts.{withNet, firstAt}
-use Rattle.settings.specs.Set.{setRows, setAnswer, setMade, setCall}
+use Rattle.acts.specs.Acts.{firstAt}
+use Rattle.settings.specs.Set.{setRows, setCall}
 use Rattle.settings.specs.declared.Setting.{Setting}
 use Rattle.messages.specs.Register.{fieldsOf}
 use Rattle.messages.specs.Heard.{messageOf}
@@ -42,34 +42,31 @@ use Rattle.kept.proofs.Hears.{keep-freed}
 use Rattle.bench.specs.Calls.{Set, Step, apply}
 use Rattle.bench.specs.Runs.{run}
 use Rattle.bench.specs.Writes.{NoneRefused, EndsWrite, hopClosed}
-use Rattle.bench.proofs.Lifted.{lifted, on-net}
+use Rattle.bench.proofs.Lifted.{on-world}
 
 -- SETS BY CALL
-one-call : (w : World) → Kept w → (a : Slot) (x : Setting) → apply w (Set a x) ≡ lifted w (setCall (w .net) (a .0) x)
+one-call : (w : World) → Kept w → (a : Slot) (x : Setting) → apply w (Set a x) ≡ setCall w (a .0) x
 unfolding setCall
-one-call w k a x =
-    let s = w .net in
-    let done = out (setAnswer s (a .0) x) (setMade s (a .0) x) in
-    sym (on-net w (Set a x) (setRows s (a .0) x) refl (kept-sound w k .0) done refl (setCall s (a .0) x) refl)
+one-call w k a x = sym (on-world w (Set a x) (setRows w (a .0) x) refl (kept-sound w k .0) (setCall w (a .0) x) refl)
 
-by-calls : (xs : List Setting) (w : World) → Kept w → (a : Slot) → run w (map (Set a) xs) .last ≡ withNet w (madeAll (w .net) (a .0) xs)
+by-calls : (xs : List Setting) (w : World) → Kept w → (a : Slot) → run w (map (Set a) xs) .last ≡ madeAll w (a .0) xs
 by-calls [] w k a = refl
 by-calls (x ∷ xs) w k a =
     ap (λ (o : Out World). run (o .next) (map (Set a) xs) .last) (one-call w k a x)
-    ∙ by-calls xs (withNet w (setCall (w .net) (a .0) x .next)) (keep-set w k (a .0) x) a
+    ∙ by-calls xs (setCall w (a .0) x .next) (keep-set w k (a .0) x) a
 
 -- a write is accepted exactly where none of them is refused
 pub none-refused : (xs : List Setting) (w : World) → Kept w → (a : Slot)
-    → Means (accepted (w .net) (a .0) xs) (NoneRefused (run w (map (Set a) xs)))
+    → Means (accepted w (a .0) xs) (NoneRefused (run w (map (Set a) xs)))
 none-refused [] w k a = certain true refl tt
 none-refused (x ∷ xs) w k a =
-    let o = setCall (w .net) (a .0) x in
+    let o = setCall w (a .0) x in
     rw (one-call w k a x)
-    (also (equal (numberOf (o .answer)) passes) (none-refused xs (withNet w (o .next)) (keep-set w k (a .0) x) a))
+    (also (equal (numberOf (o .answer)) passes) (none-refused xs (o .next) (keep-set w k (a .0) x) a))
 
-pub writes-as-sets : (w : World) → Kept w → (a : Slot) (xs : List Setting) → accepted (w .net) (a .0) xs ≡ true
-    → run w (map (Set a) xs) .last ≡ withNet w (written (w .net) (a .0) xs)
-writes-as-sets w k a xs e = by-calls xs w k a ∙ ap (withNet w) (sym (as-sets (w .net) (a .0) xs e))
+pub writes-as-sets : (w : World) → Kept w → (a : Slot) (xs : List Setting) → accepted w (a .0) xs ≡ true
+    → run w (map (Set a) xs) .last ≡ written w (a .0) xs
+writes-as-sets w k a xs e = by-calls xs w k a ∙ sym (as-sets w (a .0) xs e)
 
 -- THE STEP THAT ENDS THE MESSAGE
 module _ (w : World) (k : Kept w) (a : Slot) (p : ℕ) (g : Target) (r : Register) (v : ℕ) (z : EndsWrite w (a .0) p g r v) where
@@ -97,19 +94,19 @@ module _ (w : World) (k : Kept w) (a : Slot) (p : ℕ) (g : Target) (r : Registe
   closed-kept = keep-freed w k n p (kept-holds w k n p 1 (z .node) (z .port) (z .held)) (z .served) (z .last)
 
   -- accepted: as those Sets by call leave y, and ACK from there; refused: nothing is written, and NACK
-  pub step-writes : accepted (y .net) n fields ≡ true → stepMade w n p ≡ replySent (run y (map (Set a) fields) .last) n g Ack
+  pub step-writes : accepted y n fields ≡ true → stepMade w n p ≡ replySent (run y (map (Set a) fields) .last) n g Ack
   step-writes e = obeys ∙ rw e (ap (λ (u : World). replySent u n g Ack) (sym (writes-as-sets y closed-kept a fields e)))
 
-  pub step-refuses : accepted (y .net) n fields ≡ false → stepMade w n p ≡ replySent y n g Nack
-  step-refuses e = obeys ∙ rw (e, as-before (y .net) n fields e)
+  pub step-refuses : accepted y n fields ≡ false → stepMade w n p ≡ replySent y n g Nack
+  step-refuses e = obeys ∙ rw (e, as-before y n fields e)
 
   -- .. by call
   called : apply w (Step a p) ≡ stepMade w n p
   unfolding apply
   called = rw (kept-sound w k .0, lt-ltb n (w .net .nodes) (z .node), lt-ltb p ports (z .port))
 
-  pub call-writes : accepted (y .net) n fields ≡ true → apply w (Step a p) ≡ replySent (run y (map (Set a) fields) .last) n g Ack
+  pub call-writes : accepted y n fields ≡ true → apply w (Step a p) ≡ replySent (run y (map (Set a) fields) .last) n g Ack
   call-writes e = called ∙ step-writes e
 
-  pub call-refuses : accepted (y .net) n fields ≡ false → apply w (Step a p) ≡ replySent y n g Nack
+  pub call-refuses : accepted y n fields ≡ false → apply w (Step a p) ≡ replySent y n g Nack
   call-refuses e = called ∙ step-refuses e

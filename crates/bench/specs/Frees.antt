@@ -29,6 +29,7 @@ tookOne (A.Refused c) = false
 tookOne (A.Dropped c) = true
 tookOne A.Malformed = true
 tookOne A.Unheard = true
+tookOne (A.Arrived g) = false
 
 -- what a hop of node n held is held by nobody: outward the link; to a channel the tile link, and the claim (the sink has none); the control
 -- unit. A circuit that is dropped held its port alone, and where there was no circuit no such Step was made

@@ -7,7 +7,7 @@ use mathlib.Core.List.{List, [], _∷_}
 use Rattle.names.specs.No.{number, Unsound}
 use Rattle.answers.specs.declared.Answer.{Answer}
 use Rattle.answers.specs.declared.Answer.the-variants.{No}
-use Rattle.bench.specs.Calls.{Call, Begin, Wire, Set, Aim, Output, Input, Step, Steps}
+use Rattle.bench.specs.Calls.{Call, Begin, Wire, Set, Aim, Output, Input, Step, Line, Steps}
 
 -- a start of another number of boards than the memory has, n
 abbrev pub OtherBoards : ℕ → Call → Type 0
@@ -18,6 +18,7 @@ OtherBoards n (Aim a c g v) = ⊥
 OtherBoards n (Output a c x) = ⊥
 OtherBoards n (Input a c k) = ⊥
 OtherBoards n (Step a p) = ⊥
+OtherBoards n (Line a l) = ⊥
 OtherBoards n (Steps m xs) = ⊥
 
 -- a call that answers Unsound is such a start

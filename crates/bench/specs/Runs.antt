@@ -6,7 +6,7 @@ use Rattle.laws.specs.Pick.{pick}
 use Rattle.answers.specs.declared.Answer.{Answer}
 use Rattle.cells.specs.World.{World}
 use Rattle.bench.specs.declared.StepRecord.{StepRecord}
-use Rattle.bench.specs.Calls.{Call, Begin, Wire, Set, Aim, Output, Input, Step, Steps, apply}
+use Rattle.bench.specs.Calls.{Call, Begin, Wire, Set, Aim, Output, Input, Step, Line, Steps, apply}
 
 -- the answers in order, and what is left
 pub record Ran : Type 0 where
@@ -33,6 +33,7 @@ singly (Aim a c g v) = Aim a c g v ∷ []
 singly (Output a c x) = Output a c x ∷ []
 singly (Input a c k) = Input a c k ∷ []
 singly (Step a p) = Step a p ∷ []
+singly (Line a l) = Line a l ∷ []
 singly (Steps n xs) = pick (eqb n (length xs)) (stepsOf xs) []
 
 -- the run of single calls that a run stands for

@@ -4,7 +4,7 @@ use mathlib.Core.Path.{_≡_}
 use mathlib.Core.Bool.{true}
 use Rattle.tokens.specs.Word.{closes}
 use Rattle.ends.specs.Output.{wordOf}
-use Rattle.bench.specs.Calls.{Call, Begin, Wire, Set, Aim, Output, Input, Step, Steps}
+use Rattle.bench.specs.Calls.{Call, Begin, Wire, Set, Aim, Output, Input, Step, Line, Steps}
 
 -- channel-end e of node n puts out END or PAUSE; or all begins anew
 abbrev pub EndsCircuit : ℕ → ℕ → Call → Type 0
@@ -15,4 +15,5 @@ EndsCircuit n e (Aim a c g v) = ⊥
 EndsCircuit n e (Output a c x) = (a .0 ≡ n) × (c ≡ e) × (closes (wordOf x) ≡ true)
 EndsCircuit n e (Input a c k) = ⊥
 EndsCircuit n e (Step a p) = ⊥
+EndsCircuit n e (Line a l) = ⊥
 EndsCircuit n e (Steps m xs) = ⊥

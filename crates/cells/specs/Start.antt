@@ -1,17 +1,15 @@
 -- What a start gives. "all nodes number 0, width three, directions 0, links unwired, disabled, network 0; channel-ends unaimed; every
 -- token word 0." (document 01, "Calls"), but for a set of links that are enabled (document 02, Ask 7): every record is all zeros, but for
 -- the width and those links' setups.
-use Prim.Native.Nat.{ℕ, _*_}
+use Prim.Native.Nat.{ℕ}
 use mathlib.Core.Bool.{Bool, false, _&&_}
 use mathlib.Core.List.{[]}
 use lib.Dec.{ltb}
 use lib.ListN.{replicate}
 use Rattle.laws.specs.Pick.{pick}
-use Rattle.names.specs.Size.{ports}
-use Rattle.ports.specs.Queue.{capacity}
 use Rattle.cells.specs.Records.{toNode, toLink, toPort, toTile, toEnd, toUnit, toLine}
 use Rattle.cells.specs.View.{Net, LinkTables, PortTables, EndTables, UnitTables, LineTables}
-use Rattle.cells.specs.World.{World}
+use Rattle.cells.specs.World.{World, tokenWords, lineWords}
 use Rattle.cells.specs.declared.node.Node.{Node}
 use Rattle.cells.specs.declared.link.Link.{Link}
 
@@ -82,7 +80,7 @@ abbrev pub startNet : (ℕ → ℕ → Bool) → ℕ → Net
 startNet on n = startTo n on n
 
 abbrev pub startWorld : (ℕ → ℕ → Bool) → ℕ → World
-startWorld on n = record { net = startNet on n; memory = replicate (n * (ports * capacity)) 0; lineMemory = [] }
+startWorld on n = record { net = startNet on n; memory = replicate (tokenWords n) 0; lineMemory = replicate (lineWords n) 0 }
 
 -- no link is enabled
 abbrev pub noneOn : ℕ → ℕ → Bool

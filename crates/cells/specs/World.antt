@@ -7,12 +7,12 @@ use mathlib.Core.List.{List, [], _∷_}
 use lib.Dec.{eqb, leb}
 use lib.ListN.{length}
 use Rattle.laws.specs.Pick.{pick}
-use Rattle.names.specs.Size.{nodes, ports}
+use Rattle.names.specs.Size.{nodes, links, ports}
 use Rattle.circuits.specs.Circuit.{hopOf}
 use Rattle.circuits.specs.declared.Hop.{Hop}
 use Rattle.ports.specs.Queue.{capacity}
 use Rattle.ports.specs.Memory.{place, held}
-use Rattle.lines.specs.Line.{linePlace, onLine}
+use Rattle.lines.specs.Line.{lineCapacity, linePlace, onLine}
 use Rattle.cells.specs.View.{Net, view}
 use Rattle.cells.specs.declared.link.Cable.{Cable}
 use Rattle.cells.specs.declared.link.Far.{Far}
@@ -53,8 +53,17 @@ abbrev pub isEmpty : List ℕ → Bool
 isEmpty [] = true
 isEmpty (x ∷ l) = false
 
--- "A network of 1 to 16 XS1-L nodes"; "The host lends one token memory: nodes × 13 ports × 64 words of 16 bits, exactly"
+-- "The host lends one token memory: nodes × 13 ports × 64 words of 16 bits, exactly" (document 01, "Sizes"), and "a second lent memory of
+-- nodes × 8 × 66 words" (document 02, Ask 4)
+abbrev pub tokenWords : ℕ → ℕ
+tokenWords n = n * (ports * capacity)
+
+abbrev pub lineWords : ℕ → ℕ
+lineWords n = n * (links * lineCapacity)
+
+-- "A network of 1 to 16 XS1-L nodes", and both memories are theirs
 unfoldable pub shaped : World → Bool
 shaped w =
+    let n = w .net .nodes in
     isEmpty (w .net .rest)
-    && (leb 1 (w .net .nodes) && (leb (w .net .nodes) nodes && eqb (length (w .memory)) (w .net .nodes * (ports * capacity))))
+    && (leb 1 n && (leb n nodes && (eqb (length (w .memory)) (tokenWords n) && eqb (length (w .lineMemory)) (lineWords n))))

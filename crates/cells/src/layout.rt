@@ -16,11 +16,14 @@ use ports::Counters;
 ghost use mathlib.Core.Path.{_≡_};
 ghost use Prim.Native.Nat.{_+_, _*_, _^_, _<_, _≤_};
 ghost use lib.ListN.{length};
-ghost use Rattle.cells.specs.World.{world, shaped};
+ghost use Rattle.cells.specs.World.{lent, shaped};
 ghost use Rattle.cells.specs.Layout.{stride, Within, begins, nodesIn, wordsOf};
 
 // The words of token memory of a node: its ports' stretches.
 pub const TOKEN_WORDS: usize = PORTS * Counters::CAPACITY as usize;
+
+// The words of the lines' memory of a node: the stretches of the lines that start at its links.
+pub const LINE_WORDS: usize = LINKS * lines::CAPACITY as usize;
 
 // A kind of record: how many a node has, where among the node's words the first begins, and how many
 // words each has.
@@ -139,9 +142,9 @@ pub fn copy(to: &mut [u32], from: &[u32])
     }
 }
 
-// Both lengths are those of 1 to 16 nodes.
-pub fn shaped(st: &[u32], mem: &[u16]) -> bool
-    ensures { λ r. ⌜ r ≡ shaped (world (now (st .entry)) (now (mem .entry))) ⌝ }
+// The lengths are those of 1 to 16 nodes.
+pub fn shaped(st: &[u32], mem: &[u16], ls: &[u16]) -> bool
+    ensures { λ r. ⌜ r ≡ shaped (lent (now (st .entry)) (now (mem .entry)) (now (ls .entry))) ⌝ }
 {
     let n = nodes(st);
     if st.len() % STRIDE != 0 {
@@ -150,5 +153,5 @@ pub fn shaped(st: &[u32], mem: &[u16]) -> bool
     if n > NODES {
         return false;
     }
-    (1 <= n) & (mem.len() == n * TOKEN_WORDS)
+    (1 <= n) & ((mem.len() == n * TOKEN_WORDS) & (ls.len() == n * LINE_WORDS))
 }

@@ -1,5 +1,5 @@
 -- What each test of the Sound list means, both ways: what a sound state hands to a call, and what a call has to show to leave it sound.
--- One test is not here: what a port may hold, `ports-hold` in Spoken.antt. Assumes nothing.
+-- One test is not here: what a port may hold, `tokens-hold` in Spoken.antt. Assumes nothing.
 use Prim.Native.Nat.{ℕ, _+_, _<_, _≤_}
 use mathlib.Core.Bool.{Bool, true, false, not}
 use mathlib.Core.List.{List}
@@ -42,7 +42,7 @@ use Rattle.cells.specs.declared.unit.Unit.{Unit}
 use Rattle.cells.specs.declared.unit.Hearing.{Hearing}
 use Rattle.clauses.specs.Counts.{nodeCounts, linkCounts, tilePort, isFree, portCounts, tileCounts, aimCounts, endCounts, unitCounts}
 use Rattle.clauses.specs.Counts.{lineCounts}
-use Rattle.clauses.specs.Cables.{onFar, leadsTo, cable, credited, greeted, enabled, room}
+use Rattle.clauses.specs.Cables.{onFar, leadsTo, cable, credited, greeted, enabled}
 use Rattle.clauses.specs.Contents.{legalWord, filled, legalWords, heldTokens, heardTokens}
 use Rattle.clauses.specs.Pairs.{portOf, endOf, claimable, straightTo, linkOf, tileOf, unitOf, claimOf}
 use Rattle.clauses.specs.Pairs.{namedBy, backward, players, isNamed, onNamed, agrees, openBy, openEnd, silent}
@@ -107,18 +107,18 @@ free k = also (equal _ _) (equal _ _)
 pub tile-counts : (k : Tile) → Means (tileCounts k) (k .user .kind ≤ 1)
 tile-counts k = at-most _ _
 
--- an empty line, and nothing issued
+-- a line's counters, and what may be issued
 pub record LineFacts (k : Line) : Type 0 where
   pub head : k .ring .head < lineCapacity
-  pub held : k .ring .held ≡ 0
-  pub issued : k .issued ≡ 0
+  pub held : k .ring .held ≤ lineCapacity
+  pub issued : k .issued ≤ capacity
 
 pub line-counts : (k : Line) → Means (lineCounts k) (LineFacts k)
 line-counts k =
     same-as
     (λ z. record { head = z .0; held = z .1 .0; issued = z .1 .1 })
     (λ z. (z .head, (z .held, z .issued)))
-    (also (below _ _) (also (equal _ _) (equal _ _)))
+    (also (below _ _) (also (at-most _ _) (at-most _ _)))
 
 -- a destination that is there
 pub record AimFacts (k : Aim) : Type 0 where
@@ -186,14 +186,6 @@ cables s n l =
 
 pub credits : (s : Net) (n l : ℕ) → Means (credited s n l) ((s .links .flows n l .credit ≡ 0) ⊎ (s .links .flows n l .greeted ≡ 1))
 credits s n l = either (equal _ _) (equal _ _)
-
-pub rooms : (s : Net) (n l : ℕ)
-    → Means (room s n l)
-    ((m : Slot) (k : ℕ) → farOf (s .links .cables n l) ≡ At m k
-    → s .links .flows n l .credit + s .ports .counters (m .0) k .held ≤ capacity)
-rooms s n l =
-    on-far {P = λ m k. s .links .flows n l .credit + s .ports .counters (m .0) k .held ≤ capacity}
-    (farOf (s .links .cables n l)) _ (λ m k. at-most _ _)
 
 -- a far end that is there and enabled
 pub record Hears (s : Net) (k : Cable) : Type 0 where

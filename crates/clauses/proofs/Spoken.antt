@@ -1,5 +1,5 @@
--- The test of a port's contents is the paper's sentence, both ways: the walk over a port's tokens ends well exactly where they are what
--- the sentence says. Assumes nothing.
+-- The paper's sentence on a port's contents, both ways: the walk over a port's tokens, and on over those that are coming to it, ends well
+-- exactly where they are what the sentence says. Assumes nothing.
 use Prim.{Unit}
 use Prim.Native.Nat.{ℕ, zero, suc, _-_, _<_, _≤_}
 use mathlib.Core.Path.{_≡_, refl, sym, ap, _∙_, subst}
@@ -28,13 +28,11 @@ use Rattle.grammar.specs.Walk.{walk, threes, beginsOne, lead, backOf}
 use Rattle.grammar.specs.declared.stage.Stage.{Stage}
 use Rattle.grammar.specs.declared.stage.Stage.the-variants as At
 use Rattle.grammar.proofs.Nexts as Nexts
-use Rattle.cells.specs.World.{World, hop, queue}
-use Rattle.clauses.specs.Contents.{ready, contents}
+use Rattle.grammar.proofs.Walks.{walk-append, good-from}
 use Rattle.clauses.specs.Sentences.{Plain, Closing, Byte, Last, Holds}
 use Rattle.clauses.specs.Sentences.{Header, one, three, first, second, Rest, Body, none, more}
 use Rattle.clauses.specs.Sentences.{Streams, empty, short, Onward, Led, led}
 use Rattle.clauses.specs.Sentences as Say
-use Rattle.clauses.proofs.Readies.{Ready, is-ready, made-ready}
 
 -- What a word is, by its shape
 
@@ -256,38 +254,42 @@ threes-within : (q : List ℕ) → threes q ≤ length q
 threes-within [] = omega arith
 threes-within (w ∷ q) = let h = threes-within q in by-test (ofThree (shapeOf w)) (λ e. rw e (omega arith)) (λ e. rw e (omega arith))
 
+-- .. in a port by itself
+data Leading : List ℕ → Type 0 where
+  leading : {h q : List ℕ} → Rest h → Onward q → Leading (h ++ q)
+
 all-gone : Rest []
 all-gone = record { gone = 0x200 ∷ []; header = one (record { value = 0; legal = omega arith; word = refl }) }
 
 any-byte : Byte Three 0x600
 any-byte = record { value = 0; legal = omega arith; word = refl }
 
-past-it : {q : List ℕ} → Onward q → Led q
-past-it o = led {h = []} all-gone o
+past-it : {q : List ℕ} → Onward q → Leading q
+past-it o = leading {h = []} all-gone o
 
-nothing-held : Led []
+nothing-held : Leading []
 nothing-held = past-it (Say.Onward.begun none)
 
-led-narrow : {q : List ℕ} → Narrow q → Led q
+led-narrow : {q : List ℕ} → Narrow q → Leading q
 led-narrow nothing = nothing-held
-led-narrow (byte a o) = led (record { gone = []; header = one a }) o
+led-narrow (byte a o) = leading (record { gone = []; header = one a }) o
 
-led-last : {q : List ℕ} → OneMore q → Led q
+led-last : {q : List ℕ} → OneMore q → Leading q
 led-last nothing = nothing-held
-led-last (last c o) = led (record { gone = 0x600 ∷ 0x600 ∷ []; header = three any-byte any-byte c }) o
+led-last (last c o) = leading (record { gone = 0x600 ∷ 0x600 ∷ []; header = three any-byte any-byte c }) o
 
-led-two : {q : List ℕ} → TwoMore q → threes q ≡ 2 → Led q
+led-two : {q : List ℕ} → TwoMore q → threes q ≡ 2 → Leading q
 led-two nothing e = nothing-held
 led-two (byte {b = b} k nothing) e = let h = threes-within (b ∷ []) in absurd (omega arith)
-led-two (byte b (last c o)) e = led (record { gone = 0x600 ∷ []; header = three any-byte b c }) o
+led-two (byte b (last c o)) e = leading (record { gone = 0x600 ∷ []; header = three any-byte b c }) o
 
-led-three : {q : List ℕ} → ThreeMore q → threes q ≡ 3 → Led q
+led-three : {q : List ℕ} → ThreeMore q → threes q ≡ 3 → Leading q
 led-three nothing e = nothing-held
 led-three (byte {a = a} k nothing) e = let h = threes-within (a ∷ []) in absurd (omega arith)
 led-three (byte {a = a} k (byte {b = b} l nothing)) e = let h = threes-within (a ∷ b ∷ []) in absurd (omega arith)
-led-three (byte a (byte b (last c o))) e = led (record { gone = []; header = three a b c }) o
+led-three (byte a (byte b (last c o))) e = leading (record { gone = []; header = three a b c }) o
 
-leads : (q : List ℕ) (k : ℕ) (b : Bool) → threes q ≡ k → isBad (walk (due k b) q) ≡ false → Led q
+leads : (q : List ℕ) (k : ℕ) (b : Bool) → threes q ≡ k → isBad (walk (due k b) q) ≡ false → Leading q
 leads q zero true e h = led-narrow (fits q At.OneDue h)
 leads q zero false e h = past-it (fits q At.Body h)
 leads q (suc zero) b e h = led-last (fits q At.LastDue h)
@@ -403,45 +405,69 @@ no-one (Say.Onward.closed {w = w} none c s) = rw (closing-shape w c)
 no-one (Say.Onward.closed (more {w = w} k b) c s) = rw (plain-shape w k)
 
 -- with k tokens in front the walk starts where so many are due
-counted : {k : ℕ} (q : List ℕ) → threes q ≡ k → isBad (walk (due k (beginsOne q)) q) ≡ false → isBad (walk (lead q) q) ≡ false
+counted : {k : ℕ} {t : Stage} (q : List ℕ) → threes q ≡ k → walk (due k (beginsOne q)) q ≡ t → walk (lead q) q ≡ t
 counted q e h = rw e h
 
-led-good : {h q : List ℕ} → Left h → Onward q → isBad (walk (lead (h ++ q)) (h ++ q)) ≡ false
-led-good nothing o = rw (no-threes o, no-one o) (onward-good o)
-led-good {q = q} (narrow {a = a} k) o =
-    subst (λ (c : Shape). isBad (walk (nextStage (due (pick (ofThree c) (suc (threes q)) 0) (ofOne c)) c) q) ≡ false) (sym (one-shape a k))
-    (onward-good o)
-led-good {q = q} (last {c = c} m) o =
-    counted (c ∷ q) (last-counts c q m ∙ ap suc (no-threes o)) (ap isBad (over q (last-next c m)) ∙ onward-good o)
-led-good {q = q} (two {b = b} {c = c} l m) o =
-    counted (b ∷ c ∷ q) (byte-counts b (c ∷ q) l ∙ ap suc (last-counts c q m ∙ ap suc (no-threes o)))
-    (ap isBad (past-two q l m) ∙ onward-good o)
-led-good {q = q} (whole {a = a} {b = b} {c = c} k l m) o =
+-- the walk past what is left of a header is in the body
+past-left : {h q : List ℕ} → Left h → Onward q → walk (lead (h ++ q)) (h ++ q) ≡ walk At.Body q
+past-left nothing o = rw (no-threes o, no-one o)
+past-left {q = q} (narrow {a = a} k) o =
+    subst (λ (c : Shape). walk (nextStage (due (pick (ofThree c) (suc (threes q)) 0) (ofOne c)) c) q ≡ walk At.Body q)
+    (sym (one-shape a k)) refl
+past-left {q = q} (last {c = c} m) o =
+    counted (c ∷ q) (last-counts c q m ∙ ap suc (no-threes o)) (over q (last-next c m))
+past-left {q = q} (two {b = b} {c = c} l m) o =
+    counted (b ∷ c ∷ q) (byte-counts b (c ∷ q) l ∙ ap suc (last-counts c q m ∙ ap suc (no-threes o))) (past-two q l m)
+past-left {q = q} (whole {a = a} {b = b} {c = c} k l m) o =
     counted (a ∷ b ∷ c ∷ q)
     (byte-counts a (b ∷ c ∷ q) k ∙ ap suc (byte-counts b (c ∷ q) l ∙ ap suc (last-counts c q m ∙ ap suc (no-threes o))))
-    (ap isBad (over (b ∷ c ∷ q) (third-next a k) ∙ past-two q l m) ∙ onward-good o)
+    (over (b ∷ c ∷ q) (third-next a k) ∙ past-two q l m)
 
-rest-good : {q : List ℕ} → Led q → isBad (walk (lead q) q) ≡ false
-rest-good (led r o) = led-good (when-gone (r .gone) (of-header (r .header))) o
+past-rest : {h q : List ℕ} → Rest h → Onward q → walk (lead (h ++ q)) (h ++ q) ≡ walk At.Body q
+past-rest r o = past-left (when-gone (r .gone) (of-header (r .header))) o
 
 -- Both ways
 
 says-so : (s : Stage) {P : Type 0} → (isBad s ≡ false → P) → (P → isBad s ≡ false) → Means (not (isBad s)) P
 says-so s f g = record { sure = λ e. f (not-true (isBad s) e); back = λ p. ap not (g p) }
 
--- what a port's circuit and tokens say
-pub tokens-hold : (h : Hop) (q : List ℕ) → Means (not (isBad (backOf h q))) (Holds h q)
-tokens-hold Hops.Shut q = says-so (backOf Hops.Shut q) (fits q At.Fresh) streams-good
-tokens-hold (Hops.Out l) q = says-so (backOf (Hops.Out l) q) (leads q (threes q) (beginsOne q) refl) rest-good
-tokens-hold (Hops.Channel c t) q = says-so (backOf (Hops.Channel c t) q) (fits q At.Body) onward-good
-tokens-hold Hops.Unit q = says-so (backOf Hops.Unit q) (fits q At.Body) onward-good
-tokens-hold (Hops.Dropped c) q = says-so (backOf (Hops.Dropped c) q) (leads q (threes q) (beginsOne q) refl) rest-good
+-- .. of what a port holds and what is on the line to it
+module _ (q ts : List ℕ) where
+  in-one : (s : Stage) → isBad (walk s (q ++ ts)) ≡ isBad (walk (walk s q) ts)
+  in-one s = ap isBad (walk-append s q ts)
 
--- "tokens and headers are legal; a port with no circuit is empty or starts with a header, and so does what follows an END or PAUSE; ..":
--- the test of a port's contents holds exactly where its tokens lie in a ring of the memory and are what the sentence says
-pub ports-hold : (w : World) (n p : ℕ) → Means (contents w n p) (Ready w n p × Holds (hop (w .net) n p) (queue w n p))
-ports-hold w n p =
-    by-test (ready w n p)
-    (λ e. let m = tokens-hold (hop (w .net) n p) (queue w n p) in
-    record { sure = λ h. (is-ready w n p e, m .sure (rw e at h)); back = λ z. rw e (m .back (z .1)) })
-    (λ e. record { sure = λ h. clash (sym (rw e at h)); back = λ z. clash (sym (made-ready w n p (z .0)) ∙ e) })
+  streams-on : Means (not (isBad (walk (walk At.Fresh q) ts))) (Streams (q ++ ts))
+  streams-on =
+      says-so (walk (walk At.Fresh q) ts) (λ e. fits (q ++ ts) At.Fresh (in-one At.Fresh ∙ e)) (λ s. sym (in-one At.Fresh) ∙ streams-good s)
+
+  body-on : isBad (walk (walk At.Body q) ts) ≡ false → Onward (q ++ ts)
+  body-on e = fits (q ++ ts) At.Body (in-one At.Body ∙ e)
+
+  body-walked : Onward (q ++ ts) → isBad (walk (walk At.Body q) ts) ≡ false
+  body-walked o = sym (in-one At.Body) ∙ onward-good o
+
+  onward-on : Means (not (isBad (walk (walk At.Body q) ts))) (Onward (q ++ ts))
+  onward-on = says-so (walk (walk At.Body q) ts) body-on body-walked
+
+onto : {q : List ℕ} (ts : List ℕ) → Leading q → isBad (walk (walk (lead q) q) ts) ≡ false → Led q ts
+onto ts (leading {q = q} r o) e = led q r (body-on q ts (ap isBad (over ts (sym (past-rest r o))) ∙ e))
+
+led-good : {q ts : List ℕ} → Led q ts → isBad (walk (walk (lead q) q) ts) ≡ false
+led-good (led {ts = ts} q r o) =
+    let e = body-walked q ts o in
+    ap isBad (over ts (past-rest r (fits q At.Body (good-from (walk At.Body q) ts e)))) ∙ e
+
+led-on : (q ts : List ℕ) → Means (not (isBad (walk (walk (lead q) q) ts))) (Led q ts)
+led-on q ts =
+    says-so (walk (walk (lead q) q) ts)
+    (λ e. onto ts (leads q (threes q) (beginsOne q) refl (good-from (walk (lead q) q) ts e)) e)
+    led-good
+
+-- "tokens and headers are legal; a port with no circuit is empty or starts with a header, and so does what follows an END or PAUSE; ..": the
+-- walk over what a port holds, and on over what is coming to it, ends well exactly where they are what the sentence says
+pub tokens-hold : (h : Hop) (q ts : List ℕ) → Means (not (isBad (walk (backOf h q) ts))) (Holds h q ts)
+tokens-hold Hops.Shut q ts = streams-on q ts
+tokens-hold (Hops.Out l) q ts = led-on q ts
+tokens-hold (Hops.Channel c t) q ts = onward-on q ts
+tokens-hold Hops.Unit q ts = onward-on q ts
+tokens-hold (Hops.Dropped c) q ts = led-on q ts

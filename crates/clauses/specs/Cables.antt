@@ -1,9 +1,8 @@
--- Cables and credits (document 01, "Sound"), link by link.
-use Prim.Native.Nat.{ℕ, _+_}
+-- Cables and credits (document 01, "Sound"), link by link. What is asked of a cable's lines is in crate line_clauses.
+use Prim.Native.Nat.{ℕ}
 use mathlib.Core.Bool.{Bool, true, false, not, _&&_, _||_}
-use lib.Dec.{eqb, ltb, leb}
+use lib.Dec.{eqb, ltb}
 use Rattle.names.specs.Size.{links}
-use Rattle.ports.specs.Queue.{capacity}
 use Rattle.cells.specs.View.{Net}
 use Rattle.cells.specs.World.{farOf}
 use Rattle.cells.specs.declared.link.Cable.{Cable}
@@ -39,8 +38,3 @@ farEnabled s k = onFar (farOf k) false (enabled s)
 
 abbrev pub greeted : Net → ℕ → ℕ → Bool
 greeted s n l = not (eqb (s .links .flows n l .greeted) 1) || (enabled s n l && farEnabled s (s .links .cables n l))
-
--- "credit plus tokens held at the far end at most 64"
-abbrev pub room : Net → ℕ → ℕ → Bool
-room s n l =
-    onFar (farOf (s .links .cables n l)) true (λ m k. leb (s .links .flows n l .credit + s .ports .counters m k .held) capacity)

@@ -41,8 +41,8 @@ stages w n p = record { front = front w n p; back = back w n p }
 
 -- "tokens and headers are legal; a port with no circuit is empty or starts with a header, and so does what follows an END or PAUSE; such a
 -- header is short only at its port's end; header tokens stand elsewhere only at the front of a circuit still sending its header outward or
--- being dropped". The sentence said plainly, with no walk, is `Holds` in Sentences.antt; that the test is true exactly where it holds is
--- `ports-hold` in clauses/proofs/Spoken.antt
+-- being dropped": what a port holds with nothing on the line to it. The list asks for it with the line behind (`holdsOver` in crate
+-- line_clauses); the sentence said plainly, with no walk, is `Holds` in Sentences.antt
 abbrev pub contents : World → ℕ → ℕ → Bool
 contents w n p = not (isBad (back w n p))
 

@@ -78,7 +78,6 @@ endCounts k = aimCounts (k .aim) && (legalPeer (k .sending) && (legalPeer (k .cl
 abbrev pub unitCounts : Unit → Bool
 unitCounts k = byPort (k .serves) && (eqb (k .serves .kind) 0 || leb (k .hearing .heard) unitBuffer)
 
--- "a line of up to 66 tokens" (document 02, Ask 4). While a token crosses a cable at once, and a grant with it, nothing is on a line and
--- nothing issued is on its way
+-- "a line of up to 66 tokens" (document 02, Ask 4); what a receiver has issued is at most what its port can hold
 abbrev pub lineCounts : Line → Bool
-lineCounts k = ltb (k .ring .head) lineCapacity && (eqb (k .ring .held) 0 && eqb (k .issued) 0)
+lineCounts k = ltb (k .ring .head) lineCapacity && (leb (k .ring .held) lineCapacity && leb (k .issued) capacity)

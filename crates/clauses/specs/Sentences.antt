@@ -1,7 +1,8 @@
 -- What a port may hold, in the words of document 01, "Sound", and with no walk: "tokens and headers are legal; a port with no circuit is
 -- empty or starts with a header, and so does what follows an END or PAUSE; such a header is short only at its port's end; header tokens
--- stand elsewhere only at the front of a circuit still sending its header outward or being dropped". That the test `contents` says just
--- this is `ports-hold` in clauses/proofs/Spoken.antt.
+-- stand elsewhere only at the front of a circuit still sending its header outward or being dropped". What is on the line to a port stands
+-- behind what it holds (document 02, Ask 4). That the walk over both ends well just where this holds is `tokens-hold` in
+-- clauses/proofs/Spoken.antt, and that the test says so `ports-hold` in line_clauses/proofs/Spoken.antt.
 use Prim.Native.Nat.{ℕ, _<_, _≤_}
 use mathlib.Core.Path.{_≡_}
 use mathlib.Core.List.{List, [], _∷_, _++_}
@@ -86,14 +87,15 @@ pub data Onward : List ℕ → Type 0 where
   begun : {b : List ℕ} → Body b → Onward b
   closed : {b : List ℕ} {w : ℕ} {q : List ℕ} → Body b → Closing w → Streams q → Onward (b ++ (w ∷ q))
 
--- .. with what is left of its header in front
-pub data Led : List ℕ → Type 0 where
-  led : {h q : List ℕ} → Rest h → Onward q → Led (h ++ q)
+-- .. with what is left of its header in front, all of it in the port: what is on the line comes behind
+pub data Led : List ℕ → List ℕ → Type 0 where
+  led : {h ts : List ℕ} (q : List ℕ) → Rest h → Onward (q ++ ts) → Led (h ++ q) ts
 
--- what a port holds, by its circuit: header tokens stand in front only where it goes outward or is dropped
-abbrev pub Holds : Hop → List ℕ → Type 0
-Holds Shut q = Streams q
-Holds (Out l) q = Led q
-Holds (Channel c t) q = Onward q
-Holds Unit q = Onward q
-Holds (Dropped c) q = Led q
+-- what a port holds, by its circuit, with the tokens on the line to it behind: header tokens stand in front only where it goes outward or is
+-- dropped
+abbrev pub Holds : Hop → List ℕ → List ℕ → Type 0
+Holds Shut q ts = Streams (q ++ ts)
+Holds (Out l) q ts = Led q ts
+Holds (Channel c t) q ts = Onward (q ++ ts)
+Holds Unit q ts = Onward (q ++ ts)
+Holds (Dropped c) q ts = Led q ts

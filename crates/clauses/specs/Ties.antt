@@ -1,5 +1,5 @@
--- Tight: six ties that last with the Sound list and are no part of it. The list lasts by them; `idle` alone is leant on by no call, and is
--- kept for what it says.
+-- Tight: ties that last with the Sound list and are no part of it. The list lasts by them; `idle` alone is leant on by no call, and is
+-- kept for what it says. Those that read lines, `fed` among them, are in crate line_clauses.
 use Prim.Native.Nat.{ℕ}
 use mathlib.Core.Bool.{Bool, true, _||_}
 use lib.Dec.{eqb}
@@ -11,8 +11,7 @@ use Rattle.grammar.specs.Stage.{crossed, sameStage}
 use Rattle.grammar.specs.declared.stage.Stage.{Stage}
 use Rattle.grammar.specs.declared.stage.Stage.the-variants.{Fresh, Body}
 use Rattle.cells.specs.View.{Net}
-use Rattle.cells.specs.World.{World, farOf}
-use Rattle.clauses.specs.Cables.{onFar}
+use Rattle.cells.specs.World.{World}
 use Rattle.clauses.specs.Contents.{front, back}
 
 -- what a link has carried: as much as has left the port that uses it, or nothing unfinished
@@ -20,13 +19,6 @@ abbrev pub carriedFor : World → ℕ → Peer → Stage
 carriedFor w n Nobody = Fresh
 carriedFor w n (Port p) = crossed (front w n p)
 carriedFor w n (End e) = Fresh
-
--- fed: over a cable the far port ends where the circuit that is sent to it has come to
-abbrev pub fedTo : World → ℕ → ℕ → ℕ → ℕ → Bool
-fedTo w n l m k = sameStage (back w m k) (carriedFor w n (peerOf (w .net .links .users n l)))
-
-abbrev pub fed : World → ℕ → ℕ → Bool
-fed w n l = onFar (farOf (w .net .links .cables n l)) true (fedTo w n l)
 
 -- unfed: an unwired link's port ends with a circuit's end
 abbrev pub unfed : World → ℕ → ℕ → Bool

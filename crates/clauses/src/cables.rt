@@ -5,16 +5,11 @@ use cells::link::Far;
 use cells::link::far_at;
 use cells::link::far_of;
 use cells::node;
-use cells::port;
 use names::Slot;
 use names::size::LINKS;
-use ports::Counters;
 ghost use mathlib.Core.Path.{_≡_};
-ghost use Prim.Native.Nat.{_+_};
-ghost use lib.Dec.{leb};
-ghost use Rattle.ports.specs.Queue.{capacity};
 ghost use Rattle.cells.specs.View.{view};
-ghost use Rattle.clauses.specs.Cables.{leadsTo, joined, cable, credited, enabled, farEnabled, greeted, room};
+ghost use Rattle.clauses.specs.Cables.{leadsTo, joined, cable, credited, enabled, farEnabled, greeted};
 
 // A cable leads to this very link.
 fn leads_to(f: Far, slot: Slot, l: usize) -> bool
@@ -74,24 +69,4 @@ pub fn greeted(st: &[u32], slot: Slot, l: usize) -> bool
 {
     let k = link::at(st, slot, l);
     !(k.flow.greeted == 1) | ((k.setup.enabled == 1) & far_enabled(st, k.cable))
-}
-
-fn room_for(credit: u32, held: u32) -> bool
-    ensures { λ r. ⌜ r ≡ leb (credit + held) capacity ⌝ }
-{
-    credit as u64 + held as u64 <= Counters::CAPACITY as u64
-}
-
-// "credit plus tokens held at the far end at most 64"
-pub fn room(st: &[u32], slot: Slot, l: usize) -> bool
-    ensures { λ r. ⌜ r ≡ room (view (now (st .entry))) (slot .0) l ⌝ }
-{
-    let k = link::at(st, slot, l);
-    match far_of(k.cable) {
-        Far::Nowhere => true,
-        Far::At(m, j) => {
-            let far = port::at(st, m, j);
-            room_for(k.flow.credit, far.counters.held)
-        }
-    }
 }

@@ -83,9 +83,9 @@ pub fn unit_counts(k: Unit) -> bool
     (k.serves.kind <= 1) & ((k.serves.kind == 0) | (k.hearing.heard <= UNIT_BUFFER))
 }
 
-// Nothing is on a line, and nothing issued is on its way, while tokens cross at once.
+// "a line of up to 66 tokens"
 pub fn line_counts(k: Line) -> bool
     ensures { λ r. ⌜ r ≡ lineCounts k ⌝ }
 {
-    (k.ring.head < CAPACITY) & ((k.ring.held == 0) & (k.issued == 0))
+    (k.ring.head < CAPACITY) & ((k.ring.held <= CAPACITY) & (k.issued <= Counters::CAPACITY))
 }

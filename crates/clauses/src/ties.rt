@@ -1,11 +1,9 @@
-// Six ties that last with the Sound list and are no part of it.
+// Ties that last with the Sound list and are no part of it.
 use crate::contents::back;
 use crate::contents::front;
 use crate::pairs::link_user;
 use crate::pairs::sending;
 use cells::link;
-use cells::link::Far;
-use cells::link::far_at;
 use circuits::Peer;
 use grammar::stage::Stage;
 use grammar::stage::crossed;
@@ -15,7 +13,7 @@ use names::size::REPLY_PORT;
 ghost use mathlib.Core.Path.{_≡_};
 ghost use Rattle.cells.specs.View.{view};
 ghost use Rattle.cells.specs.World.{world};
-ghost use Rattle.clauses.specs.Ties.{carriedFor, fedTo, fed, unfed, unsent, idle, inBody, sends, replied};
+ghost use Rattle.clauses.specs.Ties.{carriedFor, unfed, unsent, idle, inBody, sends, replied};
 
 // What a link has carried: as much as has left the port that uses it, or nothing unfinished.
 pub fn carried_for(st: &[u32], mem: &[u16], slot: Slot, x: Peer) -> Stage
@@ -25,23 +23,6 @@ pub fn carried_for(st: &[u32], mem: &[u16], slot: Slot, x: Peer) -> Stage
         Peer::Nobody => Stage::Fresh,
         Peer::Port(p) => crossed(front(st, mem, slot, p as usize)),
         Peer::End(_) => Stage::Fresh,
-    }
-}
-
-fn fed_to(st: &[u32], mem: &[u16], slot: Slot, l: usize, m: Slot, k: usize) -> bool
-    ensures { λ r. ⌜ r ≡ fedTo (world (now (st .entry)) (now (mem .entry))) (slot .0) l (m .0) k ⌝ }
-{
-    let carried = carried_for(st, mem, slot, link_user(st, slot, l));
-    is_same(back(st, mem, m, k), carried)
-}
-
-// Over a cable the far port ends where the circuit that is sent to it has come to.
-pub fn fed(st: &[u32], mem: &[u16], slot: Slot, l: usize) -> bool
-    ensures { λ r. ⌜ r ≡ fed (world (now (st .entry)) (now (mem .entry))) (slot .0) l ⌝ }
-{
-    match far_at(st, slot, l) {
-        Far::Nowhere => true,
-        Far::At(m, k) => fed_to(st, mem, slot, l, m, k),
     }
 }
 

@@ -1,20 +1,22 @@
 // For each clause of the Sound list a state that fails exactly that clause, and its twin, which is
-// sound; clause 7 is disturbed_ports, 9 and 11 are disturbed_pairs, a state for each sentence. The same
-// states are given to every call in rust/compare/tests/disturbed.rs.
+// sound; clause 7 is disturbed_ports, 9 and 11 are disturbed_pairs, a state for each sentence, and what is
+// asked of lines is disturbed_lines. The same states are given to every call in rust/compare/tests/disturbed.rs.
 
 use names::size::REPLY_PORT;
 use names::size::UNIT_BUFFER;
 use ports::Counters;
 use states::say::report;
+use states::say::report_over;
+use states::write::LINES;
 use states::write::TOKENS;
 use states::write::WORDS;
 use states::write::blank;
+use states::write::join;
 use states::write::set_claim;
 use states::write::set_credit;
 use states::write::set_heard;
 use states::write::set_held;
 use states::write::set_hop;
-use states::write::set_line;
 use states::write::set_sending;
 use states::write::set_serves;
 use states::write::set_tile_user;
@@ -28,6 +30,20 @@ fn lengths() {
     blank(&mut st);
     report(b"1 a memory one word too long", &st, &mem);
     report(b"1 a memory of the right length", &st, &mem[..TOKENS]);
+}
+
+fn line_lengths() {
+    let mut st = [0u32; WORDS];
+    let mem = [0u16; TOKENS];
+    let ls = [0u16; LINES + 1];
+    blank(&mut st);
+    report_over(b"1 a memory of lines one word too long", &st, &mem, &ls);
+    report_over(
+        b"1 a memory of lines of the right length",
+        &st,
+        &mem,
+        &ls[..LINES],
+    );
 }
 
 fn node_counts() {
@@ -90,24 +106,6 @@ fn unit_counts() {
     report(b"2 twelve tokens heard", &st, &mem);
     set_heard(&mut st, 1, UNIT_BUFFER, 0x01C1);
     report(b"2 eleven tokens heard", &st, &mem);
-}
-
-fn line_counts() {
-    let mut st = [0u32; WORDS];
-    let mem = [0u16; TOKENS];
-    blank(&mut st);
-    set_line(&mut st, 1, 7, 0, 1);
-    report(b"2 a token issued and not received", &st, &mem);
-    set_line(&mut st, 1, 7, 0, 0);
-    report(b"2 nothing issued", &st, &mem);
-}
-
-// Link 0 of slot 0 and link 3 of slot 1, joined and enabled, the first greeted with some credit.
-fn join(st: &mut [u32], greeted: u32, credit: u32) {
-    set_wired(st, 0, 0, 1, 3);
-    set_wired(st, 1, 3, 0, 0);
-    set_credit(st, 0, 0, 1, greeted, credit);
-    set_credit(st, 1, 3, 1, 0, 0);
 }
 
 fn credit() {
@@ -212,7 +210,6 @@ fn counts() {
     tile_counts();
     end_counts();
     unit_counts();
-    line_counts();
 }
 
 fn links() {
@@ -224,6 +221,7 @@ fn links() {
 
 fn main() {
     lengths();
+    line_lengths();
     counts();
     links();
     held();

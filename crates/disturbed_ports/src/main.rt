@@ -1,14 +1,19 @@
 // For each sentence of clause 7 of the Sound list, what a port holds, a state that fails it alone and its twin, which is sound: in port 12
-// of slot 1 or, with a circuit, in its port 0. The same states are given to every call in rust/compare/tests/disturbed.rs.
+// of slot 1 or, with a circuit or a line behind, in its port 0. The same states are given to every call in rust/compare/tests/disturbed.rs.
 use names::size::REPLY_PORT;
 use states::say::report;
+use states::say::report_over;
+use states::write::LINES;
 use states::write::TOKENS;
 use states::write::WORDS;
 use states::write::blank;
 use states::write::set_hop;
+use states::write::set_issued;
+use states::write::set_on;
 use states::write::set_serves;
 use states::write::set_tile_user;
 use states::write::set_user;
+use states::write::set_wired;
 use states::write::set_words;
 
 // A one-byte header, and the bytes of a three-byte header.
@@ -155,6 +160,57 @@ fn behind_the_front() {
     report(b"7 front: a header on its way outward", &st, &mem);
 }
 
+// Slot 1's port 0, with a word on the line to it, or none.
+fn set_coming(st: &mut [u32], ls: &mut [u16], held: u32, word: u16) {
+    set_wired(st, 0, 3, 1, 0);
+    set_wired(st, 1, 0, 0, 3);
+    set_on(st, ls, 0, 3, held, word, 0);
+    set_issued(st, 1, 0, held);
+}
+
+// What is on the line to a port stands behind what the port holds.
+fn on_the_line() {
+    let mut st = [0u32; WORDS];
+    let mut mem = [0u16; TOKENS];
+    let mut ls = [0u16; LINES];
+    blank(&mut st);
+    set_coming(&mut st, &mut ls, 1, DATA);
+    report_over(b"7 line: data on the line to an empty port", &st, &mem, &ls);
+    set_words(&mut st, &mut mem, 0, 1, ONE, 0, 0);
+    report_over(
+        b"7 line: data on the line to a port that holds a header",
+        &st,
+        &mem,
+        &ls,
+    );
+}
+
+// "What is left of a header is read from the port's own buffer alone."
+fn left_on_the_line() {
+    let mut st = [0u32; WORDS];
+    let mut mem = [0u16; TOKENS];
+    let mut ls = [0u16; LINES];
+    blank(&mut st);
+    set_hop(&mut st, 1, 0, 1, 2, 0);
+    set_user(&mut st, 1, 2, 1, 0);
+    set_words(&mut st, &mut mem, 0, 1, 0x0640, 0, 0);
+    set_coming(&mut st, &mut ls, 1, CHANNEL);
+    report_over(
+        b"7 line: a header on its way outward, its last token on the line",
+        &st,
+        &mem,
+        &ls,
+    );
+    set_words(&mut st, &mut mem, 0, 2, 0x0640, CHANNEL, 0);
+    set_coming(&mut st, &mut ls, 0, 0);
+    report_over(
+        b"7 line: a header on its way outward, all of it in the port",
+        &st,
+        &mem,
+        &ls,
+    );
+}
+
 fn main() {
     tokens();
     channels();
@@ -167,4 +223,6 @@ fn main() {
     towards_a_channel();
     towards_the_unit();
     behind_the_front();
+    on_the_line();
+    left_on_the_line();
 }

@@ -5,3 +5,4 @@ pub mod Possibles
 pub mod Sent
 pub mod Refusals
 pub mod Lawful
+pub mod Lent

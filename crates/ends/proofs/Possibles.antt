@@ -32,12 +32,11 @@ use Rattle.clauses.proofs.Meanings.{AimFacts}
 use Rattle.acts.specs.Acts.{widthAt, numberAt, channelClaimed, channelFull}
 use Rattle.acts.specs.Needs.{Room, Door}
 use Rattle.acts.proofs.Doors.{given-room}
-use Rattle.sound.specs.Sound.{sound}
 use Rattle.sound.proofs.Facts.{end-facts, open-facts, fair, reaches}
 use Rattle.ends.specs.Ends.{endAt}
 use Rattle.ends.specs.Plan.{targetOf, freePort, lowestFree, portPlan, straightPlan, localPlan, outputByWay, targetPlan}
 use Rattle.ends.specs.Plan.{openPlan, behindPlan, byPeer, outputPlan}
-use Rattle.ends.specs.Needs.{AimFits, Fits, OutputPossible, Sends}
+use Rattle.ends.specs.Needs.{AimFits, Fits, OutputPossible, withLines, SoundBy, Sends}
 use Rattle.ends.proofs.There.{is-there}
 
 one-not-two : {a : ℕ} → a ≡ 1 → a ≡ 2 → ⊥
@@ -57,9 +56,9 @@ module _ (w : World) (n c t : ℕ) (g : Target) (s : Sends w n c g) where
       record {
         node = s .node;
         port = h;
-        fair = fair w (s .all) n (s .node) p h;
+        fair = fair (withLines w (s .sure .lines)) (s .sure .all) n (s .node) p h;
         room = r;
-        reaches = reaches w (s .all) n (s .node) p h;
+        reaches = reaches (withLines w (s .sure .lines)) (s .sure .all) n (s .node) p h;
       }
 
   free-room : (p : ℕ) → freePort (w .net) n p ≡ true → Room w n p 4
@@ -111,12 +110,12 @@ module _ (w : World) (n c t : ℕ) (g : Target) (s : Sends w n c g) where
       by-test (eqb (w .net .ends .sendings n c .kind) 0)
       (λ e. rw (eqb-true (w .net .ends .sendings n c .kind) 0 e))
       (λ e.
-      let o = rw e at (open-facts w (s .all) n (s .node) c (s .end)) in
+      let o = rw e at (open-facts (withLines w (s .sure .lines)) (s .sure .all) n (s .node) c (s .end)) in
       also (as-is (not (eqb (w .net .ends .aims n c .kind) 0)))
       (as-is (openBy (w .net) n (peerOf (w .net .ends .sendings n c)))) .sure o .1)
 
   aim-facts : AimFacts (w .net .ends .aims n c)
-  aim-facts = ⊎-elim (λ z. absurd (s .aimed z)) (λ f. f) (end-facts w (s .all) n (s .node) c (s .end) .aim)
+  aim-facts = ⊎-elim (λ z. absurd (s .aimed z)) (λ f. f) (end-facts (withLines w (s .sure .lines)) (s .sure .all) n (s .node) c (s .end) .aim)
 
   pub legal : legalTarget g ≡ true
   legal =
@@ -135,14 +134,14 @@ aim-fits k f = (f .number, λ e. ⊎-elim (λ z. absurd (one-not-two e z)) (λ z
     narrow : legalChannel (k .channel) ≡ true → k .channel < 256
     narrow l = ⊎-elim (λ h. omega arith) (λ h. omega arith) (legal-channel (k .channel) .sure l)
 
-module _ (w : World) (n c : ℕ) (s : sound w ≡ true) (h : endAt (w .net) n c ≡ true) where
+module _ (w : World) (n c : ℕ) (s : SoundBy w) (h : endAt (w .net) n c ≡ true) where
   -- so does that of a channel-end of a sound state
   pub fits-here : Fits (w .net .ends .aims n c)
   fits-here ne =
       let z = is-there (w .net) n c h in
-      aim-fits (w .net .ends .aims n c) (⊎-elim (λ a. absurd (ne a)) (λ f. f) (end-facts w s n (z .0) c (z .1) .aim))
+      aim-fits (w .net .ends .aims n c) (⊎-elim (λ a. absurd (ne a)) (λ f. f) (end-facts (withLines w (s .lines)) (s .all) n (z .0) c (z .1) .aim))
 
   pub sends-here : (g : Target) → (eqb (w .net .ends .aims n c .kind) 0 ≡ false) × (g ≡ targetOf (w .net .ends .aims n c)) → Sends w n c g
   sends-here g a =
       let z = is-there (w .net) n c h in
-      record { all = s; node = z .0; end = z .1; aimed = eqb-false _ _ (a .0); target = a .1 }
+      record { sure = s; node = z .0; end = z .1; aimed = eqb-false _ _ (a .0); target = a .1 }

@@ -38,7 +38,7 @@ use Rattle.ends.specs.Plan.{openPlan, byPeer, outputPlan}
 use Rattle.ends.specs.Output.{isNarrowPlan, isFullPlan}
 use Rattle.ends.specs.Refusals.{opensNarrow, ByFree, Locally, matching, firstGoes, goesAs, claimedByOther}
 use Rattle.ends.specs.Refusals.{fullBy, full}
-use Rattle.ends.specs.Needs.{Sends}
+use Rattle.ends.specs.Needs.{withLines, Sends}
 use Rattle.ends.specs.declared.plan.Plan.{Plan}
 use Rattle.ends.specs.declared.plan.Plan.the-variants.{Full, Opens, Behind, Straight}
 use Rattle.ends.proofs.Possibles.{tile-there, legal-door, opened, legal}
@@ -116,7 +116,7 @@ module _ (w : World) (n c t : ℕ) (g : Target) (s : Sends w n c g) where
   module _ (d : ℕ) (other : eqb d sink ≡ false) where
     own-claim : peerOf (w .net .ends .sendings n c) ≡ Peers.End d → claimedByOther (w .net) n c d ≡ false
     own-claim e =
-        let back = pair-facts w (s .all) n (s .node) EndClaim c (s .end) d (rw (e, other)) .1 in
+        let back = pair-facts (withLines w (s .sure .lines)) (s .sure .all) n (s .node) EndClaim c (s .end) d (rw (e, other)) .1 in
         let own = of-end (w .net .ends .claims n d) c (of-named (peerOf (w .net .ends .claims n d)) c back) in
         rw (own .0, own .1, eq-eqb c c refl)
 
@@ -127,12 +127,12 @@ module _ (w : World) (n c t : ℕ) (g : Target) (s : Sends w n c g) where
         by-test (eqb (k .kind) 2 && eqb (k .index) c)
         (λ own.
         let z = also (equal (k .kind) 2) (equal (k .index) c) .sure own in
-        let back = pair-facts w (s .all) n (s .node) ClaimEnd d hd c (rw (z .0, z .1)) .1 in
+        let back = pair-facts (withLines w (s .sure .lines)) (s .sure .all) n (s .node) ClaimEnd d hd c (rw (z .0, z .1)) .1 in
         never (let q : Nothing ≡ One d = rw e at back in cc))
         (λ own. rw own (and-true _))
 
     eight : d < ends → leb endBuffer (w .net .ends .buffers n d .held) ≡ eqb (w .net .ends .buffers n d .held) endBuffer
-    eight hd = at-limit _ _ (end-facts w (s .all) n (s .node) d hd .held)
+    eight hd = at-limit _ _ (end-facts (withLines w (s .sure .lines)) (s .sure .all) n (s .node) d hd .held)
 
     there : Door d → d < ends
     there h = ⊎-elim (λ q. absurd (eqb-false _ _ other q)) (λ l. l) h
@@ -168,7 +168,7 @@ module _ (w : World) (n c t : ℕ) (g : Target) (s : Sends w n c g) where
   is-shut : peerOf (w .net .ends .sendings n c) ≡ Peers.Nobody → eqb (w .net .ends .sendings n c .kind) 0 ≡ true
   is-shut e =
       let k = w .net .ends .sendings n c in
-      eq-eqb (k .kind) 0 (of-nobody k (end-facts w (s .all) n (s .node) c (s .end) .sending) e)
+      eq-eqb (k .kind) 0 (of-nobody k (end-facts (withLines w (s .sure .lines)) (s .sure .all) n (s .node) c (s .end) .sending) e)
 
   by-port : (p : ℕ) → peerOf (w .net .ends .sendings n c) ≡ Peers.Port p → eqb (w .net .ends .sendings n c .kind) 0 ≡ false
   by-port p e = rw (of-port (w .net .ends .sendings n c) p e .0)
@@ -224,7 +224,7 @@ module _ (w : World) (n c t : ℕ) (g : Target) (s : Sends w n c g) where
   peer-full Peers.Nobody e = rw (is-shut e) (open-full e)
   peer-full (Peers.Port p) e =
       let h = also (as-is (tilePort p)) (as-is (taken (w .net) n p)) .sure (rw e at (opened w n c t g s)) .0 in
-      let held = port-facts w (s .all) n (s .node) p (tile-there p h) .held in
+      let held = port-facts (withLines w (s .sure .lines)) (s .sure .all) n (s .node) p (tile-there p h) .held in
       let b = eqb (w .net .ports .counters n p .held) capacity in
       rw (by-port p e, at-limit _ _ held) (full-by b (Behind p) refl ∙ sym (and-true b))
   peer-full (Peers.End d) e =

@@ -4,6 +4,7 @@ use Prim.{Unit}
 use Prim.Native.Nat.{ℕ, _<_}
 use mathlib.Core.Path.{_≡_}
 use mathlib.Core.Bool.{true}
+use mathlib.Core.List.{List}
 use Rattle.names.specs.Size.{ends, numbers}
 use Rattle.tokens.specs.declared.header.Target.{Target}
 use Rattle.cells.specs.World.{World}
@@ -37,9 +38,18 @@ OutputPossible w n t (Opens p) = Room w n p 4
 OutputPossible w n t (Behind p) = Room w n p 1
 OutputPossible w n t (Straight d) = Given (w .net) n d t
 
+-- the world with these words on its lines
+abbrev pub withLines : World → List ℕ → World
+withLines w ls = record { net = w .net; memory = w .memory; lineMemory = ls }
+
+-- sound, with what is on its lines: no Output looks at them, and none is lent them
+pub record SoundBy (w : World) : Type 0 where
+  pub lines : List ℕ
+  pub all : sound (withLines w lines) ≡ true
+
 -- a channel-end that is there and aimed at g, of a state that is sound
 pub record Sends (w : World) (n c : ℕ) (g : Target) : Type 0 where
-  pub all : sound w ≡ true
+  pub sure : SoundBy w
   pub node : n < w .net .nodes
   pub end : c < ends
   pub aimed : w .net .ends .aims n c .kind ≡ 0 → ⊥

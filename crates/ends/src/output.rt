@@ -29,7 +29,6 @@ use tokens::header::make_header;
 use tokens::word::of_control;
 use tokens::word::of_data;
 ghost use mathlib.Core.Path.{_≡_};
-ghost use mathlib.Core.Bool.{true};
 ghost use Prim.Native.Nat.{_<_};
 ghost use Rattle.names.specs.Size.{ports, ends};
 ghost use Rattle.answers.specs.Out.{out, attempt};
@@ -39,9 +38,8 @@ ghost use Rattle.acts.specs.Needs.{Room, Given};
 ghost use Rattle.tokens.specs.Header.{words};
 ghost use Rattle.cells.specs.View.{view};
 ghost use Rattle.cells.specs.World.{world};
-ghost use Rattle.sound.specs.Sound.{sound};
 ghost use Rattle.ends.specs.Plan.{targetOf, destinationOf};
-ghost use Rattle.ends.specs.Needs.{AimFits, Fits, OutputPossible, Sends};
+ghost use Rattle.ends.specs.Needs.{AimFits, Fits, OutputPossible, SoundBy, Sends};
 ghost use Rattle.ends.specs.Output.{wordOf, isUnit, tokenNo, goesBy, opensBy, goesBehind};
 ghost use Rattle.ends.specs.Output.{goesStraight, outputPerformed, planRows, sendRows, tokenSent, output};
 
@@ -195,7 +193,7 @@ fn send(st: &mut [u32], mem: &mut [u16], slot: Slot, c: usize, g: Target, x: Tok
 
 // Output, whole: refused by its number with nothing changed, or done.
 pub fn output(st: &mut [u32], mem: &mut [u16], slot: Slot, c: usize, x: Token) -> Answer
-    requires { ⌜ sound (world (now st) (now mem)) ≡ true ⌝ }
+    requires { ⌜ SoundBy (world (now st) (now mem)) ⌝ }
     ensures { λ r. ⌜ out r (world (now (st .exit)) (now (mem .exit)))
         ≡ output (world (now (st .entry)) (now (mem .entry))) (slot .0) c x ⌝ }
 {

@@ -19,7 +19,7 @@ use Rattle.fresh.specs.declared.Start.the-variants.{Fresh, Blank}
 abbrev pub counted : ℕ → Bool
 counted n = leb 1 n && leb n nodes
 
--- both memories have the lengths of n nodes
+-- the memories have the lengths of n nodes
 abbrev pub fits : World → ℕ → Bool
 fits w n = shaped w && eqb (w .net .nodes) n
 

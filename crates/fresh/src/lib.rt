@@ -1,4 +1,4 @@
-// The two starts, Fresh and blank (document 01, "Calls"; document 02, Ask 7): every word of both lent memories is written, whatever
+// The two starts, Fresh and blank (document 01, "Calls"; document 02, Ask 7): every word of the lent memories is written, whatever
 // stood there.
 use answers::Answer;
 use cells::layout::shaped;
@@ -25,7 +25,7 @@ ghost use Rattle.names.specs.Size.{links};
 ghost use Rattle.answers.specs.Rows.{refusal};
 ghost use Rattle.answers.specs.Out.{out};
 ghost use Rattle.cells.specs.View.{view};
-ghost use Rattle.cells.specs.World.{world};
+ghost use Rattle.cells.specs.World.{lent};
 ghost use Rattle.cells.specs.Start.{startNode, startLink, startTo, startNet, noneOn};
 ghost use Rattle.fresh.specs.Fresh.{startRows, leavesOn, begin};
 ghost use Rattle.fresh.specs.Needs.{bootedTo};
@@ -51,7 +51,7 @@ fn clear_state(st: &mut [u32])
     }
 }
 
-// "every token word 0"
+// "every token word 0", in ports and on lines
 fn clear_tokens(mem: &mut [u16])
     ensures { λ r. ⌜ now (mem .exit) ≡ replicate (length (now (mem .entry))) 0 ⌝ }
 {
@@ -141,14 +141,14 @@ fn start_state(st: &mut [u32], which: Start)
 }
 
 // The number by which a start is refused, 0 for none.
-fn start_no(st: &[u32], mem: &[u16], nodes: usize) -> u8
-    ensures { λ r. ⌜ r ≡ refusal (startRows (world (now (st .entry)) (now (mem .entry))) nodes) ⌝ }
+fn start_no(st: &[u32], mem: &[u16], ls: &[u16], nodes: usize) -> u8
+    ensures { λ r. ⌜ r ≡ refusal (startRows (lent (now (st .entry)) (now (mem .entry)) (now (ls .entry))) nodes) ⌝ }
 {
     let counted = (1 <= nodes) & (nodes <= NODES);
     if !counted {
         return NO_SUCH;
     }
-    let fitting = shaped(st, mem) & (node::count(st) == nodes);
+    let fitting = shaped(st, mem, ls) & (node::count(st) == nodes);
     if !fitting {
         return UNSOUND;
     }
@@ -156,14 +156,16 @@ fn start_no(st: &[u32], mem: &[u16], nodes: usize) -> u8
 }
 
 // A start, whole: refused by its number with nothing changed, or a network of so many nodes.
-pub fn begin(st: &mut [u32], mem: &mut [u16], which: Start, nodes: usize) -> Answer
-    ensures { λ r. ⌜ out r (world (now (st .exit)) (now (mem .exit))) ≡ begin (world (now (st .entry)) (now (mem .entry))) which nodes ⌝ }
+pub fn begin(st: &mut [u32], mem: &mut [u16], ls: &mut [u16], which: Start, nodes: usize) -> Answer
+    ensures { λ r. ⌜ out r (lent (now (st .exit)) (now (mem .exit)) (now (ls .exit)))
+        ≡ begin (lent (now (st .entry)) (now (mem .entry)) (now (ls .entry))) which nodes ⌝ }
 {
-    let no = start_no(st, mem, nodes);
+    let no = start_no(st, mem, ls, nodes);
     if no != 0 {
         return Answer::No(no);
     }
     start_state(st, which);
     clear_tokens(mem);
+    clear_tokens(ls);
     Answer::Done
 }

@@ -12,8 +12,8 @@ use Rattle.circuits.specs.declared.Cause.the-variants.{Split, NoRoute}
 use Rattle.answers.specs.Answer.{numberOf, caseOf, answerValue, answerNumber}
 use Rattle.answers.specs.declared.Answer.{Answer}
 use Rattle.answers.specs.declared.Answer.the-variants.{No, Done, Granted, Token, Idle, Waiting, Moved, OpenedLink, OpenedChannel}
-use Rattle.answers.specs.declared.Answer.the-variants.{OpenedUnit, Refused, Dropped, Malformed, Unheard}
-use Rattle.cells.specs.World.{World, world}
+use Rattle.answers.specs.declared.Answer.the-variants.{OpenedUnit, Refused, Dropped, Malformed, Unheard, Arrived}
+use Rattle.cells.specs.World.{World, lent}
 use Rattle.cells.proofs.Whole.{whole-state}
 use Rattle.bench.specs.Calls.{Call, apply}
 use Rattle.bench.proofs.Applied.{refused-changes-nothing}
@@ -37,7 +37,8 @@ answerAt k v =
     (pick (eqb k 8) OpenedChannel
     (pick (eqb k 9) OpenedUnit
     (pick (eqb k 10) (Refused (causeAt v))
-    (pick (eqb k 11) (Dropped (causeAt v)) (pick (eqb k 12) Malformed Unheard))))))))))))
+    (pick (eqb k 11) (Dropped (causeAt v))
+    (pick (eqb k 12) Malformed (pick (eqb k 13) Unheard (Arrived v))))))))))))))
 
 back : (a : Answer) → answerAt (caseOf a) (answerValue a) ≡ a
 back (No n) = refl
@@ -56,6 +57,7 @@ back (Dropped Split) = refl
 back (Dropped NoRoute) = refl
 back Malformed = refl
 back Unheard = refl
+back (Arrived g) = refl
 
 -- two numbers of 64 bits with the same halves
 halves : (k j v u : ℕ) → v < 256 → u < 256 → k * 4294967296 + v ≡ j * 4294967296 + u → (k ≡ j) × (v ≡ u)
@@ -99,18 +101,23 @@ refusal-number (Refused c) h l = absurd (omega arith)
 refusal-number (Dropped c) h l = absurd (omega arith)
 refusal-number Malformed h l = absurd (omega arith)
 refusal-number Unheard h l = absurd (omega arith)
+refusal-number (Arrived g) h l = absurd (omega arith)
 
-module _ (st mem zt nem : List ℕ) (c : Call) (r : ℕ) (e : crossing r (world zt nem) ≡ crossed (apply (world st mem) c)) where
-  number-is : r ≡ answerNumber (apply (world st mem) c .answer)
+module _ (st mem ls zt nem ks : List ℕ) (c : Call) (r : ℕ) (e : crossing r (lent zt nem ks) ≡ crossed (apply (lent st mem ls) c)) where
+  number-is : r ≡ answerNumber (apply (lent st mem ls) c .answer)
   number-is = ap (λ (x : Crossing). x .number) e
 
   -- "A refused call returns its number and leaves the state as it was": a caller that hears a number below 2 to the 32nd hears the paper's
-  -- number, and has every word of both memories as it lent them
-  pub refused-as-lent : r < 4294967296 → (numberOf (apply (world st mem) c .answer) ≡ r) × (zt ≡ st) × (nem ≡ mem)
+  -- number, and has every word of the memories as it lent them
+  pub refused-as-lent : r < 4294967296 → (numberOf (apply (lent st mem ls) c .answer) ≡ r) × (zt ≡ st) × (nem ≡ mem) × (ks ≡ ls)
   refused-as-lent l =
-      let a = apply (world st mem) c .answer in
+      let a = apply (lent st mem ls) c .answer in
       let low : answerNumber a < 4294967296 = omega (arith, number-is) in
-      let z = refusal-number a (bounded (world st mem) c) low in
+      let z = refusal-number a (bounded (lent st mem ls) c) low in
       let some : numberOf a ≡ passes → ⊥ = λ q. let k = z .1 .0 in omega arith in
-      let same : world zt nem ≡ world st mem = ap (λ (x : Crossing). x .next) e ∙ refused-changes-nothing (world st mem) c some in
-      (z .0 ∙ sym number-is, whole-state zt st (ap (λ (w : World). w .net) same), ap (λ (w : World). w .memory) same)
+      let same : lent zt nem ks ≡ lent st mem ls = ap (λ (x : Crossing). x .next) e ∙ refused-changes-nothing (lent st mem ls) c some in (
+        z .0 ∙ sym number-is,
+        whole-state zt st (ap (λ (w : World). w .net) same),
+        ap (λ (w : World). w .memory) same,
+        ap (λ (w : World). w .lineMemory) same,
+      )

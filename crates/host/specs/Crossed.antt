@@ -18,7 +18,7 @@ use Rattle.looks.specs.declared.Seen.the-variants.{Token, Nothing}
 abbrev pub slot : ℕ → Slot
 slot n = record { 0 = n }
 
--- what comes of a call: its answer's number, and both memories
+-- what comes of a call: its answer's number, and all three memories
 pub record Crossing : Type 0 where
   pub number : ℕ
   pub next : World

@@ -4,7 +4,7 @@
 use bench::StepRecord;
 use shift::step_into;
 ghost use mathlib.Core.Path.{_≡_};
-ghost use Rattle.cells.specs.World.{world};
+ghost use Rattle.cells.specs.World.{lent};
 ghost use Rattle.shift.specs.Lists.{listed, listMade};
 
 // What the call itself answers, as the number that every answer crosses as: NoSuch, and Done.
@@ -18,10 +18,11 @@ const DONE: u64 = 0x1_0000_0000;
 pub extern "C" fn tarvelgyo_steps(
     st: &mut [u32],
     mem: &mut [u16],
+    ls: &mut [u16],
     list: &[StepRecord],
     results: &mut [u64],
 ) -> u64
-    ensures { λ r. ⌜ listed r (world (now (st .exit)) (now (mem .exit))) (now (results .exit)) ≡ listMade (world (now (st .entry)) (now (mem .entry))) (now (results .entry)) (now (list .entry)) ⌝ }
+    ensures { λ r. ⌜ listed r (lent (now (st .exit)) (now (mem .exit)) (now (ls .exit))) (now (results .exit)) ≡ listMade (lent (now (st .entry)) (now (mem .entry)) (now (ls .entry))) (now (results .entry)) (now (list .entry)) ⌝ }
 {
     if results.len() != list.len() {
         return NO_SUCH;
@@ -30,7 +31,7 @@ pub extern "C" fn tarvelgyo_steps(
     let mut i = 0;
     while i < list.len() {
         let x = list[i];
-        sure = step_into(st, mem, results, i, x.slot, x.port, sure);
+        sure = step_into(st, mem, ls, results, i, x.slot, x.port, sure);
         i = i + 1;
     }
     DONE

@@ -2,12 +2,13 @@
 use crate::number::seen_number;
 use looks::direction_of;
 use looks::end_token;
+use looks::line_token;
 use looks::port_token;
 use names::Slot;
 ghost use mathlib.Core.Path.{_≡_};
 ghost use Rattle.cells.specs.View.{view};
-ghost use Rattle.cells.specs.World.{world};
-ghost use Rattle.looks.specs.Looks.{direction, portToken, endToken};
+ghost use Rattle.cells.specs.World.{world, lined};
+ghost use Rattle.looks.specs.Looks.{direction, portToken, lineToken, endToken};
 ghost use Rattle.host.specs.Crossed.{seenNumber};
 
 #[no_mangle]
@@ -29,6 +30,14 @@ pub extern "C" fn tarvelgyo_port_token(
     ensures { λ r. ⌜ r ≡ seenNumber (portToken (world (now (st .entry)) (now (mem .entry))) slot p i) ⌝ }
 {
     seen_number(port_token(st, mem, Slot(slot), p, i))
+}
+
+// The i-th on the line that starts at a link, the first to arrive first.
+#[no_mangle]
+pub extern "C" fn tarvelgyo_line_token(st: &[u32], ls: &[u16], slot: usize, l: usize, i: u32) -> u64
+    ensures { λ r. ⌜ r ≡ seenNumber (lineToken (lined (now (st .entry)) (now (ls .entry))) slot l i) ⌝ }
+{
+    seen_number(line_token(st, ls, Slot(slot), l, i))
 }
 
 // The i-th token held in a channel-end, oldest first.

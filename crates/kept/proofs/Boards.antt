@@ -1,6 +1,7 @@
 -- No call changes how many boards there are: what each makes has as many nodes, whatever its arguments. Assumes nothing.
 use Prim.Native.Nat.{ℕ}
 use mathlib.Core.Path.{_≡_, refl, _∙_}
+use lib.Dec.{eqb}
 use Rattle.laws.specs.Pick.{pick}
 use Rattle.laws.proofs.Order.{by-test}
 use Rattle.names.specs.Size.{replyPort}
@@ -12,10 +13,14 @@ use Rattle.tokens.specs.declared.header.Target.{Target}
 use Rattle.tokens.specs.declared.header.Width.{Width}
 use Rattle.tokens.specs.declared.header.Width.the-variants.{One, Three}
 use Rattle.cells.specs.View.{Net}
+use Rattle.lines.specs.Load.{isHello, creditOf}
 use Rattle.cells.specs.World.{World, farOf}
-use Rattle.acts.specs.Acts.{withNet, widthAt, pushed, pushedAll, firstAt, hopped, shut, tiledTo, untilClosed, handed}
+use Rattle.cells.specs.declared.link.Far.{Far}
+use Rattle.cells.specs.declared.link.Far.the-variants.{Nowhere, At}
+use Rattle.acts.specs.Acts.{widthAt, pushed, pushedAll, firstAt, hopped, shut, tiledTo, untilClosed, handed}
 use Rattle.acts.proofs.Doors.{handed-nodes, claimed-nodes}
-use Rattle.grants.specs.Grants.{considered}
+use Rattle.travel.specs.Travel.{putOn, sendsOn, takenOff, firstOn, tokenIn, greets, arrivesAt, lineEmpty, leftBy, lineStepped}
+use Rattle.travel.proofs.Again.{back-nodes}
 use Rattle.settings.specs.Wire.{wired}
 use Rattle.settings.specs.Set.{setMade}
 use Rattle.settings.specs.declared.Setting.{Setting}
@@ -41,8 +46,8 @@ use Rattle.ends.specs.declared.plan.Plan.the-variants.{Narrow, Full, Opens, Beh
 use Rattle.plans.specs.Plan.{stepPlan}
 use Rattle.plans.specs.declared.Plan.{Plan}
 use Rattle.plans.specs.declared.Plan.the-variants.{Idle, Wait, OpenOut, OpenChannel, OpenUnit, Refuse, MoveOut, Hand, Hear, Drop}
-use Rattle.moves.specs.Moves.{took, stripped, crosses}
-use Rattle.moves.proofs.After.{took-nodes, arrival-nodes}
+use Rattle.moves.specs.Moves.{took, stripped}
+use Rattle.moves.proofs.After.{took-nodes}
 use Rattle.switch.specs.Step.{stepPerformed, stepMade}
 
 -- CALLS ON THE STATE ALONE
@@ -50,14 +55,14 @@ module _ (s : Net) (n : ℕ) where
   pub wire-boards : (l m k : ℕ) → wired s n l m k .nodes ≡ s .nodes
   wire-boards l m k = refl
 
-  pub set-boards : (x : Setting) → setMade s n x .nodes ≡ s .nodes
-  set-boards x = setting-leaves s n x .nodes
-
   pub aim-boards : (c : ℕ) (g : Goal) (v : ℕ) → aimMade s n c g v .nodes ≡ s .nodes
   aim-boards c g v = refl
 
   pub input-boards : (c : ℕ) → inputMade s n c .nodes ≡ s .nodes
   input-boards c = refl
+
+pub set-boards : (w : World) (n : ℕ) (x : Setting) → setMade w n x .net .nodes ≡ w .net .nodes
+set-boards w n x = setting-leaves w n x .nodes
 
 -- OUTPUT, whatever its plan: tokens are put into a port, or handed over
 sent-boards : (w : World) (n c : ℕ) (g : Target) (t : ℕ) (x : Outputs.Plan) → outputPerformed w n c g t x .net .nodes ≡ w .net .nodes
@@ -87,16 +92,16 @@ obeyed-boards w n (Wrong g) = reply-boards w n g Nack
 obeyed-boards w n (Read g r) = reply-boards w n g (Value (readOf (w .net) n r))
 obeyed-boards w n (Write g r v) =
     let xs = fieldsOf r v in
-    reply-boards (withNet w (written (w .net) n xs)) n g (pick (accepted (w .net) n xs) Ack Nack) ∙ write-leaves (w .net) n xs .nodes
+    reply-boards (written w n xs) n g (pick (accepted w n xs) Ack Nack) ∙ write-leaves w n xs .nodes
 
--- STEP, whatever its plan: a header removed, a token over a cable, and the others
+-- STEP, whatever its plan: a header removed, a token on a line, and the others
 stripped-boards : (w : World) (n p : ℕ) (x : Width) → stripped w n p x .net .nodes ≡ w .net .nodes
 stripped-boards w n p One = took-nodes w n p
 stripped-boards w n p Three = took-nodes (took (took w n p) n p) n p ∙ took-nodes (took w n p) n p ∙ took-nodes w n p
 
-crossed-boards : (w : World) (n l x : ℕ) → crosses w n l x .net .nodes ≡ w .net .nodes
-unfolding crosses considered
-crossed-boards w n l x = arrival-nodes w (farOf (w .net .links .cables n l)) x
+sent-on-boards : (w : World) (n l x : ℕ) → sendsOn w n l x .net .nodes ≡ w .net .nodes
+unfolding putOn
+sent-on-boards w n l x = refl
 
 module _ (w : World) (n p : ℕ) where
   carried-boards : (x : Plan) → stepPerformed w n p x .next .net .nodes ≡ w .net .nodes
@@ -110,7 +115,7 @@ module _ (w : World) (n p : ℕ) where
   carried-boards OpenUnit = stripped-boards _ n p (widthAt (w .net) n)
   carried-boards (Refuse x) = refl
   carried-boards (MoveOut l) =
-      crossed-boards _ n l (firstAt w n p) ∙ by-test (closes (firstAt w n p)) (λ e. rw e) (λ e. rw e) ∙ took-nodes w n p
+      sent-on-boards _ n l (firstAt w n p) ∙ by-test (closes (firstAt w n p)) (λ e. rw e) (λ e. rw e) ∙ took-nodes w n p
   carried-boards (Hand c t) =
       let z = handed (took w n p .net) n c (firstAt w n p) in
       by-test (closes (firstAt w n p))
@@ -127,3 +132,20 @@ module _ (w : World) (n p : ℕ) where
 
   pub step-boards : stepMade w n p .next .net .nodes ≡ w .net .nodes
   step-boards = carried-boards (stepPlan w n p)
+
+-- A LINE'S STEP, whatever comes off it
+arrival-boards : (w : World) (n l m k x : ℕ) → arrivesAt w n l m k x .net .nodes ≡ w .net .nodes
+unfolding pushed
+arrival-boards w n l m k x =
+    by-test (isHello x)
+    (λ e. rw e (back-nodes (greets w n l m k) m k))
+    (λ e. rw e (by-test (eqb (creditOf x) 0) (λ d. rw d (back-nodes (tokenIn w m k x) m k)) (λ d. rw d)))
+
+pub line-boards : (w : World) (n l : ℕ) → lineStepped w n l .net .nodes ≡ w .net .nodes
+unfolding lineStepped takenOff
+line-boards w n l = at-far (farOf (w .net .links .cables n l))
+  where
+    at-far : (f : Far) → leftBy w n l f .net .nodes ≡ w .net .nodes
+    at-far Nowhere = refl
+    at-far (At m k) =
+        by-test (lineEmpty w n l) (λ e. rw e) (λ e. rw e (arrival-boards (takenOff w n l) n l (m .0) k (firstOn w n l)))

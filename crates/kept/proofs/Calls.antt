@@ -62,7 +62,7 @@ pub keep-wire : (w : World) → Kept w → (n l m k : ℕ) → Passes (wireRows 
 keep-wire w kept n l m k p = let (a, b, off) = wire-ends w n l m k p in keep-wired w kept n l m k a b off
 
 -- SET
-pub keep-set-made : (w : World) → Kept w → (n : ℕ) (x : Setting) → Passes (setRows (w .net) n x) → Kept (withNet w (setMade (w .net) n x))
+pub keep-set-made : (w : World) → Kept w → (n : ℕ) (x : Setting) → Passes (setRows w n x) → Kept (setMade w n x)
 keep-set-made w k n x p =
     let there = also (below n (w .net .nodes)) (as-is (linkThere x)) .sure (not-false _ (p .0)) in
     keep-made w k n (there .0) x (there .1) (not-false _ (p .1 .0)) (p .1 .1 .0)

@@ -9,21 +9,23 @@ use Rattle.tokens.specs.Header.{headerOf, readOne, readThree}
 use Rattle.routing.specs.Way.{highest}
 use Rattle.routing.specs.Direction.{field, withField, entryOf, withEntry}
 use Rattle.ports.specs.Ring.{ring}
+use Rattle.lines.specs.Load.{creditOf, isToken, before}
 use Rattle.credits.specs.Grant.{grantOf}
 use Rattle.cells.specs.World.{shaped}
 use Rattle.acts.specs.Acts.{pushed, popped}
-use Rattle.grants.specs.Grants.{grantTo, considered, helloed, helloGrant, disabled}
+use Rattle.line_clauses.specs.Lines.{loadAt, reached}
+use Rattle.travel.specs.Travel.{putOn, takenOff, grantDue, grantsBack, saysHello, disabled, lineCame, lineStepped}
 use Rattle.settings.specs.Set.{setCall}
 use Rattle.messages.specs.Heard.{messageOf}
 use Rattle.messages.specs.Write.{written}
 use Rattle.messages.specs.Ended.{ended}
-use Rattle.moves.specs.Moves.{took, crosses}
+use Rattle.moves.specs.Moves.{took}
 use Rattle.ends.specs.Plan.{outputPlan}
 use Rattle.plans.specs.Plan.{stepPlan}
 
 unfoldable pub computes : Unit {0}
 unfolding
     upd first outputNo closes legalChannel threeShape shapeOf headerOf readOne readThree highest field withField entryOf withEntry ring
-    grantOf shaped pushed popped grantTo considered helloed helloGrant disabled setCall messageOf written ended took crosses outputPlan
-    stepPlan
+    creditOf isToken before grantOf shaped pushed popped loadAt reached putOn takenOff grantDue grantsBack saysHello disabled lineCame
+    lineStepped setCall messageOf written ended took outputPlan stepPlan
 computes = tt

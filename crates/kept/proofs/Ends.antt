@@ -6,16 +6,16 @@ use mathlib.Core.Bool.{true, false}
 use mathlib.Core.List.{List, [], _∷_, _++_}
 use mathlib.Core.Logic.{_⊎_, inl, inr, ⊎-elim}
 use native.Mathlib.Omega.{arith}
-use lib.Dec.{eqb}
+use lib.Dec.{eqb, ltb}
 use lib.ListN.{getD, set, List·getD-append}
-use borrow.Author.Tests.{eqb-true, eqb-false, lt-ltb, not-false}
+use borrow.Author.Tests.{eqb-true, eqb-false, ltb-true, lt-ltb, not-false}
 use Rattle.laws.specs.Table.{upd}
 use Rattle.laws.specs.Row.{tab}
 use Rattle.laws.proofs.All.{also, as-is}
-use Rattle.laws.proofs.Order.{by-test, never}
+use Rattle.laws.proofs.Order.{by-test, clash, never}
 use Rattle.laws.proofs.Row.{length-tab, getD-tab}
 use Rattle.laws.proofs.Table.{upd-all}
-use Rattle.names.specs.Size.{ports, ends, endBuffer, networks, sink}
+use Rattle.names.specs.Size.{ports, ends, endBuffer, networks, numbers, sink}
 use Rattle.names.specs.Number.{isNumber}
 use Rattle.circuits.specs.Circuit.{peerOf, ofPeer}
 use Rattle.circuits.specs.declared.Circuit.{Circuit}
@@ -45,7 +45,6 @@ use Rattle.ends.specs.declared.aim.Goal.the-variants.{Channel, Unit}
 use Rattle.kept.specs.Kept.{All, Pair, AimOk, PeerOk, BufferOk, Aimed, GoesBy, Sends, Kept, backAt}
 use Rattle.kept.specs.Kept.{legClaim, portIn, endIn, claimIn}
 use Rattle.kept.proofs.Words.{words-more}
-use Rattle.kept.proofs.Sets.{sixteen-bits}
 use Rattle.kept.proofs.Tables.{all-at, all-upd, pair-same, pair-first, pair-second, pair-link, pair-unlink, reads}
 
 -- other channel-ends, and everything else as it was
@@ -75,7 +74,7 @@ keep-ends w x k z =
       setups = k .setups;
       users = k .users;
       greeted = k .greeted;
-      money = k .money;
+      accounts = k .accounts;
       counters = k .counters;
       legs = k .legs;
       networks = k .networks;
@@ -96,6 +95,7 @@ keep-ends w x k z =
       aimed = z .aimed;
       goes = z .goes;
       lines = k .lines;
+      between = k .between;
       silent = k .silent;
       backs = record { walks = k .backs .walks; unfed = k .backs .unfed; sends = z .sends; replied = k .backs .replied };
       idle = k .idle;
@@ -103,6 +103,9 @@ keep-ends w x k z =
     }
 
 -- AIM
+pub sixteen-bits : (v : ℕ) → isNumber v ≡ true → v < numbers
+sixteen-bits v r = by-test (ltb v numbers) (λ e. ltb-true v numbers e) (λ e. clash (sym (rw e at r)))
+
 aim-ok : (g : Goal) (v : ℕ) → goalRanged g ≡ true → v < networks → AimFacts (aimedAt g v)
 aim-ok (Channel m c) v r h =
     let z = also (as-is (isNumber m)) (as-is (legalChannel c)) .sure r in

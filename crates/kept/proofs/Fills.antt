@@ -1,20 +1,29 @@
 -- What putting tokens into a port does to the world. Assumes nothing.
 use Prim.Native.Nat.{ℕ, suc, _+_, _%_, _<_}
 use mathlib.Core.Path.{_≡_, refl, sym, ap, _∙_}
+use mathlib.Core.Bool.{false}
 use mathlib.Core.List.{List, [], _∷_, _++_, append-nil, append-assoc}
 use native.Mathlib.Omega.{arith}
 use lib.ListN.{length, length-set, length-append}
 use Rattle.laws.specs.Table.{Off}
+use Rattle.laws.proofs.Table as Table
 use Rattle.names.specs.Size.{ports}
+use Rattle.circuits.specs.declared.Hop.{Hop}
+use Rattle.tokens.specs.Shape.{shapeOf}
 use Rattle.ports.specs.Queue.{capacity, Fair, putCounters}
 use Rattle.ports.specs.Memory.{place}
 use Rattle.ports.specs.declared.Counters.{Counters}
+use Rattle.grammar.specs.Stage.{isBad, nextStage}
+use Rattle.grammar.specs.Walk.{frontOf, backOf}
+use Rattle.grammar.specs.declared.stage.Stage.{Stage}
 use Rattle.cells.specs.View.{Net, withCounters}
-use Rattle.cells.specs.World.{World, shaped, queue}
+use Rattle.cells.specs.World.{World, shaped, hop, queue}
 use Rattle.acts.specs.Acts.{pushed, pushedAll}
 use Rattle.acts.specs.Needs.{Room}
 use Rattle.acts.proofs.Pushes.{less, pushed-counters, room-left}
 use Rattle.acts.proofs.Queues.{pushed-queue}
+use Rattle.kept.specs.Kept.{frontAt, backAt}
+use Rattle.kept.proofs.Walks.{Put, put}
 use Rattle.kept.proofs.Queues.{counters-own, counters-again, shape-as, stored-away}
 
 -- port p of node n has these tokens more, behind those that it had, and nothing else is changed
@@ -49,7 +58,7 @@ filled-one w n p t r =
     let same = length-set (w .memory) (place n p + (c .head + c .held) % capacity) t in
     record {
       net = ap (λ (k : Counters). withCounters (w .net) n p k) (sym (pushed-counters w n p t));
-      shape = shape-as w z refl refl same;
+      shape = shape-as w z refl refl same refl;
       long = same;
       lines = refl;
       fair = room-left w n p t 0 r .fair;
@@ -89,3 +98,24 @@ filled-room f r =
       room = omega (arith, f .held, r .room);
       reaches = rw (f .long) (r .reaches);
     }
+
+-- A TOKEN PUT BEHIND: ports begin where they did, and the one that it is put into ends where it leads
+module _ {y u : World} {n p x : ℕ} (f : Filled y u n p (x ∷ [])) (good : isBad (nextStage (backAt y n p) (shapeOf x)) ≡ false) where
+  at-port : (F : Hop → List ℕ → Stage) → F (hop (u .net) n p) (queue u n p) ≡ F (hop (y .net) n p) (queue y n p ++ (x ∷ []))
+  at-port F = ap (λ (s : Net). F (hop s n p) (queue u n p)) (f .net) ∙ ap (F (hop (y .net) n p)) (f .here)
+
+  off-port : (F : Hop → List ℕ → Stage) (a i : ℕ) → i < ports → Off n p a i
+      → F (hop (u .net) a i) (queue u a i) ≡ F (hop (y .net) a i) (queue y a i)
+  off-port F a i h o = ap (λ (s : Net). F (hop s a i) (queue u a i)) (f .net) ∙ ap (F (hop (y .net) a i)) (f .away a i h o)
+
+  behind : Put (hop (y .net) n p) (queue y n p) x
+  behind = put (hop (y .net) n p) (queue y n p) x good
+
+  pub put-front : (a i : ℕ) → i < ports → frontAt u a i ≡ frontAt y a i
+  put-front a i h = Table.place n p a i (λ ea ei. rw (ea, ei) (at-port frontOf ∙ behind .front)) (off-port frontOf a i h)
+
+  pub put-back : backAt u n p ≡ nextStage (backAt y n p) (shapeOf x)
+  put-back = at-port backOf ∙ behind .back
+
+  pub put-off : (a i : ℕ) → i < ports → Off n p a i → backAt u a i ≡ backAt y a i
+  put-off a i h o = off-port backOf a i h o

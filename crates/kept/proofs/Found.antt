@@ -38,7 +38,7 @@ use Rattle.plans.proofs.Routes.{Routed, opens, discards, routed}
 use Rattle.plans.proofs.Routes as Routes
 use Rattle.switch.proofs.Legal.{LegalDoor, legal-target}
 use Rattle.kept.specs.Kept.{Kept}
-use Rattle.kept.proofs.Parts.{kept-sound}
+use Rattle.kept.proofs.Parts.{owed, kept-sound}
 use Rattle.kept.proofs.Rooms.{kept-holds}
 use Rattle.kept.proofs.Opens.{Headed}
 
@@ -164,7 +164,7 @@ module _ (w : World) (k : Kept w) (n p : ℕ) (hn : n < w .net .nodes) (hp : p <
         (λ f. rw f (waits (λ shut whole. never (let z : Hops.Shut ≡ Hops.Out l = sym shut ∙ e in cc))))
         (λ f.
         let broke : w .net .links .flows n l .credit ≡ 0 → ⊥ = eqb-false _ 0 f in
-        let greeted = ⊎-elim (λ z. absurd (broke z)) (λ g. g) (k .money .credits n l hn there) in
+        let greeted = ⊎-elim (λ z. absurd (broke z)) (λ g. g) (owed w k n l hn there .earned) in
         let far = k .greeted n l hn there greeted .1 in
         rw f (moves l (going e) (far .slot) (far .link) (far .leads) (some _ broke)))
 

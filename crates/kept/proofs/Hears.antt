@@ -93,8 +93,8 @@ module _ (w : World) (k : Kept w) (n p : ℕ) (r : Holds w n p 1) (e : hop (w .n
         cabled = k .cabled;
         setups = k .setups;
         users = k .users;
-        greeted = lf .greeted;
-        money = lf .money;
+        greeted = k .greeted;
+        accounts = lf .accounts;
         counters = lf .counters;
         legs = lf .legs;
         networks = lf .networks;
@@ -114,11 +114,12 @@ module _ (w : World) (k : Kept w) (n p : ℕ) (r : Holds w n p 1) (e : hop (w .n
         endPort = k .endPort;
         aimed = k .aimed;
         goes = k .goes;
-        lines = k .lines;
+        lines = lf .lines;
+        between = lf .between;
         silent = silent;
         backs = lf .backs;
         idle = k .idle;
-        carries = carries-away n p (k .portLink) (named linkOf Nothing refl) (lf .off) (lf .back) (k .cabled) (k .carries);
+        carries = carries-away n p (k .portLink) (named linkOf Nothing refl) (lf .off) (lf .reached) (k .cabled) (k .carries);
       }
 
   -- heard, and the message goes on

@@ -20,15 +20,14 @@ use Rattle.circuits.specs.declared.Hop.{Hop}
 use Rattle.circuits.specs.declared.Hop.the-variants.{Channel, Unit}
 use Rattle.circuits.specs.declared.Peer.the-variants.{Port}
 use Rattle.tokens.specs.declared.header.Width.{Width}
-use Rattle.tokens.specs.declared.header.Width.the-variants.{One, Three}
-use Rattle.ports.specs.Queue.{Fair, takeCounters}
+use Rattle.ports.specs.Queue.{Fair}
 use Rattle.ports.specs.declared.Counters.{Counters}
 use Rattle.grammar.specs.Stage.{isBad}
 use Rattle.grammar.specs.Walk.{walk, frontOf, backOf}
 use Rattle.grammar.specs.declared.stage.Stage.{Stage}
 use Rattle.grammar.specs.declared.stage.Stage.the-variants.{Fresh, Body}
-use Rattle.cells.specs.View.{Net, UnitTables, withCounters}
-use Rattle.cells.specs.World.{World, queue}
+use Rattle.cells.specs.View.{Net, UnitTables, withCounters, withLines}
+use Rattle.cells.specs.World.{World, shaped, queue}
 use Rattle.cells.specs.declared.port.Leg.{Leg}
 use Rattle.cells.specs.declared.tile.Tile.{Tile}
 use Rattle.cells.specs.declared.unit.Hearing.{Hearing}
@@ -37,11 +36,11 @@ use Rattle.clauses.specs.declared.pairs.Named.the-variants.{Nothing}
 use Rattle.acts.specs.Acts.{withNet, widthAt, wordAt, popped, legOf, hopped}
 use Rattle.acts.specs.Needs.{Door}
 use Rattle.plans.specs.Plan.{markedWidth, sizeOf}
-use Rattle.moves.specs.Moves.{took, stripped, landsChannel, landsUnit}
-use Rattle.kept.specs.Kept.{All, LegOk, PortOk, PeerOk, HearingOk, NetworkOk, Pair, Greeted, Money, Silent, Kept}
-use Rattle.kept.specs.Kept.{frontAt, backAt, legTile, legUnit, legClaim, portIn, endIn, claimIn, tileUser}
-use Rattle.kept.proofs.Money.{withFlows, money-fewer, up-leaves, money-up, greeted-up}
-use Rattle.kept.proofs.Queues.{shape-as}
+use Rattle.moves.specs.Moves.{stripped, landsChannel, landsUnit}
+use Rattle.kept.specs.Kept.{All, LegOk, PortOk, PeerOk, HearingOk, NetworkOk, Pair, Silent, Kept}
+use Rattle.kept.specs.Kept.{frontAt, backAt, reachedAt, legTile, legUnit, legClaim, portIn, endIn, claimIn, tileUser}
+use Rattle.kept.proofs.Comings.{coming-same, reached-as}
+use Rattle.kept.proofs.Grants.{Credited}
 use Rattle.kept.proofs.Empties.{Emptied, emptied-stripped}
 use Rattle.kept.proofs.Stages.{read-off, same-ends, carries-away}
 use Rattle.kept.proofs.Tables.{all-upd, pair-first, pair-second, pair-link}
@@ -49,25 +48,6 @@ use Rattle.kept.proofs.Headers.{landed}
 use Rattle.kept.proofs.Rooms.{kept-holds, queue-long}
 use Rattle.kept.proofs.Opens.{Headed, names-still, front-is, header-whole, good-walk}
 use Rattle.kept.proofs.Opens.{network-stays, hop-read}
-
--- CREDITS, while tokens are taken off a port: each brings the link that feeds it no more than there is room for
-abbrev pub Credited : Net → Type 0
-Credited s =
-    Money (s .nodes) (s .links .cables) (s .links .flows) (s .ports .counters)
-    × Greeted (s .nodes) (s .links .cables) (s .links .setups) (s .links .flows)
-
-pub credited-took : (w : World) (n p : ℕ) → Credited (w .net) → Credited (took w n p .net)
-unfolding took popped
-credited-took w n p z =
-    let c = w .net .ports .counters n p in
-    let s = withCounters (w .net) n p (takeCounters c) in
-    subst Credited (sym (up-leaves s n p)) (money-up s n p (money-fewer (z .0) n p (takeCounters c) (omega arith)), greeted-up s n p (z .1))
-
-credited-stripped : (w : World) (n p : ℕ) (x : Width) → Credited (w .net) → Credited (stripped w n p x .net)
-credited-stripped w n p One z = credited-took w n p z
-credited-stripped w n p Three z =
-    let one = took w n p in
-    credited-took (took one n p) n p (credited-took one n p (credited-took w n p z))
 
 -- LANDED: a circuit past its header, whatever it lands at; and who then has the tile links, the channels and the control units
 record Holders : Type 0 where
@@ -118,10 +98,23 @@ module _ (w : World) (k : Kept w) (n p : ℕ) (z : Headed w n p) (x : Width) (si
   size-held : sizeOf x ≤ w .net .ports .counters n p .held
   size-held = omega (arith, size, z .whole)
 
+  -- nothing of cables and lines is touched yet
+  credited-first : Credited first
+  unfolding shaped
+  credited-first =
+      record {
+        shape = k .shape;
+        cabled = k .cabled;
+        greeted = k .greeted;
+        accounts = k .accounts;
+        lines = k .lines;
+        between = k .between;
+      }
+
   emptied : Emptied first last n p (take (sizeOf x) (queue w n p))
   emptied =
       let r = kept-holds w k n p (sizeOf x) (z .node) (z .port) size-held in
-      emptied-stripped first n p x
+      emptied-stripped first n p x credited-first
       (record { node = r .node; port = r .port; fair = r .fair; held = r .held; reaches = r .reaches })
 
   abbrev count : Counters
@@ -129,7 +122,7 @@ module _ (w : World) (k : Kept w) (n p : ℕ) (z : Headed w n p) (x : Width) (si
 
   -- the state that is come to, table by table
   abbrev after : World
-  after = withNet last (withFlows (withCounters (first .net) n p count) (last .net .links .flows))
+  after = withNet last (withLines (withCounters (first .net) n p count) (last .net .lines))
 
   queue-as : (m j : ℕ) → queue after m j ≡ queue last m j
   queue-as m j = ap (λ (s : Net). queue (withNet last s) m j) (sym (emptied .net))
@@ -167,6 +160,10 @@ module _ (w : World) (k : Kept w) (n p : ℕ) (z : Headed w n p) (x : Width) (si
       place n p m j (λ a b. rw (a, b) back-here)
       (λ o. read-off backOf old n p (legOf h) (queue w) (queue after) m j (queue-off m j hj o) o)
 
+  reached-same : All (w .net .nodes) ports (λ m j. reachedAt after m j ≡ reachedAt w m j)
+  reached-same m j hm hj =
+      reached-as w after m j (back-same m j hm hj) (coming-same w after refl (k .cabled) (λ a i ha hi. emptied .tokens a i hi) m j hm hj)
+
   fewer : count .held ≤ w .net .ports .counters n p .held
   fewer = omega (arith, emptied .held)
 
@@ -190,15 +187,15 @@ module _ (w : World) (k : Kept w) (n p : ℕ) (z : Headed w n p) (x : Width) (si
 
   kept-after : Kept after
   kept-after =
-      let credited = subst Credited (emptied .net) (credited-stripped first n p x (k .money, k .greeted)) in
+      let credited : Credited after = subst (λ (s : Net). Credited (withNet last s)) (emptied .net) (emptied .credited) in
       record {
-        shape = shape-as w after refl refl (emptied .long) ∙ k .shape;
+        shape = credited .shape;
         nodes = k .nodes;
         cabled = k .cabled;
         setups = k .setups;
         users = k .users;
-        greeted = credited .1;
-        money = credited .0;
+        greeted = k .greeted;
+        accounts = credited .accounts;
         counters = all-upd (w .net .ports .counters) n p count Fair (k .counters) (emptied .fair);
         legs = all-upd old n p (legOf h) LegOk (k .legs) (l .leg);
         networks = networks-after;
@@ -218,11 +215,12 @@ module _ (w : World) (k : Kept w) (n p : ℕ) (z : Headed w n p) (x : Width) (si
         endPort = k .endPort;
         aimed = k .aimed;
         goes = k .goes;
-        lines = k .lines;
+        lines = credited .lines;
+        between = credited .between;
         silent = silent-after;
-        backs = same-ends back-same (k .goes) (k .backs);
+        backs = same-ends back-same reached-same (k .goes) (k .backs);
         idle = k .idle;
-        carries = carries-away n p (k .portLink) (ap linkOf (z .shut)) front-off back-same (k .cabled) (k .carries);
+        carries = carries-away n p (k .portLink) (ap linkOf (z .shut)) front-off reached-same (k .cabled) (k .carries);
       }
 
   keep-landed : Kept last

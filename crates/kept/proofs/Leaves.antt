@@ -1,7 +1,7 @@
--- A token leaves a port, whatever becomes of it: the port's counters and the flow that feeds it are as taking leaves them, END and PAUSE
--- close its circuit, and what hangs on that is kept. Assumes nothing.
+-- A token leaves a port, whatever becomes of it: the port's counters and the lines are as taking leaves them, END and PAUSE close its
+-- circuit, and what hangs on that is kept. Assumes nothing.
 use Prim.Native.Nat.{ℕ, _<_, _≤_}
-use mathlib.Core.Path.{_≡_, refl, sym, ap, _∙_}
+use mathlib.Core.Path.{_≡_, refl, sym, ap, _∙_, subst}
 use mathlib.Core.Bool.{Bool, true, false}
 use mathlib.Core.List.{List, _∷_}
 use mathlib.Core.Logic.{inl, inr, ⊎-elim}
@@ -10,7 +10,7 @@ use lib.Dec.{eqb}
 use Rattle.laws.specs.Pick.{pick}
 use Rattle.laws.specs.Table.{Off}
 use Rattle.laws.proofs.Table.{upd-same, upd-miss, upd-all, upd-own, place}
-use Rattle.names.specs.Size.{ports, replyPort, networks}
+use Rattle.names.specs.Size.{links, ports, replyPort, networks}
 use Rattle.circuits.specs.Circuit.{hopOf}
 use Rattle.circuits.specs.declared.Hop.{Hop}
 use Rattle.circuits.specs.declared.Hop.the-variants.{Shut}
@@ -21,17 +21,21 @@ use Rattle.ports.specs.declared.Counters.{Counters}
 use Rattle.grammar.specs.Stage.{isBad, nextStage}
 use Rattle.grammar.specs.Walk.{frontOf, backOf}
 use Rattle.grammar.specs.declared.stage.Stage.{Stage}
-use Rattle.cells.specs.View.{Net, withCounters, withLeg, withNetwork}
+use Rattle.lines.specs.Line.{LineFair}
+use Rattle.cells.specs.View.{Net, withCounters, withLeg, withNetwork, withLines}
 use Rattle.cells.specs.World.{World, shaped, hop, queue}
 use Rattle.cells.specs.declared.port.Leg.{Leg}
 use Rattle.clauses.specs.declared.pairs.Named.{Named}
 use Rattle.clauses.specs.declared.pairs.Named.the-variants.{Nothing}
-use Rattle.acts.specs.Acts.{withNet, popped, firstAt, legOf, networkLeft, shut}
+use Rattle.acts.specs.Acts.{withNet, firstAt, legOf, networkLeft, shut}
 use Rattle.acts.specs.Needs.{Holds}
 use Rattle.moves.specs.Moves.{took}
-use Rattle.kept.specs.Kept.{All, Greeted, Money, LegOk, NetworkOk, Silent, Pair, Ends, frontAt, backAt, reachedAt, Kept}
+use Rattle.line_clauses.specs.Lines.{coming}
+use Rattle.travel.specs.Accounts.{InOrder}
+use Rattle.kept.specs.Kept.{All, Between, LegOk, NetworkOk, Silent, Pair, Ends, frontAt, backAt, reachedAt, Kept}
 use Rattle.kept.proofs.Tables.{all-upd, keeps-none, pair-first}
-use Rattle.kept.proofs.Money.{withFlows, up-leaves, money-fewer, money-up, greeted-up}
+use Rattle.kept.proofs.Comings.{coming-same, reached-as, good-back}
+use Rattle.kept.proofs.Grants.{Credited, kept-credited, taken-net}
 use Rattle.kept.proofs.Queues.{shape-as}
 use Rattle.kept.proofs.Empties.{emptied-one}
 use Rattle.kept.proofs.Stages.{read-here, read-off, same-ends}
@@ -40,11 +44,10 @@ use Rattle.kept.proofs.Walks.{taken}
 -- the state once the oldest token of port p is taken, and a grant considered for it
 abbrev pub tokenTaken : World → ℕ → ℕ → Net
 tokenTaken w n p =
-    withFlows (withCounters (w .net) n p (takeCounters (w .net .ports .counters n p))) (took w n p .net .links .flows)
+    withLines (withCounters (w .net) n p (takeCounters (w .net .ports .counters n p))) (took w n p .net .lines)
 
 pub taken-is : (w : World) (n p : ℕ) → took w n p .net ≡ tokenTaken w n p
-unfolding took popped
-taken-is w n p = up-leaves (withCounters (w .net) n p (takeCounters (w .net .ports .counters n p))) n p
+taken-is = taken-net
 
 -- "END and PAUSE close the hop": port p without its circuit if b holds, else as it was
 abbrev pub shutIf : Bool → Net → ℕ → ℕ → Net
@@ -68,8 +71,9 @@ left-is w n p =
 
 pub record Left (w : World) (n p : ℕ) : Type 0 where
   pub shape : shaped (left w n p) ≡ true
-  pub greeted : Greeted (w .net .nodes) (w .net .links .cables) (w .net .links .setups) (left w n p .net .links .flows)
-  pub money : Money (w .net .nodes) (w .net .links .cables) (left w n p .net .links .flows) (left w n p .net .ports .counters)
+  pub accounts : InOrder (left w n p)
+  pub lines : All (w .net .nodes) links (λ m j. LineFair (left w n p .net .lines .rings m j))
+  pub between : Between (w .net .nodes) (w .net .links .cables) (w .net .links .setups) (left w n p .net .lines .rings)
   pub counters : All (w .net .nodes) ports (λ m j. Fair (left w n p .net .ports .counters m j))
   pub silent : Silent (w .net .nodes) (w .net .units .serving) (left w n p .net .ports .counters)
   pub legs : All (w .net .nodes) ports (λ m j. LegOk (left w n p .net .ports .legs m j))
@@ -80,6 +84,8 @@ pub record Left (w : World) (n p : ℕ) : Type 0 where
   pub front : frontAt (left w n p) n p ≡ nextStage (frontAt w n p) (shapeOf (firstAt w n p))
   pub off : All (w .net .nodes) ports (λ m j. Off n p m j → frontAt (left w n p) m j ≡ frontAt w m j)
   pub back : All (w .net .nodes) ports (λ m j. backAt (left w n p) m j ≡ backAt w m j)
+  pub coming : All (w .net .nodes) ports (λ m j. coming (left w n p) m j ≡ coming w m j)
+  pub reached : All (w .net .nodes) ports (λ m j. reachedAt (left w n p) m j ≡ reachedAt w m j)
   pub backs : Ends (w .net .nodes) (w .net .links .cables) (w .net .ends .sendings) (backAt (left w n p)) (reachedAt (left w n p))
 
 -- a role that the port's circuit does not play is played as it was
@@ -112,16 +118,6 @@ module _ (w : World) (k : Kept w) (n p : ℕ) (r : Holds w n p 1) where
       let c = w .net .ports .counters in
       upd-all (λ a i q. q .held ≤ c a i .held) c n p (takeCounters (c n p)) m j (λ em ej. rw (em, ej) (omega arith)) (λ o. omega arith)
 
-  left-money : Money (w .net .nodes) (w .net .links .cables) (left w n p .net .links .flows) (left w n p .net .ports .counters)
-  unfolding took popped
-  left-money =
-      let c = takeCounters (w .net .ports .counters n p) in
-      money-up (withCounters (w .net) n p c) n p (money-fewer (k .money) n p c (omega arith))
-
-  left-greeted : Greeted (w .net .nodes) (w .net .links .cables) (w .net .links .setups) (left w n p .net .links .flows)
-  unfolding took popped
-  left-greeted = greeted-up (withCounters (w .net) n p (takeCounters (w .net .ports .counters n p))) n p (k .greeted)
-
   pub leaves : (hop (w .net) n p ≡ Shut → ⊥) → Left w n p
   leaves going =
       let x = firstAt w n p in
@@ -131,7 +127,8 @@ module _ (w : World) (k : Kept w) (n p : ℕ) (r : Holds w n p 1) where
       let b = closes x in
       let leg = pick b (legOf Shut) (t .legs n p) in
       let less = takeCounters (t .counters n p) in
-      let e = emptied-one w n p r in
+      let e = emptied-one w n p (kept-credited w k) r in
+      let lines : Credited (withNet z (tokenTaken w n p)) = subst (λ (s : Net). Credited (withNet z s)) (taken-is w n p) (e .credited) in
       let fair : Fair less =
       rw (ap (λ (s : Net). s .ports .counters n p) (taken-is w n p) ∙ upd-same (t .counters) n p less) at (e .fair) in
       -- the tokens
@@ -139,17 +136,21 @@ module _ (w : World) (k : Kept w) (n p : ℕ) (r : Holds w n p 1) where
       let here : queue w n p ≡ x ∷ queue y n p = e .here ∙ ap (λ (q : List ℕ). x ∷ q) (sym (same n p)) in
       let away : All (w .net .nodes) ports (λ m j. Off n p m j → queue y m j ≡ queue w m j) = λ m j hm hj o. same m j ∙ e .away m j hj o in
       -- the stages
-      let next = taken (hop (w .net) n p) x (queue y n p) going (rw here at (k .backs .walks n p (r .node) (r .port))) in
+      let next = taken (hop (w .net) n p) x (queue y n p) going (rw here at (good-back w k n p (r .node) (r .port))) in
       let reads : (f : Hop → List ℕ → Stage) → f (hop (y .net) n p) (queue y n p) ≡ f (pick b Shut (hop (w .net) n p)) (queue y n p) =
       λ f. read-here f (t .legs) n p leg (queue w) (queue y) ∙ ap (λ (h : Hop). f h (queue y n p)) (hop-if b (t .legs n p)) in
       let ended : All (w .net .nodes) ports (λ m j. backAt y m j ≡ backAt w m j) =
       λ m j hm hj. place n p m j
       (λ em ej. rw (em, ej) (reads backOf ∙ next .back ∙ ap (backOf (hop (w .net) n p)) (sym here)))
       (λ o. read-off backOf (t .legs) n p leg (queue w) (queue y) m j (away m j hm hj o) o) in
+      let come = coming-same w y refl (k .cabled) (λ m j hm hj. e .tokens m j hj) in
+      let reach : All (w .net .nodes) ports (λ m j. reachedAt y m j ≡ reachedAt w m j) =
+      λ m j hm hj. reached-as w y m j (ended m j hm hj) (come m j hm hj) in
       record {
-        shape = shape-as w y refl refl (e .long) ∙ k .shape;
-        greeted = left-greeted;
-        money = left-money;
+        shape = shape-as (withNet z (tokenTaken w n p)) y refl refl refl refl ∙ lines .shape;
+        accounts = lines .accounts;
+        lines = lines .lines;
+        between = lines .between;
         counters = all-upd (t .counters) n p less (λ (q : Counters). Fair q) (k .counters) fair;
         silent = λ m hm. ⊎-elim inl (λ none. inr (omega (arith, none, fewer m replyPort))) (k .silent m hm);
         legs = all-upd (t .legs) n p leg (λ (q : Leg). LegOk q) (k .legs) (leg-if b (t .legs n p) (k .legs n p (r .node) (r .port)));
@@ -164,5 +165,7 @@ module _ (w : World) (k : Kept w) (n p : ℕ) (r : Holds w n p 1) where
         front = reads frontOf ∙ next .front ∙ ap (λ (q : List ℕ). nextStage (frontOf (hop (w .net) n p) q) (shapeOf x)) (sym here);
         off = λ m j hm hj o. read-off frontOf (t .legs) n p leg (queue w) (queue y) m j (away m j hm hj o) o;
         back = ended;
-        backs = same-ends ended (k .goes) (k .backs);
+        coming = come;
+        reached = reach;
+        backs = same-ends ended reach (k .goes) (k .backs);
       }

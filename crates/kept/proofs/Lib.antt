@@ -4,13 +4,15 @@ pub mod Walks
 pub mod Headers
 pub mod Words
 pub mod Tables
-pub mod Money
+pub mod Comings
+pub mod Grants
 pub mod Rooms
 pub mod Queues
 pub mod Fills
 pub mod Empties
 pub mod Stages
 pub mod Links
+pub mod Arrivals
 pub mod Wires
 pub mod Sets
 pub mod Opens

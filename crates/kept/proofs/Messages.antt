@@ -20,7 +20,7 @@ use Rattle.tokens.proofs.Channels.{legal-channel}
 use Rattle.cells.specs.View.{PortTables, UnitTables}
 use Rattle.cells.specs.World.{World}
 use Rattle.cells.specs.declared.unit.Hearing.{Hearing}
-use Rattle.acts.specs.Acts.{withNet, widthAt}
+use Rattle.acts.specs.Acts.{widthAt}
 use Rattle.plans.specs.Plan.{numberIn}
 use Rattle.settings.specs.declared.Setting.{Setting}
 use Rattle.messages.specs.Register.{registerOf, isKnown, fieldsOf, readOf}
@@ -86,9 +86,9 @@ module _ (w : World) (k : Kept w) (n : ℕ) (z : Ready w n) where
       (λ e. rw e (keep-reply w k n g (widthAt (w .net) n) x (z .node) (z .empty) (z .free) (a .0) (a .1) e))
 
 -- what a message writes leaves the unit free and port 12 empty
-pub ready-written : (w : World) (n : ℕ) → Ready w n → (xs : List Setting) → Ready (withNet w (written (w .net) n xs)) n
+pub ready-written : (w : World) (n : ℕ) → Ready w n → (xs : List Setting) → Ready (written w n xs) n
 ready-written w n z xs =
-    let same = write-leaves (w .net) n xs in
+    let same = write-leaves w n xs in
     record {
       node = rw (same .nodes) (z .node);
       free = ap (λ (t : UnitTables). t .serving n 0 .kind) (same .units) ∙ z .free;
@@ -101,8 +101,7 @@ keep-obeyed w k n z (Wrong g) a = keep-sent w k n z g a Nack
 keep-obeyed w k n z (Read g r) a = keep-sent w k n z g a (Value (readOf (w .net) n r))
 keep-obeyed w k n z (Write g r v) a =
     let xs = fieldsOf r v in
-    let y = withNet w (written (w .net) n xs) in
-    keep-sent y (keep-written w k n xs) n (ready-written w n z xs) g a (pick (accepted (w .net) n xs) Ack Nack)
+    keep-sent (written w n xs) (keep-written w k n xs) n (ready-written w n z xs) g a (pick (accepted w n xs) Ack Nack)
 
 pub keep-ended : (w : World) → Kept w → (n : ℕ) → Ready w n → (x : ℕ) → Kept (ended w n x .next)
 unfolding ended

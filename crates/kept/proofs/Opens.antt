@@ -36,7 +36,9 @@ use Rattle.acts.proofs.Queues.{popped-queue}
 use Rattle.plans.specs.Plan.{markedWidth, sizeOf}
 use Rattle.plans.proofs.Held.{size-some}
 use Rattle.moves.specs.Moves.{opensOut}
-use Rattle.kept.specs.Kept.{All, LegOk, PortOk, NetworkOk, Pair, Idle, Carries, Kept, frontAt, backAt, carried, legLink, portIn}
+use Rattle.kept.specs.Kept.{All, LegOk, PortOk, NetworkOk, Pair, Idle, Carries, Kept, frontAt, backAt, reachedAt, carried, legLink}
+use Rattle.kept.specs.Kept.{portIn}
+use Rattle.kept.proofs.Comings.{reached-as, good-back}
 use Rattle.kept.proofs.Rooms.{kept-holds, queue-long}
 use Rattle.kept.proofs.Stages.{hopAt, read-off, same-ends, carries-still, carries-away}
 use Rattle.kept.proofs.Tables.{all-at, all-upd, pair-first, pair-link}
@@ -70,7 +72,7 @@ module _ (w : World) (n p : ℕ) (z : Headed w n p) where
     header-whole = omega (arith, z .whole, ap length front-is, queue-long w n p)
 
     pub good-walk : isBad (walk Fresh (queue w n p)) ≡ false
-    good-walk = rw (z .shut) at (k .backs .walks n p (z .node) (z .port))
+    good-walk = rw (z .shut) at (good-back w k n p (z .node) (z .port))
 
     -- a tile port that is taken has a network, whatever its circuit and its tokens come to be
     pub network-stays : (x : Leg) (c : Counters) → NetworkOk p x c (w .net .ports .networks n p)
@@ -130,16 +132,19 @@ module _ (w : World) (k : Kept w) (n p : ℕ) (z : Headed w n p) (h : Hop) (on :
   back-same m j hm hj =
       place n p m j (λ a b. rw (a, b) back-here) (λ o. read-off backOf old n p (legOf h) (queue w) (queue w) m j refl o)
 
+  reached-same : All (w .net .nodes) ports (λ m j. reachedAt after m j ≡ reachedAt w m j)
+  reached-same m j hm hj = reached-as w after m j (back-same m j hm hj) refl
+
   -- nothing has left it
   begins-fresh : crossed (frontAt after n p) ≡ Fresh
   begins-fresh = ap crossed front-here ∙ opening .0
 
-  as-before : Carries (w .net .nodes) (w .net .links .cables) (w .net .links .users) (frontAt after) (backAt after)
-  as-before = carries-away n p (k .portLink) (ap linkOf (z .shut)) front-off back-same (k .cabled) (k .carries)
+  as-before : Carries (w .net .nodes) (w .net .links .cables) (w .net .links .users) (frontAt after) (reachedAt after)
+  as-before = carries-away n p (k .portLink) (ap linkOf (z .shut)) front-off reached-same (k .cabled) (k .carries)
 
   -- .. by a link that nobody used
   carries-out : (l : ℕ) → w .net .links .users n l .kind ≡ 0
-      → Carries (w .net .nodes) (w .net .links .cables) (upd (w .net .links .users) n l (ofPeer (Port p))) (frontAt after) (backAt after)
+      → Carries (w .net .nodes) (w .net .links .cables) (upd (w .net .links .users) n l (ofPeer (Port p))) (frontAt after) (reachedAt after)
   carries-out l free =
       let users = w .net .links .users in
       carries-still (k .cabled) (λ m i hm hi. refl)
@@ -153,7 +158,7 @@ module _ (w : World) (k : Kept w) (n p : ℕ) (z : Headed w n p) (h : Hop) (on :
       → All (w .net .nodes) links (λ m j. PortOk (users m j))
       → Pair (w .net .nodes) ports links legLink portIn (upd old n p (legOf h)) users
       → Idle (w .net .nodes) (w .net .links .setups) users
-      → Carries (w .net .nodes) (w .net .links .cables) users (frontAt after) (backAt after)
+      → Carries (w .net .nodes) (w .net .links .cables) users (frontAt after) (reachedAt after)
       → Kept (withNet w (withUsers (hopped (w .net) n p h) users))
   unfolding shaped
   keep-onward users kinds link idle carries =
@@ -164,7 +169,7 @@ module _ (w : World) (k : Kept w) (n p : ℕ) (z : Headed w n p) (h : Hop) (on :
         setups = k .setups;
         users = kinds;
         greeted = k .greeted;
-        money = k .money;
+        accounts = k .accounts;
         counters = k .counters;
         legs = all-upd old n p (legOf h) LegOk (k .legs) (on .leg);
         networks =
@@ -187,8 +192,9 @@ module _ (w : World) (k : Kept w) (n p : ℕ) (z : Headed w n p) (h : Hop) (on :
         aimed = k .aimed;
         goes = k .goes;
         lines = k .lines;
+        between = k .between;
         silent = k .silent;
-        backs = same-ends back-same (k .goes) (k .backs);
+        backs = same-ends back-same reached-same (k .goes) (k .backs);
         idle = idle;
         carries = carries;
       }

@@ -39,6 +39,9 @@ use Rattle.cells.specs.World.{World, shaped, hop, queue}
 use Rattle.cells.specs.declared.end.Aim.{Aim}
 use Rattle.acts.specs.Acts.{withNet, widthAt, networked, untilClosed, pushed, pushedAll}
 use Rattle.acts.specs.Needs.{Room}
+use Rattle.travel.specs.Accounts.{endAt}
+use Rattle.travel.proofs.Accounts.{heldTo}
+use Rattle.travel.proofs.Cables.{same-cables}
 use Rattle.ends.specs.Plan.{targetOf, freePort}
 use Rattle.ends.specs.Output.{goesBy, goesBehind, opensBy}
 use Rattle.messages.specs.Ended.{byte, bytes, said, replyPut}
@@ -50,12 +53,13 @@ use Rattle.clauses.specs.declared.pairs.Named.{Named}
 use Rattle.clauses.specs.declared.pairs.Named.the-variants.{Nothing, One}
 use Rattle.clauses.proofs.Meanings.{AimFacts}
 use Rattle.kept.specs.Kept.{All, Pair, EndOk, PeerOk, TilePort, Free, NetworkOk, Aimed, GoesBy, Sends, Kept}
-use Rattle.kept.specs.Kept.{frontAt, backAt, portIn, endIn, claimIn}
+use Rattle.kept.specs.Kept.{frontAt, backAt, reachedAt, portIn, endIn, claimIn}
 use Rattle.kept.proofs.Rooms.{has-room, nothing-held}
 use Rattle.kept.proofs.Walks.{put}
 use Rattle.kept.proofs.Headers.{header-walk, header-size, past-header, body-good}
 use Rattle.kept.proofs.Tables.{all-upd, pair-first}
-use Rattle.kept.proofs.Money.{money-free}
+use Rattle.kept.proofs.Comings.{reached-back, reached-as}
+use Rattle.kept.proofs.Grants.{leads-back}
 use Rattle.kept.proofs.Fills.{Filled, filled-one, filled-then, filled-all, filled-room}
 use Rattle.kept.proofs.Stages.{tile-there, carried-same, carries-still, names-port}
 use Rattle.kept.proofs.Ends.{Sender, until, pair-until, sending-ok, sending-aimed, sending-goes}
@@ -110,6 +114,9 @@ module _ (w : World) (n p : ℕ) (c : Counters) {m ts : List ℕ} (f : Filled w 
   back-away : (a j : ℕ) → j < ports → Off n p a j → backAt (after w n p c m) a j ≡ backAt w a j
   back-away a j hj o = ap (backOf (hop (w .net) a j)) (f .away a j hj o)
 
+  reached-away : (a j : ℕ) → j < ports → Off n p a j → reachedAt (after w n p c m) a j ≡ reachedAt w a j
+  reached-away a j hj o = reached-as w (after w n p c m) a j (back-away a j hj o) refl
+
   keep-filled : Kept w → links ≤ p → (nets : ℕ → ℕ → ℕ) (senders sendings : ℕ → ℕ → Circuit)
       → FillOk w (after w n p c m) n p nets senders sendings
       → Kept (with (after w n p c m) nets senders sendings)
@@ -123,7 +130,8 @@ module _ (w : World) (n p : ℕ) (c : Counters) {m ts : List ℕ} (f : Filled w 
         setups = k .setups;
         users = k .users;
         greeted = k .greeted;
-        money = money-free (k .money) n p c (k .cabled) lo;
+        accounts = same-cables (leads-back (k .cabled)) (k .accounts) (λ a j hj.
+            ap (λ (q : Counters). heldTo (endAt w a j) (q .held)) (upd-miss counters n p c a j (λ ea ej. omega arith)));
         counters = all-upd counters n p c Fair (k .counters) (rw (upd-same counters n p c) at (f .fair));
         legs = k .legs;
         networks = x .networks-ok;
@@ -144,16 +152,17 @@ module _ (w : World) (n p : ℕ) (c : Counters) {m ts : List ℕ} (f : Filled w 
         aimed = x .aimed;
         goes = x .goes;
         lines = k .lines;
+        between = k .between;
         silent = λ a ha.
             upd-all (λ a j y. j ≡ replyPort → (w .net .units .serving a 0 .kind ≡ 0) ⊎ (y .held ≡ 0)) counters n p c a replyPort
             (λ ea ej e. inl (rw ea (x .silent (sym ej))))
             (λ o e. k .silent a ha) refl;
         backs = record {
           walks = λ a j ha hj. place n p a j
-              (λ ea ej. rw (ea, ej) (x .good))
-              (λ o. ap isBad (back-away a j hj o) ∙ k .backs .walks a j ha hj);
+              (λ ea ej. rw (ea, ej) (ap isBad (reached-back (after w n p c m) n p lo) ∙ x .good))
+              (λ o. ap isBad (reached-away a j hj o) ∙ k .backs .walks a j ha hj);
           unfed = λ a l ha hl.
-              ⊎-elim inl (λ e. inr (back-away a l (omega arith) (λ ea el. omega arith) ∙ e)) (k .backs .unfed a l ha hl);
+              ⊎-elim inl (λ e. inr (reached-away a l (omega arith) (λ ea el. omega arith) ∙ e)) (k .backs .unfed a l ha hl);
           sends = x .sends;
           replied = λ a ha. place n p a replyPort
               (λ ea ej. rw ea (ap (backAt (after w n p c m) n) ej ∙ x .replied (sym ej)))
@@ -161,7 +170,7 @@ module _ (w : World) (n p : ℕ) (c : Counters) {m ts : List ℕ} (f : Filled w 
         };
         idle = k .idle;
         carries =
-            carries-still (k .cabled) (λ b j hb hj. back-away b j (omega arith) (λ eb ej. omega arith))
+            carries-still (k .cabled) (λ b j hb hj. reached-away b j (omega arith) (λ eb ej. omega arith))
             (λ a l ha hl. carried-same (peerOf (w .net .links .users a l)) (frontAt w a) (frontAt (after w n p c m) a)
             (λ q d. place n p a q
             (λ ea eq. rw (ea, eq) (x .front))

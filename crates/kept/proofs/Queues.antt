@@ -26,11 +26,12 @@ module _ (s : Net) (n p : ℕ) where
   pub counters-again : (a b : Counters) → withCounters (withCounters s n p a) n p b ≡ withCounters s n p b
   counters-again a b = rw (upd-upd (s .ports .counters) n p a b)
 
--- the shape hangs on the number of nodes, the words past the last and the length of the memory
+-- the shape hangs on the number of nodes, the words past the last and the lengths of both memories
 pub shape-as : (w z : World) → z .net .nodes ≡ w .net .nodes → z .net .rest ≡ w .net .rest → length (z .memory) ≡ length (w .memory)
+    → length (z .lineMemory) ≡ length (w .lineMemory)
     → shaped z ≡ shaped w
 unfolding shaped
-shape-as w z a b c = rw (a, b, c)
+shape-as w z a b c d = rw (a, b, c, d)
 
 -- a word stored into the stretch of port p, whose counters alone are changed: every other port holds what it held
 pub stored-away : (w : World) (s : Net) (n p i v : ℕ) (c : Counters) → p < ports → i < capacity

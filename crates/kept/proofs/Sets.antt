@@ -1,49 +1,34 @@
 -- Every Set that is not refused keeps all that is kept, and so does what a switch message writes. Assumes nothing.
 use Prim.Native.Nat.{ℕ, _<_}
-use mathlib.Core.Path.{_≡_, refl, sym}
-use mathlib.Core.Bool.{Bool, true, false, not, _&&_, _||_}
+use mathlib.Core.Path.{_≡_}
+use mathlib.Core.Bool.{true, false}
 use mathlib.Core.List.{List, [], _∷_}
-use mathlib.Core.Logic.{_⊎_, ⊎-elim}
 use native.Mathlib.Omega.{arith}
-use lib.Dec.{eqb, ltb}
+use lib.Dec.{eqb}
 use borrow.Author.Tests.{eqb-true, ltb-true, not-false}
 use Rattle.laws.proofs.All.{also, either, as-is, below, equal}
 use Rattle.laws.proofs.Order.{by-test, clash}
-use Rattle.names.specs.Size.{links, directions, networks, numbers}
+use Rattle.names.specs.Size.{links, directions, networks}
 use Rattle.names.specs.No.{passes}
-use Rattle.names.specs.Number.{isNumber}
 use Rattle.answers.specs.Rows.{Row, refusal, Passes}
 use Rattle.answers.specs.Out.{Out, attempt}
 use Rattle.answers.proofs.Refusals.{passed}
-use Rattle.cells.specs.View.{Net, wholePort}
-use Rattle.cells.specs.World.{World, farOf}
-use Rattle.clauses.specs.Counts.{isFree}
-use Rattle.acts.specs.Acts.{withNet}
-use Rattle.settings.specs.Set.{linkThere, inRange, farInUse, setBusy, setRows, setMade, setCall}
+use Rattle.cells.specs.World.{World}
+use Rattle.clauses.specs.Cables.{enabled}
+use Rattle.settings.specs.Set.{linkThere, inRange, setBusy, setRows, setMade, setCall}
 use Rattle.settings.specs.declared.Setting.{Setting}
 use Rattle.settings.specs.declared.Setting.the-variants.{Number, Width, Direction, LinkDirection, Network, Enable, Hello}
 use Rattle.messages.specs.Write.{accepted, madeAll, written}
 use Rattle.kept.specs.Kept.{NodeOk, Kept}
+use Rattle.kept.proofs.Ends.{sixteen-bits}
 use Rattle.kept.proofs.Links.{keep-own, keep-helloed, keep-directed, keep-network, keep-enabled, keep-disabled}
-
--- what refuses no Set that disables: a link that nobody uses
-free : (busy e kind port far : Bool) → busy ≡ true → (busy && (e && ((port || not kind) || far))) ≡ false → e ≡ true → kind ≡ true
-free true true true port far h g e = refl
-free true true false true far h g e = clash g
-free true true false false far h g e = clash g
-free true false kind port far h g e = clash (sym e)
-free false e kind port far h g q = clash (sym h)
-
-pub sixteen-bits : (v : ℕ) → isNumber v ≡ true → v < numbers
-sixteen-bits v r = by-test (ltb v numbers) (λ e. ltb-true v numbers e) (λ e. clash (sym (rw e at r)))
 
 -- a Set that is not refused
 module _ (w : World) (k : Kept w) (n : ℕ) (hn : n < w .net .nodes) where
   node-ok : NodeOk (w .net .own n 0)
   node-ok = k .nodes n 0 hn (omega arith)
 
-  pub keep-made : (x : Setting) → linkThere x ≡ true → inRange x ≡ true → setBusy (w .net) n x ≡ false
-      → Kept (withNet w (setMade (w .net) n x))
+  pub keep-made : (x : Setting) → linkThere x ≡ true → inRange x ≡ true → setBusy w n x ≡ false → Kept (setMade w n x)
   keep-made (Number v) h r b = keep-own w k n _ (sixteen-bits v r, node-ok .1)
   keep-made (Width v) h r b = keep-own w k n _ (node-ok .0, either (equal v 1) (equal v 3) .sure r)
   keep-made (Direction bit v) h r b = keep-own w k n _ node-ok
@@ -52,20 +37,12 @@ module _ (w : World) (k : Kept w) (n : ℕ) (hn : n < w .net .nodes) where
   keep-made (Enable l v) h r b =
       let hl = ltb-true l links h in
       by-test (eqb v 0)
-      (λ e. rw e (keep-disabled w k n l hn hl
-      (⊎-elim
-      (λ on. eqb-true (w .net .links .users n l .kind) 0
-      (free (eqb v 0) (eqb (w .net .links .setups n l .enabled) 1) (eqb (w .net .links .users n l .kind) 0)
-      (not (isFree (wholePort (w .net) n l))) (farInUse (w .net) (farOf (w .net .links .cables n l))) e b
-      (equal (w .net .links .setups n l .enabled) 1 .back on)))
-      (λ nobody. nobody)
-      (k .idle n l hn hl))))
+      (λ e. rw e (keep-disabled w k n l hn hl (rw e at b)))
       (λ e. rw e (keep-enabled w k n l hn hl))
   keep-made (Hello l) h r b =
-      keep-helloed w k n l hn (ltb-true l links h) (eqb-true (w .net .links .setups n l .enabled) 1 (not-not b))
-    where
-      not-not : {x : Bool} → not x ≡ false → x ≡ true
-      not-not {x} e = not-false x e
+      by-test (enabled (w .net) n l)
+      (λ on. keep-helloed w k n l hn (ltb-true l links h) (eqb-true (w .net .links .setups n l .enabled) 1 on) (rw on at b))
+      (λ off. clash (rw off at b))
 
 -- A CALL, refused or made, keeps what is kept where what it makes does
 pub attempted : {S : Type 0} (P : S → Type 0) (rs : List Row) (s : S) (done : Out S) → P s → (Passes rs → P (done .next))
@@ -73,19 +50,19 @@ pub attempted : {S : Type 0} (P : S → Type 0) (rs : List Row) (s : S) (done : 
 attempted P rs s done old new =
     by-test (eqb (refusal rs) passes) (λ e. rw e (new (passed rs .sure e))) (λ e. rw e old)
 
-pub keep-set : (w : World) → Kept w → (n : ℕ) (x : Setting) → Kept (withNet w (setCall (w .net) n x .next))
+pub keep-set : (w : World) → Kept w → (n : ℕ) (x : Setting) → Kept (setCall w n x .next)
 unfolding setCall
 keep-set w k n x =
-    attempted (λ (s : Net). Kept (withNet w s)) (setRows (w .net) n x) (w .net) _ k
+    attempted (λ (z : World). Kept z) (setRows w n x) w _ k
     (λ p.
     let there = also (below n (w .net .nodes)) (as-is (linkThere x)) .sure (not-false _ (p .0)) in
     keep-made w k n (there .0) x (there .1) (not-false _ (p .1 .0)) (p .1 .1 .0))
 
 -- WHAT A MESSAGE WRITES: its Sets one by one, or nothing
-keep-all : (xs : List Setting) (w : World) → Kept w → (n : ℕ) → Kept (withNet w (madeAll (w .net) n xs))
+keep-all : (xs : List Setting) (w : World) → Kept w → (n : ℕ) → Kept (madeAll w n xs)
 keep-all [] w k n = k
-keep-all (x ∷ xs) w k n = keep-all xs (withNet w (setCall (w .net) n x .next)) (keep-set w k n x) n
+keep-all (x ∷ xs) w k n = keep-all xs (setCall w n x .next) (keep-set w k n x) n
 
-pub keep-written : (w : World) → Kept w → (n : ℕ) (xs : List Setting) → Kept (withNet w (written (w .net) n xs))
+pub keep-written : (w : World) → Kept w → (n : ℕ) (xs : List Setting) → Kept (written w n xs)
 unfolding written
-keep-written w k n xs = by-test (accepted (w .net) n xs) (λ e. rw e (keep-all xs w k n)) (λ e. rw e k)
+keep-written w k n xs = by-test (accepted w n xs) (λ e. rw e (keep-all xs w k n)) (λ e. rw e k)

@@ -40,16 +40,17 @@ tile-there Nobody p g e = never (cc)
 tile-there (Port q) p g e = let d : q ≡ p = cc in rw (← d) g
 tile-there (End c) p g e = never (cc)
 
--- ends that are where they were
-pub same-ends : {N : ℕ} {cables : ℕ → ℕ → Cable} {sendings : ℕ → ℕ → Circuit} {b b′ : ℕ → ℕ → Stage}
+-- ends that are where they were, and so with what is on its way
+pub same-ends : {N : ℕ} {cables : ℕ → ℕ → Cable} {sendings : ℕ → ℕ → Circuit} {b b′ r r′ : ℕ → ℕ → Stage}
     → All N ports (λ m j. b′ m j ≡ b m j)
+    → All N ports (λ m j. r′ m j ≡ r m j)
     → All N ends (λ n e. GoesBy (peerOf (sendings n e)))
-    → Ends N cables sendings b b
-    → Ends N cables sendings b′ b′
-same-ends {sendings = sendings} h g z =
+    → Ends N cables sendings b r
+    → Ends N cables sendings b′ r′
+same-ends {sendings = sendings} h come g z =
     record {
-      walks = λ n p hn hp. rw (h n p hn hp) (z .walks n p hn hp);
-      unfed = λ n l hn hl. ⊎-elim (λ e. inl e) (λ e. inr (h n l hn (omega arith) ∙ e)) (z .unfed n l hn hl);
+      walks = λ n p hn hp. rw (come n p hn hp) (z .walks n p hn hp);
+      unfed = λ n l hn hl. ⊎-elim (λ e. inl e) (λ e. inr (come n l hn (omega arith) ∙ e)) (z .unfed n l hn hl);
       sends = λ n e hn he p d.
           let there = tile-there (peerOf (sendings n e)) p (g n e hn he) d in
           h n p hn (omega (arith, there .1)) ∙ z .sends n e hn he p d;

@@ -1,24 +1,33 @@
--- Wire keeps all that is kept: both ends were unwired, so neither has credit, nothing has gone out by them, and what their ports hold ends
--- with a circuit's end. Assumes nothing.
-use Prim.Native.Nat.{ℕ, _<_, _≤_}
-use mathlib.Core.Path.{_≡_, sym, ap, _∙_}
-use mathlib.Core.Logic.{_⊎_, inl, ⊎-elim}
+-- Wire keeps all that is kept: both ends were unwired, so neither owes anything, nothing has gone out by them, and what their ports hold
+-- ends with a circuit's end. Assumes nothing.
+use Prim.Native.Nat.{ℕ, _<_}
+use mathlib.Core.Path.{_≡_, refl, sym, ap, _∙_}
+use mathlib.Core.List.{[]}
+use mathlib.Core.Logic.{inl, ⊎-elim}
 use native.Mathlib.Omega.{arith}
+use lib.Dec.{ltb}
 use borrow.Author.Tests.{ne-eqb}
+use Rattle.laws.specs.Pick.{pick}
 use Rattle.laws.specs.Table.{upd, Off}
 use Rattle.laws.proofs.Table.{upd-same, upd-hit, upd-miss, place}
 use Rattle.laws.proofs.Order.{never}
-use Rattle.names.specs.Size.{links, ports}
+use Rattle.names.specs.Size.{links}
 use Rattle.names.specs.declared.Slot.{Slot}
 use Rattle.circuits.specs.Circuit.{peerOf}
-use Rattle.ports.specs.Queue.{capacity}
+use Rattle.lines.specs.Load.{tokensOf}
+use Rattle.lines.proofs.Ends.{things}
 use Rattle.grammar.specs.declared.stage.Stage.the-variants.{Fresh}
-use Rattle.cells.specs.World.{World, farOf}
+use Rattle.cells.specs.World.{World, shaped, farOf, lineFrom}
 use Rattle.cells.specs.declared.link.Cable.{Cable}
 use Rattle.cells.specs.declared.link.Far.the-variants.{Nowhere, At}
 use Rattle.acts.specs.Acts.{withNet}
+use Rattle.line_clauses.specs.Lines.{comingFrom}
+use Rattle.travel.proofs.Loads.{line-none, load-held}
+use Rattle.travel.proofs.Owes.{joined-in-order}
 use Rattle.settings.specs.Wire.{cableTo, wired}
-use Rattle.kept.specs.Kept.{frontAt, reachedAt, carried, Kept}
+use Rattle.kept.specs.Kept.{Cabled, Greeted, frontAt, reachedAt, carried, Kept}
+use Rattle.kept.proofs.Comings.{coming-loose, coming-along}
+use Rattle.kept.proofs.Grants.{kept-credited, line-there}
 use Rattle.kept.proofs.Links.{resettled}
 
 abbrev slotOf : ℕ → Slot
@@ -54,8 +63,14 @@ module _ (w : World) (k : Kept w) (n l : ℕ) (z : Loose w n l) where
       let far = k .greeted n l (z .node) (z .link) g .1 in
       never (let e : Nowhere ≡ At (far .slot) (far .link) = sym nowhere ∙ far .leads in cc)
 
-  no-credit : w .net .links .flows n l .credit ≡ 0
-  no-credit = ⊎-elim (λ e. e) (λ g. absurd (not-greeted g)) (k .money .credits n l (z .node) (z .link))
+  -- nothing is on its line
+  pub unlined : w .net .lines .rings n l .held ≡ 0
+  unlined =
+      load-held w n l (line-there w (kept-credited w k) n l (z .node) (z .link))
+      ∙ ap things (k .accounts .alone n l (z .node) (z .link) nowhere .load)
+
+  no-tokens : tokensOf (lineFrom w n l) ≡ []
+  no-tokens = ap tokensOf (line-none w n l unlined)
 
   unsent : carried (peerOf (w .net .links .users n l)) (frontAt w n) ≡ Fresh
   unsent = ⊎-elim (λ e. absurd (z .unwired e)) (λ e. e) (k .carries .unsent n l (z .node) (z .link))
@@ -63,10 +78,8 @@ module _ (w : World) (k : Kept w) (n l : ℕ) (z : Loose w n l) where
   ended : reachedAt w n l ≡ Fresh
   ended = ⊎-elim (λ e. absurd (z .unwired e)) (λ e. e) (k .backs .unfed n l (z .node) (z .link))
 
-  short : w .net .ports .counters n l .held ≤ capacity
-  short = k .counters n l (z .node) (let h = z .link in omega arith) .held-in
-
 pub keep-wired : (w : World) → Kept w → (n l m k : ℕ) → Loose w n l → Loose w m k → Off n l m k → Kept (withNet w (wired (w .net) n l m k))
+unfolding shaped
 keep-wired w iv n l m k zn zm off =
     let t = w .net .links in
     let c = t .cables in
@@ -81,68 +94,78 @@ keep-wired w iv n l m k zn zm off =
     let slot : slotOf b ≡ q = cc in
     let link : d ≡ i = cc in
     (sym (ap (λ (y : Slot). y .0) slot), sym link) in
-    resettled w (w .net .own) c′ (t .setups) (t .flows) iv
+    let v = withNet w (wired (w .net) n l m k) in
+    let linked : Cabled (w .net .nodes) c′ = record {
+      flags = λ a j ha hj. elim (at a j) [
+        | one ea ej d ↦ rw d (omega arith)
+        | other ea ej d ↦ rw d (omega arith)
+        | elsewhere o o′ d ↦ rw d (iv .cabled .flags a j ha hj)
+      ];
+      agree = λ a j ha hj q i e. elim (at a j) [
+        | one ea ej d ↦ let (eq, ei) = same a j (c′ a j) q i m k d e in
+            record {
+              node = rw eq (zm .node);
+              link = rw ei (zm .link);
+              other = λ y. off (sym eq ∙ y .0 ∙ ea) (sym ei ∙ y .1 ∙ ej);
+              back = rw (eq, ei, ea, ej) at-m;
+            }
+        | other ea ej d ↦ let (eq, ei) = same a j (c′ a j) q i n l d e in
+            record {
+              node = rw eq (zn .node);
+              link = rw ei (zn .link);
+              other = λ y. off (sym ea ∙ sym (y .0) ∙ eq) (sym ej ∙ sym (y .1) ∙ ei);
+              back = rw (eq, ei, ea, ej) at-n;
+            }
+        | elsewhere o o′ d ↦
+            let joined = iv .cabled .agree a j ha hj q i (sym (ap farOf d) ∙ e) in
+            let here = slotOf a in
+            record {
+              node = joined .node;
+              link = joined .link;
+              other = joined .other;
+              back =
+                  ap farOf
+                  (upd-miss (upd c n l (cableTo m k)) m k (cableTo n l) (q .0) i
+                  (λ ex ey. never (let y : Nowhere ≡ At here j = sym (nowhere w iv m k zm) ∙ (rw (ex, ey) at (joined .back)) in cc))
+                  ∙ upd-miss c n l (cableTo m k) (q .0) i
+                  (λ ex ey. never (let y : Nowhere ≡ At here j = sym (nowhere w iv n l zn) ∙ (rw (ex, ey) at (joined .back)) in cc)))
+                  ∙ joined .back;
+            }
+      ];
+    } in
+    let greets : Greeted (w .net .nodes) c′ (t .setups) (t .flows) = λ a j ha hj g.
+    let y = iv .greeted a j ha hj g in (
+      y .0,
+      elim (at a j) [
+        | one ea ej d ↦ absurd (not-greeted w iv n l zn (rw (ea, ej) at g))
+        | other ea ej d ↦ absurd (not-greeted w iv m k zm (rw (ea, ej) at g))
+        | elsewhere o o′ d ↦ rw d (y .1)
+      ],
+    ) in
+    resettled w (w .net .own) c′ (t .setups) (t .flows) (w .net .lines) (w .lineMemory) iv
     (record {
       nodes = iv .nodes;
-      cabled = record {
-        flags = λ a j ha hj. elim (at a j) [
-          | one ea ej d ↦ rw d (omega arith)
-          | other ea ej d ↦ rw d (omega arith)
-          | elsewhere o o′ d ↦ rw d (iv .cabled .flags a j ha hj)
-        ];
-        agree = λ a j ha hj q i e. elim (at a j) [
-          | one ea ej d ↦ let (eq, ei) = same a j (c′ a j) q i m k d e in
-              record {
-                node = rw eq (zm .node);
-                link = rw ei (zm .link);
-                other = λ y. off (sym eq ∙ y .0 ∙ ea) (sym ei ∙ y .1 ∙ ej);
-                back = rw (eq, ei, ea, ej) at-m;
-              }
-          | other ea ej d ↦ let (eq, ei) = same a j (c′ a j) q i n l d e in
-              record {
-                node = rw eq (zn .node);
-                link = rw ei (zn .link);
-                other = λ y. off (sym ea ∙ sym (y .0) ∙ eq) (sym ej ∙ sym (y .1) ∙ ei);
-                back = rw (eq, ei, ea, ej) at-n;
-              }
-          | elsewhere o o′ d ↦
-              let joined = iv .cabled .agree a j ha hj q i (sym (ap farOf d) ∙ e) in
-              let here = slotOf a in
-              record {
-                node = joined .node;
-                link = joined .link;
-                other = joined .other;
-                back =
-                    ap farOf
-                    (upd-miss (upd c n l (cableTo m k)) m k (cableTo n l) (q .0) i
-                    (λ ex ey. never (let y : Nowhere ≡ At here j = sym (nowhere w iv m k zm) ∙ (rw (ex, ey) at (joined .back)) in cc))
-                    ∙ upd-miss c n l (cableTo m k) (q .0) i
-                    (λ ex ey. never (let y : Nowhere ≡ At here j = sym (nowhere w iv n l zn) ∙ (rw (ex, ey) at (joined .back)) in cc)))
-                    ∙ joined .back;
-              }
-        ];
-      };
       setups = iv .setups;
-      greeted = λ a j ha hj g.
-          let y = iv .greeted a j ha hj g in (
-            y .0,
-            elim (at a j) [
-              | one ea ej d ↦ absurd (not-greeted w iv n l zn (rw (ea, ej) at g))
-              | other ea ej d ↦ absurd (not-greeted w iv m k zm (rw (ea, ej) at g))
-              | elsewhere o o′ d ↦ rw d (y .1)
-            ],
-          );
-      money = record {
-        flags = iv .money .flags;
-        credits = iv .money .credits;
-        rooms = λ a j ha hj q i e. elim (at a j) [
-          | one ea ej d ↦ let (eq, ei) = same a j (c′ a j) q i m k d e in
-              rw (ea, ej, eq, ei) (omega (arith, no-credit w iv n l zn, short w iv m k zm))
-          | other ea ej d ↦ let (eq, ei) = same a j (c′ a j) q i n l d e in
-              rw (ea, ej, eq, ei) (omega (arith, no-credit w iv m k zm, short w iv n l zn))
-          | elsewhere o o′ d ↦ iv .money .rooms a j ha hj q i (sym (ap farOf d) ∙ e)
+      credited = record {
+        shape = iv .shape;
+        cabled = linked;
+        greeted = greets;
+        accounts = joined-in-order w (iv .accounts) n l m k (cableTo m k) (cableTo n l) (zn .node) (zn .link) (zm .node) (zm .link)
+            (nowhere w iv n l zn) (nowhere w iv m k zm) off refl refl;
+        lines = iv .lines;
+        between = λ a j ha hj. elim (at a j) [
+          | one ea ej d ↦ inl (rw (ea, ej) (unlined w iv n l zn))
+          | other ea ej d ↦ inl (rw (ea, ej) (unlined w iv m k zm))
+          | elsewhere o o′ d ↦ rw d (iv .between a j ha hj)
         ];
       };
+      coming = λ a j ha hj. elim (at a j) [
+        | one ea ej d ↦ rw (ea, ej)
+            (coming-along v n l (zn .link) (slotOf m) k at-n ∙ no-tokens w iv m k zm ∙ sym (coming-loose w n l (nowhere w iv n l zn)))
+        | other ea ej d ↦ rw (ea, ej)
+            (coming-along v m k (zm .link) (slotOf n) l at-m ∙ no-tokens w iv n l zn ∙ sym (coming-loose w m k (nowhere w iv m k zm)))
+        | elsewhere o o′ d ↦ ap (λ (x : Cable). pick (ltb j links) (comingFrom (λ b i. lineFrom w b i) (farOf x)) []) d
+      ];
       unfed = λ a j ha hj. elim (at a j) [
         | one ea ej d ↦ inl (rw d)
         | other ea ej d ↦ inl (rw d)

@@ -2,7 +2,7 @@
 -- rule as it stands a sound one. A hop closed without freeing its link; a claim left behind; a grant without room; a header put behind an
 -- unfinished circuit. Every state is computed, from Fresh of two boards. Assumes nothing.
 use Prim.{tt}
-use Prim.Native.Nat.{ℕ, _+_, _<_}
+use Prim.Native.Nat.{ℕ, _<_}
 use mathlib.Core.Path.{_≡_, refl, sym, ap, _∙_}
 use mathlib.Core.Bool.{Bool, true, false}
 use lib.Dec.{eqb, ltb}
@@ -14,17 +14,18 @@ use Rattle.names.specs.Size.{replyPort}
 use Rattle.circuits.specs.declared.Peer.the-variants.{Nobody}
 use Rattle.tokens.specs.Word.{closes}
 use Rattle.credits.specs.Grant.{grantOf}
-use Rattle.cells.specs.View.{Net, withFlow}
-use Rattle.cells.specs.World.{World}
-use Rattle.cells.specs.Changes.{creditAs}
+use Rattle.lines.specs.Line.{lineCapacity}
+use Rattle.cells.specs.View.{Net}
+use Rattle.cells.specs.World.{World, farOf}
+use Rattle.cells.specs.declared.link.Far.{Far}
+use Rattle.cells.specs.declared.link.Far.the-variants.{At}
 use Rattle.clauses.specs.Counts.{tilePort}
 use Rattle.clauses.specs.declared.pairs.Role.the-variants.{LinkPort, ClaimPort}
 use Rattle.acts.specs.Acts.{withNet, firstAt, shut, tiledTo, handed}
-use Rattle.grants.specs.Grants.{farHeld, grantTo, considered, greets, helloed}
-use Rattle.moves.specs.Moves.{took, closesOut, closesChannel, crosses, movesOut, hands}
+use Rattle.travel.specs.Travel.{takenOff, mayGrant, grantTo, grantDue, issues, grantsBack, sendsOn, greets, lineStepped}
+use Rattle.moves.specs.Moves.{took, closesOut, closesChannel, movesOut, hands}
 use Rattle.settings.specs.Wire.{wired}
 use Rattle.settings.specs.Set.{setMade}
-use Rattle.settings.specs.declared.Setting.{Setting}
 use Rattle.settings.specs.declared.Setting.the-variants.{Number, Enable, Hello}
 use Rattle.fresh.specs.Fresh.{startOf}
 use Rattle.fresh.specs.declared.Start.the-variants.{Fresh}
@@ -42,6 +43,7 @@ use Rattle.sound.specs.declared.tests.Test.the-variants.{Room, Contents, Agrees
 use Rattle.sound.proofs.Sounds.{sound-says}
 use Rattle.kept.specs.Kept.{Kept}
 use Rattle.kept.proofs.Parts.{kept-sound}
+use Rattle.kept.proofs.Arrivals.{keep-line-step}
 use Rattle.kept.proofs.Calls.{keep-start, keep-wire, keep-set-made, keep-aimed, keep-output, keep-stepped}
 use Rattle.kept.proofs.Computes.{computes}
 
@@ -74,23 +76,31 @@ broken {act = act} {made = made} {wrong = wrong} {t = t} {n = n} {i = i} e k hn 
 
 -- THE RUN: boards 0 and 1, joined by link 0 of each and greeted from board 0, whose channel-end 0 is aimed at channel 5 of board 1
 
-abbrev setTo : World → ℕ → Setting → World
-setTo w n x = withNet w (setMade (w .net) n x)
-
 abbrev aimedTo : World → ℕ → ℕ → World
 aimedTo w c d = withNet w (aimMade (w .net) 0 c (Channel 1 d) 0)
 
 abbrev stepped : World → ℕ → ℕ → World
 stepped w n p = stepMade w n p .next
 
+-- a step of the line that starts at link 0 of board n
+abbrev came : World → ℕ → World
+came w n = lineStepped w n 0
+
+came-kept : (w : World) → Kept w → (n : ℕ) → n < w .net .nodes → Kept (came w n)
+came-kept w k n hn = keep-line-step w k n 0 hn (ltb-true 0 8 refl)
+
 abbrev joined : World
 joined = withNet (startOf Fresh 2) (wired (startOf Fresh 2 .net) 0 0 1 0)
 
 abbrev enabled : World
-enabled = setTo (setTo joined 0 (Enable 0 1)) 1 (Enable 0 1)
+enabled = setMade (setMade joined 0 (Enable 0 1)) 1 (Enable 0 1)
+
+-- HELLO arrives at board 1, and what that grants at board 0
+abbrev helloed : World
+helloed = setMade enabled 0 (Hello 0)
 
 abbrev greeted : World
-greeted = setTo (setTo enabled 0 (Hello 0)) 1 (Number 1)
+greeted = setMade (came (came helloed 0) 1) 1 (Number 1)
 
 abbrev aimed : World
 aimed = aimedTo greeted 0 5
@@ -101,12 +111,14 @@ aimed-kept =
     let fresh = keep-start (startOf Fresh 2) Fresh 2 (refl, (refl, tt)) in
     let wire = keep-wire (startOf Fresh 2) fresh 0 0 1 0 (refl, (refl, (refl, tt))) in
     let near = keep-set-made joined wire 0 (Enable 0 1) (refl, (refl, (refl, tt))) in
-    let far = keep-set-made (setTo joined 0 (Enable 0 1)) near 1 (Enable 0 1) (refl, (refl, (refl, tt))) in
+    let far = keep-set-made (setMade joined 0 (Enable 0 1)) near 1 (Enable 0 1) (refl, (refl, (refl, tt))) in
     let hello = keep-set-made enabled far 0 (Hello 0) (refl, (refl, (refl, tt))) in
-    let number = keep-set-made (setTo enabled 0 (Hello 0)) hello 1 (Number 1) (refl, (refl, (refl, tt))) in
+    let heard = came-kept helloed hello 0 (ltb-true 0 2 refl) in
+    let credit = came-kept (came helloed 0) heard 1 (ltb-true 1 2 refl) in
+    let number = keep-set-made (came (came helloed 0) 1) credit 1 (Number 1) (refl, (refl, (refl, tt))) in
     keep-aimed greeted number 0 0 (Channel 1 5) 0 (refl, (refl, (refl, tt)))
 
--- END alone is sent: port 8 opens link 0, and its header crosses
+-- END alone is sent: port 8 opens link 0, and its header goes on the line
 abbrev sent : World
 sent = outputMade aimed 0 0 (Control 1)
 
@@ -125,20 +137,31 @@ ending-kept =
     let low = keep-stepped (stepped opened 0 8) high 0 8 (refl, tt) in
     keep-stepped (stepped (stepped opened 0 8) 0 8) low 0 8 (refl, tt)
 
--- .. and then END; at board 1 port 0 opens channel 5, by tile link 0
+-- .. and then END, and all four come to board 1, where port 0 opens channel 5, by tile link 0
 abbrev ended : World
 ended = stepped ending 0 8
 
+abbrev arrived : World
+arrived = came (came (came (came ended 0) 0) 0) 0
+
 abbrev landed : World
-landed = stepped ended 1 0
+landed = stepped arrived 1 0
 
 ended-kept : Kept ended
 unfolding computes
 ended-kept = keep-stepped ending ending-kept 0 8 (refl, tt)
 
+arrived-kept : Kept arrived
+unfolding computes
+arrived-kept =
+    let high = came-kept ended ended-kept 0 (ltb-true 0 2 refl) in
+    let low = came-kept (came ended 0) high 0 (ltb-true 0 2 refl) in
+    let channel = came-kept (came (came ended 0) 0) low 0 (ltb-true 0 2 refl) in
+    came-kept (came (came (came ended 0) 0) 0) channel 0 (ltb-true 0 2 refl)
+
 landed-kept : Kept landed
 unfolding computes
-landed-kept = keep-stepped ended ended-kept 1 0 (refl, tt)
+landed-kept = keep-stepped arrived arrived-kept 1 0 (refl, tt)
 
 -- or a token is sent that is no END, and channel-end 1 is aimed too
 abbrev begun : World
@@ -155,7 +178,7 @@ ready-kept =
 
 -- A LINK: "END and PAUSE close the hop": what it held is free
 abbrev pub movesOutBy : (Net → ℕ → ℕ → ℕ → ℕ → Net) → World → ℕ → ℕ → ℕ → World
-movesOutBy close w n p l = crosses (withNet (took w n p) (close (took w n p .net) n p l (firstAt w n p))) n l (firstAt w n p)
+movesOutBy close w n p l = sendsOn (withNet (took w n p) (close (took w n p .net) n p l (firstAt w n p))) n l (firstAt w n p)
 
 pub moves-right : (w : World) (n p l : ℕ) → movesOutBy closesOut w n p l ≡ movesOut w n p l
 moves-right w n p l = refl
@@ -183,25 +206,36 @@ pub claim-freed : Broken (λ close. handsBy close landed 1 0 5 0) (stepped lande
 unfolding computes
 claim-freed = broken refl (keep-stepped landed landed-kept 1 0 (refl, tt)) (ltb-true 1 2 refl) (ltb-true 5 32 refl) refl refl
 
--- A GRANT: "the largest of 64, 16, 8 that room covers, else none", as HELLO has it
-abbrev pub helloBy : (ℕ → ℕ → ℕ) → Net → ℕ → ℕ → Net
-helloBy grant s n l =
-    let z = greets s n l in
-    let f = z .links .flows n l in
-    withFlow z n l (creditAs f (f .credit + pick (eqb (f .greeted) 1) (grant (f .credit) (farHeld z (z .links .cables n l))) 0))
+-- A GRANT: "the largest of 64, 16, 8 that room covers, else none", as a HELLO that arrives at link k of node m from link l of node n has it
+abbrev pub dueBy : (ℕ → ℕ → ℕ) → World → ℕ → ℕ → ℕ → ℕ → ℕ
+dueBy grant w n l m k =
+    pick (mayGrant w n l)
+    (pick (ltb (w .net .lines .rings m k .held) lineCapacity) (grant (w .net .lines .issued m k) (w .net .ports .counters m k .held)) 0) 0
 
-pub hello-right : (s : Net) (n l : ℕ) → helloBy grantOf s n l ≡ helloed s n l
-unfolding helloed considered grantTo
-hello-right s n l = refl
+abbrev pub grantsBy : (ℕ → ℕ → ℕ) → World → ℕ → ℕ → ℕ → ℕ → World
+grantsBy grant w n l m k = let g = dueBy grant w n l m k in pick (eqb g 0) w (issues w m k g)
+
+abbrev pub helloBy : (ℕ → ℕ → ℕ) → World → ℕ → ℕ → ℕ → ℕ → World
+helloBy grant w n l m k = grantsBy grant (greets (takenOff w n l) n l m k) n l m k
+
+pub grant-right : (w : World) (n l m k : ℕ) → farOf (w .net .links .cables m k) ≡ At (record { 0 = n }) l
+    → grantsBy grantOf w n l m k ≡ grantsBack w m k
+unfolding grantsBack grantDue
+grant-right w n l m k e = ap (λ (f : Far). let g = grantTo w m k f in pick (eqb g 0) w (issues w m k g)) (sym e)
 
 -- wrong: 64, whatever room there is
 abbrev pub grantsAll : ℕ → ℕ → ℕ
-grantsAll credit held = pick (ltb credit 8) 64 0
+grantsAll issued held = pick (ltb issued 8) 64 0
 
-pub room-covers : Broken (λ grant. withNet ended (helloBy grant (ended .net) 0 0)) (setTo ended 0 (Hello 0)) grantOf grantsAll Room 0 0
+-- board 0 says HELLO again, while port 0 of board 1 holds four tokens
+abbrev again : World
+again = setMade arrived 0 (Hello 0)
+
+pub room-covers : Broken (λ grant. helloBy grant again 0 0 1 0) (came again 0) grantOf grantsAll Room 0 0
 unfolding computes
 room-covers =
-    broken refl (keep-set-made ended ended-kept 0 (Hello 0) (refl, (refl, (refl, tt)))) (ltb-true 0 2 refl) (ltb-true 0 8 refl) refl refl
+    let hello = keep-set-made arrived arrived-kept 0 (Hello 0) (refl, (refl, (refl, tt))) in
+    broken refl (came-kept again hello 0 (ltb-true 0 2 refl)) (ltb-true 0 2 refl) (ltb-true 0 8 refl) refl refl
 
 -- A PORT: "the lowest free port 8..11 is taken and receives header and token"
 abbrev pub opensAt : (Net → ℕ → ℕ → Bool) → World → ℕ → ℕ → Token → World

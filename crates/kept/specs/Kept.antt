@@ -1,11 +1,10 @@
--- What every call keeps: Sound (document 01) and the six ties by which it lasts, by parts. A part is said over the tables that it reads
+-- What every call keeps: Sound (document 01) and the ties by which it lasts, by parts. A part is said over the tables that it reads
 -- and no others, so that a call that writes another table keeps it as it was. `kept-sound` and `sound-kept` in proofs/Parts.antt: the
 -- parts together are `sound` and `tight`.
 use Prim.{Unit}
-use Prim.Native.Nat.{ℕ, _+_, _<_, _≤_}
+use Prim.Native.Nat.{ℕ, _<_, _≤_}
 use mathlib.Core.Path.{_≡_}
 use mathlib.Core.Bool.{true, false}
-use mathlib.Core.List.{List, []}
 use mathlib.Core.Logic.{_⊎_}
 use lib.ListN.{getD}
 use Rattle.names.specs.Size.{links, firstTilePort, replyPort, ports, tileLinks, ends, endBuffer, unitBuffer, sink}
@@ -17,6 +16,7 @@ use Rattle.circuits.specs.declared.Peer.{Peer}
 use Rattle.circuits.specs.declared.Peer.the-variants.{Nobody, Port, End}
 use Rattle.ports.specs.Queue.{capacity, Fair}
 use Rattle.ports.specs.declared.Counters.{Counters}
+use Rattle.lines.specs.Line.{LineFair}
 use Rattle.grammar.specs.Stage.{isBad, crossed}
 use Rattle.grammar.specs.Walk.{walk, frontOf, backOf}
 use Rattle.grammar.specs.declared.stage.Stage.{Stage}
@@ -36,8 +36,9 @@ use Rattle.clauses.specs.Contents.{legalWord}
 use Rattle.clauses.specs.Pairs.{portOf, endOf, straightTo, linkOf, tileOf, unitOf, claimOf}
 use Rattle.clauses.specs.declared.pairs.Named.{Named}
 use Rattle.clauses.specs.declared.pairs.Named.the-variants.{One}
-use Rattle.cells.specs.View.{wholeLine}
-use Rattle.clauses.proofs.Meanings.{AimFacts, LineFacts}
+use Rattle.clauses.proofs.Meanings.{AimFacts}
+use Rattle.line_clauses.specs.Lines.{coming}
+use Rattle.travel.specs.Accounts.{InOrder}
 
 -- P holds at every place of N nodes with k places each
 abbrev pub All : ℕ → ℕ → (ℕ → ℕ → Type 0) → Type 0
@@ -50,9 +51,6 @@ NodeOk k = (k .number < numbers) × ((k .width ≡ 1) ⊎ (k .width ≡ 3))
 
 abbrev pub SetupOk : Setup → Type 0
 SetupOk k = (k .enabled ≤ 1) × (k .direction < directions) × (k .network < networks)
-
-abbrev pub FlowOk : Flow → Type 0
-FlowOk k = (k .greeted ≤ 1) × (k .credit ≤ capacity)
 
 -- nobody, or a port
 abbrev pub PortOk : Circuit → Type 0
@@ -116,12 +114,10 @@ abbrev pub Greeted : ℕ → (ℕ → ℕ → Cable) → (ℕ → ℕ → Setup)
 Greeted N cables setups flows =
     All N links (λ n l. flows n l .greeted ≡ 1 → (setups n l .enabled ≡ 1) × Hears setups (cables n l))
 
--- "credit only where greeted"; "credit plus tokens held at the far end at most 64"
-pub record Money (N : ℕ) (cables : ℕ → ℕ → Cable) (flows : ℕ → ℕ → Flow) (counters : ℕ → ℕ → Counters) : Type 0 where
-  pub flags : All N links (λ n l. FlowOk (flows n l))
-  pub credits : All N links (λ n l. (flows n l .credit ≡ 0) ⊎ (flows n l .greeted ≡ 1))
-  pub rooms : All N links (λ n l. (m : Slot) (k : ℕ) → farOf (cables n l) ≡ At m k
-      → flows n l .credit + counters (m .0) k .held ≤ capacity)
+-- a line is in use only where both ends are enabled
+abbrev pub Between : ℕ → (ℕ → ℕ → Cable) → (ℕ → ℕ → Setup) → (ℕ → ℕ → Counters) → Type 0
+Between N cables setups rings =
+    All N links (λ n l. (rings n l .held ≡ 0) ⊎ ((setups n l .enabled ≡ 1) × Hears setups (cables n l)))
 
 -- WHO NAMES WHOM ("names that port back and no other")
 
@@ -182,16 +178,12 @@ frontAt w n p = frontOf (hop (w .net) n p) (queue w n p)
 abbrev pub backAt : World → ℕ → ℕ → Stage
 backAt w n p = backOf (hop (w .net) n p) (queue w n p)
 
--- what is on its way to a port: nothing, since a token crosses a cable at once
-abbrev pub onLine : World → ℕ → ℕ → List ℕ
-onLine w n p = []
-
--- where a port ends once that has come
+-- where a port ends once what is on its way to it (`coming`) has come
 abbrev pub reachedAt : World → ℕ → ℕ → Stage
-reachedAt w n p = walk (backAt w n p) (onLine w n p)
+reachedAt w n p = walk (backAt w n p) (coming w n p)
 
 abbrev pub Walks : ℕ → (ℕ → ℕ → Stage) → Type 0
-Walks N back = All N ports (λ n p. isBad (back n p) ≡ false)
+Walks N reached = All N ports (λ n p. isBad (reached n p) ≡ false)
 
 -- THE TIES
 
@@ -233,7 +225,7 @@ Replied N back = (n : ℕ) → n < N → back n replyPort ≡ Fresh
 
 -- what hangs on where ports end, and not on how they come there
 pub record Ends (N : ℕ) (cables : ℕ → ℕ → Cable) (sendings : ℕ → ℕ → Circuit) (back reached : ℕ → ℕ → Stage) : Type 0 where
-  pub walks : Walks N back
+  pub walks : Walks N reached
   pub unfed : Unfed N cables reached
   pub sends : Sends N sendings back
   pub replied : Replied N back
@@ -247,7 +239,7 @@ pub record Kept (w : World) : Type 0 where
   pub setups : All (w .net .nodes) links (λ n l. SetupOk (w .net .links .setups n l))
   pub users : All (w .net .nodes) links (λ n l. PortOk (w .net .links .users n l))
   pub greeted : Greeted (w .net .nodes) (w .net .links .cables) (w .net .links .setups) (w .net .links .flows)
-  pub money : Money (w .net .nodes) (w .net .links .cables) (w .net .links .flows) (w .net .ports .counters)
+  pub accounts : InOrder w
   pub counters : All (w .net .nodes) ports (λ n p. Fair (w .net .ports .counters n p))
   pub legs : All (w .net .nodes) ports (λ n p. LegOk (w .net .ports .legs n p))
   pub networks : All (w .net .nodes) ports
@@ -268,7 +260,8 @@ pub record Kept (w : World) : Type 0 where
   pub endPort : Pair (w .net .nodes) ends ports portIn endIn (w .net .ends .sendings) (w .net .ports .senders)
   pub aimed : Aimed (w .net .nodes) (w .net .ends .sendings) (w .net .ends .aims)
   pub goes : All (w .net .nodes) ends (λ n e. GoesBy (peerOf (w .net .ends .sendings n e)))
-  pub lines : All (w .net .nodes) links (λ n l. LineFacts (wholeLine (w .net) n l))
+  pub lines : All (w .net .nodes) links (λ n l. LineFair (w .net .lines .rings n l))
+  pub between : Between (w .net .nodes) (w .net .links .cables) (w .net .links .setups) (w .net .lines .rings)
   pub silent : Silent (w .net .nodes) (w .net .units .serving) (w .net .ports .counters)
   pub backs : Ends (w .net .nodes) (w .net .links .cables) (w .net .ends .sendings) (backAt w) (reachedAt w)
   pub idle : Idle (w .net .nodes) (w .net .links .setups) (w .net .links .users)

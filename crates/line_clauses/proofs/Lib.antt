@@ -2,5 +2,5 @@
 pub mod Readies
 pub mod Walks
 pub mod Lent
-pub mod Empty
+pub mod Spoken
 pub mod Meanings

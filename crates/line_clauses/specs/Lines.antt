@@ -1,8 +1,7 @@
--- What Sound and tight ask of the lines of cables (document 02, Ask 4), link by link and port by port. The list does not ask them yet:
--- nothing is on a line (`lineCounts`), and what they say of ports and credits is then what the list says (proofs/Empty.antt).
+-- What Sound and tight ask of the lines of cables (document 02, Ask 4), link by link and port by port.
 use Prim.Native.Nat.{ℕ, _+_, _*_, _/_}
 use mathlib.Core.Bool.{Bool, true, false, not, _&&_, _||_}
-use mathlib.Core.List.{List}
+use mathlib.Core.List.{List, []}
 use lib.Dec.{eqb, ltb, leb}
 use lib.ListN.{length}
 use Rattle.laws.specs.Pick.{pick}
@@ -16,6 +15,7 @@ use Rattle.grammar.specs.Stage.{isBad, sameStage}
 use Rattle.grammar.specs.Walk.{walk}
 use Rattle.grammar.specs.declared.stage.Stage.{Stage}
 use Rattle.grammar.specs.declared.stage.Stage.the-variants.{Bad}
+use Rattle.cells.specs.View.{Net}
 use Rattle.cells.specs.World.{World, farOf, lineFrom}
 use Rattle.cells.specs.declared.link.Far.{Far}
 use Rattle.cells.specs.declared.link.Far.the-variants.{Nowhere, At}
@@ -37,8 +37,11 @@ unfoldable pub loadAt : World → ℕ → ℕ → Load
 loadAt w n l = pick (lineReady w n l) (loadOf (lineFrom w n l)) unread
 
 -- SOUND. "allows one credit and one HELLO there"
+abbrev pub few : Load → Bool
+few k = leb (k .credits) 1 && leb (k .hellos) 1
+
 abbrev pub fewOn : World → ℕ → ℕ → Bool
-fewOn w n l = leb (loadAt w n l .credits) 1 && leb (loadAt w n l .hellos) 1
+fewOn w n l = few (loadAt w n l)
 
 -- "Each direction of a cable becomes a line": without a cable nothing is on one, and nothing is issued
 abbrev pub unlined : World → ℕ → ℕ → Bool
@@ -47,24 +50,52 @@ unlined w n l =
 
 -- "Sound counts tokens on a line": credit in hand and on the line to the link, and tokens on the line from it and held at the far end, are
 -- at most 64
+abbrev pub roomWith : Net → ℕ → ℕ → ℕ → ℕ → Load → Load → Bool
+roomWith s n l m k going coming =
+    leb (s .links .flows n l .credit + coming .credit + (going .tokens + s .ports .counters m k .held)) capacity
+
 abbrev pub roomTo : World → ℕ → ℕ → ℕ → ℕ → Bool
-roomTo w n l m k =
-    leb
-    (w .net .links .flows n l .credit + loadAt w m k .credit + (loadAt w n l .tokens + w .net .ports .counters m k .held))
-    capacity
+roomTo w n l m k = roomWith (w .net) n l m k (loadAt w n l) (loadAt w m k)
 
 abbrev pub roomOver : World → ℕ → ℕ → Bool
 roomOver w n l = onFar (farOf (w .net .links .cables n l)) true (roomTo w n l)
 
 -- "while no HELLO is coming to a receiver, holds its count to the far end's credit plus the credit on the line to that end and the tokens on
 -- the line from it"
+abbrev pub countWith : Net → ℕ → ℕ → ℕ → ℕ → Load → Load → Bool
+countWith s n l m k going coming =
+    not (eqb (coming .hellos) 0) || eqb (s .lines .issued n l) (s .links .flows m k .credit + going .credit + coming .tokens)
+
 abbrev pub countTo : World → ℕ → ℕ → ℕ → ℕ → Bool
-countTo w n l m k =
-    not (eqb (loadAt w m k .hellos) 0)
-    || eqb (w .net .lines .issued n l) (w .net .links .flows m k .credit + loadAt w n l .credit + loadAt w m k .tokens)
+countTo w n l m k = countWith (w .net) n l m k (loadAt w n l) (loadAt w m k)
 
 abbrev pub counted : World → ℕ → ℕ → Bool
 counted w n l = onFar (farOf (w .net .links .cables n l)) true (countTo w n l)
+
+-- all that the list asks of the lines at a link, which is read in one go
+abbrev pub linesTo : World → ℕ → ℕ → ℕ → ℕ → Bool
+linesTo w n l m k = roomTo w n l m k && (fewOn w n l && (countTo w n l m k && unlined w n l))
+
+abbrev pub linesAt : World → ℕ → ℕ → Bool
+linesAt w n l = roomOver w n l && (fewOn w n l && (counted w n l && unlined w n l))
+
+-- what is on its way to a port: the tokens on the line to it, by what is on each line, so that what touches no line leaves it as it was
+abbrev pub comingFrom : (ℕ → ℕ → List ℕ) → Far → List ℕ
+comingFrom lines Nowhere = []
+comingFrom lines (At m k) = tokensOf (lines (m .0) k)
+
+abbrev pub coming : World → ℕ → ℕ → List ℕ
+coming w n p = pick (ltb p links) (comingFrom (λ m k. lineFrom w m k) (farOf (w .net .links .cables n p))) []
+
+-- a line on which there is nothing, where the lines' memory is for so many nodes
+abbrev pub clearOf : Net → ℕ → ℕ → ℕ → Bool
+clearOf s many n l =
+    let c = s .lines .rings n l in
+    ltb n many && (ltb l links && (ltb (c .head) lineCapacity && eqb (c .held) 0))
+
+-- nothing is on its way to a port: it has no line to it, or one on which there is nothing
+abbrev pub aloneOf : Net → ℕ → ℕ → ℕ → Bool
+aloneOf s many n p = pick (ltb p links) (onFar (farOf (s .links .cables n p)) true (clearOf s many)) true
 
 -- what a port holds, with the line to it behind: where its tokens end once those on the line have come. What is left of a header is read
 -- from the port's own tokens alone (`front`)

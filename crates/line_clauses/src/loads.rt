@@ -1,4 +1,5 @@
 // How much is on lines, and what Sound asks of it.
+use cells::layout::LINE_WORDS;
 use cells::line;
 use cells::link;
 use cells::link::Far;
@@ -15,11 +16,10 @@ ghost use mathlib.Core.List.{[]};
 ghost use Prim.Native.Nat.{_+_};
 ghost use lib.Dec.{leb};
 ghost use Rattle.ports.specs.Queue.{capacity};
+ghost use Rattle.cells.specs.View.{view};
 ghost use Rattle.cells.specs.World.{lined};
-ghost use Rattle.line_clauses.specs.Lines.{lineReady, loadAt, fewOn, unlined, roomTo, roomOver, countTo, counted};
-
-// The words of the lines' memory of a node.
-const LINE_WORDS: usize = LINKS * CAPACITY as usize;
+ghost use Rattle.line_clauses.specs.Lines.{lineReady, loadAt, few, fewOn, unlined, roomWith, roomTo, roomOver};
+ghost use Rattle.line_clauses.specs.Lines.{countWith, countTo, counted, linesTo, linesAt};
 
 // The lines' memory has this line's stretch, and its counters are those of a ring.
 pub fn line_ready(st: &[u32], ls: &[u16], slot: Slot, l: usize) -> bool
@@ -47,12 +47,17 @@ pub fn load_on(st: &[u32], ls: &[u16], slot: Slot, l: usize) -> Load
     }
 }
 
+fn few(k: Load) -> bool
+    ensures { λ r. ⌜ r ≡ few k ⌝ }
+{
+    (k.credits <= 1) & (k.hellos <= 1)
+}
+
 // "allows one credit and one HELLO there"
 pub fn few_on(st: &[u32], ls: &[u16], slot: Slot, l: usize) -> bool
     ensures { λ r. ⌜ r ≡ fewOn (lined (now (st .entry)) (now (ls .entry))) (slot .0) l ⌝ }
 {
-    let k = load_on(st, ls, slot, l);
-    (k.credits <= 1) & (k.hellos <= 1)
+    few(load_on(st, ls, slot, l))
 }
 
 // Without a cable nothing is on a line, and nothing is issued.
@@ -71,19 +76,25 @@ fn fits(credit: u32, coming: u32, going: u32, held: u32) -> bool
     credit as u64 + coming as u64 + (going as u64 + held as u64) <= Counters::CAPACITY as u64
 }
 
-fn room_to(st: &[u32], ls: &[u16], slot: Slot, l: usize, m: Slot, k: usize) -> bool
-    ensures { λ r. ⌜ r ≡ roomTo (lined (now (st .entry)) (now (ls .entry))) (slot .0) l (m .0) k ⌝ }
+fn room_with(st: &[u32], slot: Slot, l: usize, m: Slot, k: usize, going: Load, coming: Load) -> bool
+    ensures { λ r. ⌜ r ≡ roomWith (view (now (st .entry))) (slot .0) l (m .0) k going coming ⌝ }
 {
     let x = link::at(st, slot, l);
     let far = port::at(st, m, k);
-    let coming = load_on(st, ls, m, k);
-    let going = load_on(st, ls, slot, l);
     fits(
         x.flow.credit,
         coming.credit,
         going.tokens,
         far.counters.held,
     )
+}
+
+fn room_to(st: &[u32], ls: &[u16], slot: Slot, l: usize, m: Slot, k: usize) -> bool
+    ensures { λ r. ⌜ r ≡ roomTo (lined (now (st .entry)) (now (ls .entry))) (slot .0) l (m .0) k ⌝ }
+{
+    let going = load_on(st, ls, slot, l);
+    let coming = load_on(st, ls, m, k);
+    room_with(st, slot, l, m, k, going, coming)
 }
 
 // Credit in hand and on the line to the link, and tokens on the line from it and held at the far end, are at most 64.
@@ -96,15 +107,29 @@ pub fn room_over(st: &[u32], ls: &[u16], slot: Slot, l: usize) -> bool
     }
 }
 
-fn count_to(st: &[u32], ls: &[u16], slot: Slot, l: usize, m: Slot, k: usize) -> bool
-    ensures { λ r. ⌜ r ≡ countTo (lined (now (st .entry)) (now (ls .entry))) (slot .0) l (m .0) k ⌝ }
+fn count_with(
+    st: &[u32],
+    slot: Slot,
+    l: usize,
+    m: Slot,
+    k: usize,
+    going: Load,
+    coming: Load,
+) -> bool
+    ensures { λ r. ⌜ r ≡ countWith (view (now (st .entry))) (slot .0) l (m .0) k going coming ⌝ }
 {
     let x = line::at(st, slot, l);
     let far = link::at(st, m, k);
-    let coming = load_on(st, ls, m, k);
-    let going = load_on(st, ls, slot, l);
     let sum = far.flow.credit as u64 + going.credit as u64 + coming.tokens as u64;
     !(coming.hellos == 0) | (x.issued as u64 == sum)
+}
+
+fn count_to(st: &[u32], ls: &[u16], slot: Slot, l: usize, m: Slot, k: usize) -> bool
+    ensures { λ r. ⌜ r ≡ countTo (lined (now (st .entry)) (now (ls .entry))) (slot .0) l (m .0) k ⌝ }
+{
+    let going = load_on(st, ls, slot, l);
+    let coming = load_on(st, ls, m, k);
+    count_with(st, slot, l, m, k, going, coming)
 }
 
 // While no HELLO is coming to a receiver, its count is the far end's credit, the credit on the line to that end and the tokens on the line
@@ -115,5 +140,24 @@ pub fn counted(st: &[u32], ls: &[u16], slot: Slot, l: usize) -> bool
     match far_at(st, slot, l) {
         Far::Nowhere => true,
         Far::At(m, k) => count_to(st, ls, slot, l, m, k),
+    }
+}
+
+fn lines_to(st: &[u32], ls: &[u16], slot: Slot, l: usize, m: Slot, k: usize) -> bool
+    ensures { λ r. ⌜ r ≡ linesTo (lined (now (st .entry)) (now (ls .entry))) (slot .0) l (m .0) k ⌝ }
+{
+    let going = load_on(st, ls, slot, l);
+    let coming = load_on(st, ls, m, k);
+    let counted = count_with(st, slot, l, m, k, going, coming) & unlined(st, slot, l);
+    room_with(st, slot, l, m, k, going, coming) & (few(going) & counted)
+}
+
+// All that Sound asks of the lines at a link, each of the two read once.
+pub fn lines_at(st: &[u32], ls: &[u16], slot: Slot, l: usize) -> bool
+    ensures { λ r. ⌜ r ≡ linesAt (lined (now (st .entry)) (now (ls .entry))) (slot .0) l ⌝ }
+{
+    match far_at(st, slot, l) {
+        Far::Nowhere => few_on(st, ls, slot, l) & unlined(st, slot, l),
+        Far::At(m, k) => lines_to(st, ls, slot, l, m, k),
     }
 }

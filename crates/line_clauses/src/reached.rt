@@ -7,6 +7,7 @@ use clauses::contents::back;
 use grammar::stage::Stage;
 use grammar::stage::is_bad;
 use grammar::stage::next;
+use lines::CAPACITY;
 use lines::load::is_token;
 use lines::word_on;
 use names::Slot;
@@ -19,8 +20,9 @@ ghost use lib.ListN.{length};
 ghost use Rattle.lines.specs.Line.{lineCapacity, LineFair, linePlace, onLine};
 ghost use Rattle.lines.specs.Load.{tokensOf};
 ghost use Rattle.grammar.specs.Walk.{walk};
+ghost use Rattle.cells.specs.View.{view};
 ghost use Rattle.cells.specs.World.{lined, lent};
-ghost use Rattle.line_clauses.specs.Lines.{walkedOn, reachedFrom, reached, holdsOver};
+ghost use Rattle.line_clauses.specs.Lines.{walkedOn, reachedFrom, reached, clearOf, aloneOf, holdsOver};
 
 // One thing on a line: a token leads on, a credit or a HELLO does not.
 fn step_on(s: Stage, word: u16) -> Stage
@@ -77,7 +79,29 @@ pub fn reached(st: &[u32], mem: &[u16], ls: &[u16], slot: Slot, p: usize) -> Sta
     s
 }
 
-// The sentences of the list on what may stand in a port, asked of the port with its line behind.
+// A line on which there is nothing.
+fn is_clear(st: &[u32], lined: usize, slot: Slot, l: usize) -> bool
+    ensures { λ r. ⌜ r ≡ clearOf (view (now (st .entry))) lined (slot .0) l ⌝ }
+{
+    let k = line::at(st, slot, l);
+    (slot.0 < lined) & ((l < LINKS) & ((k.ring.head < CAPACITY) & (k.ring.held == 0)))
+}
+
+// Nothing is on its way to a port: it has no line to it, or one on which there is nothing. The lines' memory is for so many nodes.
+pub fn is_alone(st: &[u32], lined: usize, slot: Slot, p: usize) -> bool
+    ensures { λ r. ⌜ r ≡ aloneOf (view (now (st .entry))) lined (slot .0) p ⌝ }
+{
+    if p >= LINKS {
+        return true;
+    }
+    match far_at(st, slot, p) {
+        Far::Nowhere => true,
+        Far::At(m, k) => is_clear(st, lined, m, k),
+    }
+}
+
+// The sentences of the list on what may stand in a port, asked of the port with its line behind. Where nothing is on its way to it,
+// `contents` says the same.
 pub fn holds_over(st: &[u32], mem: &[u16], ls: &[u16], slot: Slot, p: usize) -> bool
     ensures { λ r. ⌜ r ≡ holdsOver (lent (now (st .entry)) (now (mem .entry)) (now (ls .entry))) (slot .0) p ⌝ }
 {

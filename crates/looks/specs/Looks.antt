@@ -5,9 +5,10 @@ use mathlib.Core.List.{List}
 use lib.Dec.{ltb}
 use lib.ListN.{length, getD}
 use Rattle.laws.specs.Pick.{pick}
-use Rattle.names.specs.Size.{ports, endBuffer}
+use Rattle.names.specs.Size.{links, ports, endBuffer}
 use Rattle.ports.specs.Queue.{capacity}
 use Rattle.ports.specs.Memory.{place, stretch}
+use Rattle.lines.specs.Line.{lineCapacity, linePlace, wordOn}
 use Rattle.routing.specs.Direction.{entryOf}
 use Rattle.cells.specs.View.{Net}
 use Rattle.cells.specs.World.{World}
@@ -28,6 +29,15 @@ portToken w n p i =
     pick
     (ltb n (length (w .memory) / (ports * capacity)) && (ltb p ports && (ltb i (w .net .ports .counters n p .held) && ltb i capacity)))
     (Token (inRing (stretch (w .memory) (place n p)) (w .net .ports .counters n p .head) i))
+    Nothing
+
+-- the i-th on the line that starts at link l of node n, the first to arrive first, if the memory has that line and so many are on it
+unfoldable pub lineToken : World → ℕ → ℕ → ℕ → Seen
+lineToken w n l i =
+    let c = w .net .lines .rings n l in
+    pick
+    (ltb n (length (w .lineMemory) / (links * lineCapacity)) && (ltb l links && (ltb i (c .held) && ltb i lineCapacity)))
+    (Token (wordOn (record { head = c .head % lineCapacity; held = 0 }) (w .lineMemory) (linePlace n l) i))
     Nothing
 
 -- the i-th token held in a channel-end, oldest first, if it holds so many

@@ -1,13 +1,18 @@
 // Looks: read-only, for any state and any memory, without the Sound test. A place that is not there has
 // its answer: an all-zero record, or nothing. The records themselves are looked at by crate cells
-// (`node::count`, `node::at`, `link::at`, `port::at`, `tile::at`, `end::at`, `unit::at`), and whether the
+// (`node::count`, `node::at`, `link::at`, `port::at`, `tile::at`, `end::at`, `unit::at`, `line::at`), and whether the
 // network is quiet by crate sound (`is_quiet`).
 use cells::end;
+use cells::layout::LINE_WORDS;
 use cells::layout::TOKEN_WORDS;
+use cells::line;
 use cells::node;
 use cells::port;
+use lines::CAPACITY;
+use lines::word_on;
 use names::Slot;
 use names::size::END_BUFFER;
+use names::size::LINKS;
 use names::size::PORTS;
 use ports::Counters;
 use ports::stretch;
@@ -16,8 +21,8 @@ ghost use Prim.Native.Nat.{_<_};
 ghost use lib.ListN.{length};
 ghost use Rattle.ports.specs.Queue.{capacity};
 ghost use Rattle.cells.specs.View.{view};
-ghost use Rattle.cells.specs.World.{world};
-ghost use Rattle.looks.specs.Looks.{direction, inRing, portToken, endToken};
+ghost use Rattle.cells.specs.World.{world, lined};
+ghost use Rattle.looks.specs.Looks.{direction, inRing, portToken, lineToken, endToken};
 
 // What a look at a token finds: its word.
 pub enum Seen {
@@ -62,6 +67,30 @@ pub fn port_token(st: &[u32], mem: &[u16], slot: Slot, p: usize, i: u32) -> Seen
         return Seen::Nothing;
     }
     Seen::Token(in_ring(stretch(mem, slot, p), k.counters.head, i) as u32)
+}
+
+// The i-th on the line that starts at a link, the first to arrive first.
+pub fn line_token(st: &[u32], ls: &[u16], slot: Slot, l: usize, i: u32) -> Seen
+    ensures { λ r. ⌜ r ≡ lineToken (lined (now (st .entry)) (now (ls .entry))) (slot .0) l i ⌝ }
+{
+    let k = line::at(st, slot, l);
+    if slot.0 >= ls.len() / LINE_WORDS {
+        return Seen::Nothing;
+    }
+    if l >= LINKS {
+        return Seen::Nothing;
+    }
+    if i >= k.ring.held {
+        return Seen::Nothing;
+    }
+    if i >= CAPACITY {
+        return Seen::Nothing;
+    }
+    let from = Counters {
+        head: k.ring.head % CAPACITY,
+        held: 0,
+    };
+    Seen::Token(word_on(from, ls, slot, l, i) as u32)
 }
 
 // The i-th token held in a channel-end, oldest first.

@@ -7,7 +7,7 @@ use Rattle.tokens.specs.declared.header.Target.{Target}
 use Rattle.answers.specs.declared.Answer.{Answer}
 use Rattle.answers.specs.declared.Answer.the-variants as Answers
 use Rattle.cells.specs.World.{World}
-use Rattle.acts.specs.Acts.{withNet, widthAt}
+use Rattle.acts.specs.Acts.{widthAt}
 use Rattle.messages.specs.Register.{fieldsOf, readOf}
 use Rattle.messages.specs.Heard.{messageOf}
 use Rattle.messages.specs.Write.{accepted, written}
@@ -27,7 +27,7 @@ module _ (P : Answer → Type 0) (moved : P Answers.Moved) (malformed : P Answer
   of-message w n (Wrong g) = of-sent w n g Nack
   of-message w n (Read g r) = of-sent w n g (Value (readOf (w .net) n r))
   of-message w n (Write g r v) =
-      of-sent (withNet w (written (w .net) n (fieldsOf r v))) n g (pick (accepted (w .net) n (fieldsOf r v)) Ack Nack)
+      of-sent (written w n (fieldsOf r v)) n g (pick (accepted w n (fieldsOf r v)) Ack Nack)
 
   pub end-answers : (w : World) (n x : ℕ) → P (ended w n x .answer)
   unfolding ended

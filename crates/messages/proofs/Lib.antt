@@ -2,5 +2,6 @@
 pub mod Writes
 pub mod Registers
 pub mod Replies
+pub mod Lent
 pub mod Answers
 pub mod Reading

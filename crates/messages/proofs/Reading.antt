@@ -17,10 +17,11 @@ use Rattle.laws.proofs.Table.{upd-same}
 use Rattle.routing.specs.Direction.{field, entryOf}
 use Rattle.routing.specs.declared.direction.Directions.{Directions}
 use Rattle.routing.proofs.Entries.{entry-same, entry-other}
-use Rattle.cells.specs.View.{Net}
+use Rattle.cells.specs.World.{World}
 use Rattle.cells.specs.declared.node.Node.{Node}
 use Rattle.cells.specs.declared.link.Setup.{Setup}
-use Rattle.grants.specs.Grants.{helloed, considered}
+use Rattle.clauses.specs.Cables.{farEnabled}
+use Rattle.travel.specs.Travel.{putOn, saysHello}
 use Rattle.settings.specs.Set.{setMade, setCall}
 use Rattle.settings.specs.declared.Setting.{Setting}
 use Rattle.settings.specs.declared.Setting.the-variants.{Number, Width, Direction, LinkDirection, Network, Enable, Hello}
@@ -45,26 +46,26 @@ lasting [] = []
 lasting (x ∷ xs) = pick (isHello x) (lasting xs) (x ∷ lasting xs)
 
 -- an accepted write is its Sets, made one by one
-pub as-sets : (s : Net) (n : ℕ) (xs : List Setting) → accepted s n xs ≡ true → written s n xs ≡ madeAll s n xs
+pub as-sets : (w : World) (n : ℕ) (xs : List Setting) → accepted w n xs ≡ true → written w n xs ≡ madeAll w n xs
 unfolding written
-as-sets s n xs e = rw e
+as-sets w n xs e = rw e
 
 -- "whole or not at all"
-pub as-before : (s : Net) (n : ℕ) (xs : List Setting) → accepted s n xs ≡ false → written s n xs ≡ s
+pub as-before : (w : World) (n : ℕ) (xs : List Setting) → accepted w n xs ≡ false → written w n xs ≡ w
 unfolding written
-as-before s n xs e = rw e
+as-before w n xs e = rw e
 
 first-of : (a b : Bool) → (a && b) ≡ true → a ≡ true
 first-of a b e = also (as-is a) (as-is b) .sure e .0
 
-module _ (s : Net) (n : ℕ) where
+module _ (w : World) (n : ℕ) where
   -- the node after a field of its own, the link after one of its own
-  own-after : (x : Setting) (k : Node) → passesSet s n x ≡ true → setMade s n x .own n 0 ≡ k → setCall s n x .next .own n 0 ≡ k
-  own-after x k e h = rw (made-next s n x e) h
+  own-after : (x : Setting) (k : Node) → passesSet w n x ≡ true → setMade w n x .net .own n 0 ≡ k → setCall w n x .next .net .own n 0 ≡ k
+  own-after x k e h = rw (made-next w n x e) h
 
-  link-after : (l : ℕ) (x : Setting) (k : Setup) → passesSet s n x ≡ true → setMade s n x .links .setups n l ≡ k
-      → setCall s n x .next .links .setups n l ≡ k
-  link-after l x k e h = rw (made-next s n x e) h
+  link-after : (l : ℕ) (x : Setting) (k : Setup) → passesSet w n x ≡ true → setMade w n x .net .links .setups n l ≡ k
+      → setCall w n x .next .net .links .setups n l ≡ k
+  link-after l x k e h = rw (made-next w n x e) h
 
 -- short headers
 width-back : (b : Bool) → _≡_ {A = List Setting} (fieldsOf R.Width (pick (eqb (pick b 1 3) 1) 1 0)) (Width (pick b 1 3) ∷ [])
@@ -78,22 +79,23 @@ number-back : (v : ℕ) → v % 65536 % 65536 ≡ v % 65536
 number-back v = omega arith
 
 -- eight direction entries
-module _ (s : Net) (n : ℕ) (hn : n < s .nodes) (bit v : ℕ) (hb : bit ≤ 8) where
+module _ (w : World) (n : ℕ) (hn : n < w .net .nodes) (bit v : ℕ) (hb : bit ≤ 8) where
   small : (i : ℕ) → field v i % 16 ≡ field v i
   unfolding field
   small i = omega arith
 
   entries-back : (k : ℕ) → k ≤ 8 → (i : ℕ) → i < k
-      → entryOf (madeAll s n (tab k (λ j. Direction (bit + j) (field v j))) .own n 0 .directions) (bit + i) ≡ field v i
+      → entryOf (madeAll w n (tab k (λ j. Direction (bit + j) (field v j))) .net .own n 0 .directions) (bit + i) ≡ field v i
   entries-back zero h i l = absurd (omega arith)
   entries-back (suc k) h i l =
       let f : ℕ → Setting = λ j. Direction (bit + j) (field v j) in
-      let z = madeAll s n (tab k f) in
-      let there : n < z .nodes = rw (made-leaves (tab k f) s n .nodes) hn in
-      rw (← made-more k f s n, made-next z n (f k) (entry-passes s n hn bit v hb k (omega arith) z there), upd-same (z .own) n 0 _)
+      let z = madeAll w n (tab k f) in
+      let there : n < z .net .nodes = rw (made-leaves (tab k f) w n .nodes) hn in
+      rw (← made-more k f w n, made-next z n (f k) (entry-passes w n hn bit v hb k (omega arith) z there), upd-same (z .net .own) n 0 _)
       (elim (ℕ-discrete i k) [
-        | yes d ↦ rw d (entry-same (z .own n 0 .directions) (bit + k) (field v k) ∙ small k)
-        | no d ↦ entry-other (z .own n 0 .directions) (bit + k) (bit + i) (field v k) (omega arith) (omega arith) (λ q. d (omega arith))
+        | yes d ↦ rw d (entry-same (z .net .own n 0 .directions) (bit + k) (field v k) ∙ small k)
+        | no d ↦ entry-other (z .net .own n 0 .directions) (bit + k) (bit + i) (field v k) (omega arith) (omega arith)
+            (λ q. d (omega arith))
             ∙ entries-back k (omega arith) i (omega arith)
       ])
 
@@ -116,41 +118,42 @@ high-entry t i h =
 route-back : (d v : ℕ) → d < 16 → v < 4 → (((d % 16 * 256 + v % 4 * 16) / 256 % 16) ≡ d) × (((d % 16 * 256 + v % 4 * 16) / 16 % 4) ≡ v)
 route-back d v h k = (omega arith, omega arith)
 
-module _ (s : Net) (n l d v : ℕ) (e : accepted s n (LinkDirection l d ∷ Network l v ∷ []) ≡ true) where
-  route-link : let k = madeAll s n (LinkDirection l d ∷ Network l v ∷ []) .links .setups n l in (k .direction ≡ d) × (k .network ≡ v)
+module _ (w : World) (n l d v : ℕ) (e : accepted w n (LinkDirection l d ∷ Network l v ∷ []) ≡ true) where
+  route-link : let k = madeAll w n (LinkDirection l d ∷ Network l v ∷ []) .net .links .setups n l in (k .direction ≡ d) × (k .network ≡ v)
   route-link =
-      let y = setCall s n (LinkDirection l d) .next in
-      let a = first-of (passesSet s n (LinkDirection l d)) _ e in
+      let y = setCall w n (LinkDirection l d) .next in
+      let a = first-of (passesSet w n (LinkDirection l d)) _ e in
       let b = first-of (passesSet y n (Network l v)) true (rw a at e) in
-      let p = link-after s n l (LinkDirection l d) _ a (upd-same (s .links .setups) n l _) in
-      let q = link-after y n l (Network l v) _ b (upd-same (y .links .setups) n l _) in
+      let p = link-after w n l (LinkDirection l d) _ a (upd-same (w .net .links .setups) n l _) in
+      let q = link-after y n l (Network l v) _ b (upd-same (y .net .links .setups) n l _) in
       (ap (λ (k : Setup). k .direction) q ∙ ap (λ (k : Setup). k .direction) p, ap (λ (k : Setup). k .network) q)
 
 -- a link enabled or not
-hello-keeps : (s : Net) (n l : ℕ) → helloed s n l .links .setups n l .enabled ≡ s .links .setups n l .enabled
-unfolding helloed considered
-hello-keeps s n l = refl
+hello-keeps : (w : World) (n l : ℕ) → saysHello w n l .net .links .setups n l .enabled ≡ w .net .links .setups n l .enabled
+unfolding saysHello putOn
+hello-keeps w n l = by-test (farEnabled (w .net) (w .net .links .cables n l)) (λ e. rw e) (λ e. rw e)
 
-enable-link : (s : Net) (n l b : ℕ) → b < 2 → setMade s n (Enable l b) .links .setups n l .enabled ≡ b
-enable-link s n l b h =
+enable-link : (w : World) (n l b : ℕ) → b < 2 → setMade w n (Enable l b) .net .links .setups n l .enabled ≡ b
+enable-link w n l b h =
     by-test (eqb b 0)
-    (λ e. rw (eqb-true b 0 e) (off s n l))
-    (λ e. rw e (ap (λ (k : Setup). k .enabled) (upd-same (s .links .setups) n l _) ∙ one b h (eqb-false b 0 e)))
+    (λ e. rw (eqb-true b 0 e) (off (w .net) n l))
+    (λ e. rw e (ap (λ (k : Setup). k .enabled) (upd-same (w .net .links .setups) n l _) ∙ one b h (eqb-false b 0 e)))
   where
     one : (b : ℕ) → b < 2 → (b ≡ 0 → ⊥) → 1 ≡ b
     one b h k = omega arith
 
-module _ (s : Net) (n l b : ℕ) (hb : b < 2) where
-  enabled-link : accepted s n (Enable l b ∷ []) ≡ true → madeAll s n (Enable l b ∷ []) .links .setups n l .enabled ≡ b
+module _ (w : World) (n l b : ℕ) (hb : b < 2) where
+  enabled-link : accepted w n (Enable l b ∷ []) ≡ true → madeAll w n (Enable l b ∷ []) .net .links .setups n l .enabled ≡ b
   enabled-link e =
-      rw (made-next s n (Enable l b) (first-of (passesSet s n (Enable l b)) true e)) (enable-link s n l b hb)
+      rw (made-next w n (Enable l b) (first-of (passesSet w n (Enable l b)) true e)) (enable-link w n l b hb)
 
-  greeted-link : accepted s n (Enable l b ∷ Hello l ∷ []) ≡ true → madeAll s n (Enable l b ∷ Hello l ∷ []) .links .setups n l .enabled ≡ b
+  greeted-link : accepted w n (Enable l b ∷ Hello l ∷ []) ≡ true
+      → madeAll w n (Enable l b ∷ Hello l ∷ []) .net .links .setups n l .enabled ≡ b
   greeted-link e =
-      let y = setCall s n (Enable l b) .next in
-      let a = first-of (passesSet s n (Enable l b)) _ e in
+      let y = setCall w n (Enable l b) .next in
+      let a = first-of (passesSet w n (Enable l b)) _ e in
       let c = first-of (passesSet y n (Hello l)) true (rw a at e) in
-      rw (made-next y n (Hello l) c) (hello-keeps y n l ∙ rw (made-next s n (Enable l b) a) (enable-link s n l b hb))
+      rw (made-next y n (Hello l) c) (hello-keeps y n l ∙ rw (made-next w n (Enable l b) a) (enable-link w n l b hb))
 
 state-back : (b : ℕ) → b < 2 → ((b % 2 * 2147483648 / 2147483648 % 2) ≡ b) × ((b % 2 * 2147483648 / 16777216 % 2) ≡ 0)
 state-back b h = (omega arith, omega arith)
@@ -158,44 +161,44 @@ state-back b h = (omega arith, omega arith)
 bit-in : (v a : ℕ) → v / 2 ^ a % 2 < 2
 bit-in v a = omega arith
 
-module _ (s : Net) (n : ℕ) (hn : n < s .nodes) where
+module _ (w : World) (n : ℕ) (hn : n < w .net .nodes) where
   state-reads : (l v : ℕ) (xs : List Setting) → lasting xs ≡ Enable l (bitsFrom 31 1 v) ∷ []
-      → madeAll s n xs .links .setups n l .enabled ≡ bitsFrom 31 1 v
-      → fieldsOf (R.State l) (readOf (madeAll s n xs) n (R.State l)) ≡ lasting xs
+      → madeAll w n xs .net .links .setups n l .enabled ≡ bitsFrom 31 1 v
+      → fieldsOf (R.State l) (readOf (madeAll w n xs .net) n (R.State l)) ≡ lasting xs
   state-reads l v xs e h =
       let z = state-back (bitsFrom 31 1 v) (bit-in v 31) in
       rw (h, z .0, z .1) (sym e)
 
   -- the fields that are read back are those that were written
-  pub reads-back : (r : Register) (v : ℕ) → accepted s n (fieldsOf r v) ≡ true
-      → fieldsOf r (readOf (madeAll s n (fieldsOf r v)) n r) ≡ lasting (fieldsOf r v)
+  pub reads-back : (r : Register) (v : ℕ) → accepted w n (fieldsOf r v) ≡ true
+      → fieldsOf r (readOf (madeAll w n (fieldsOf r v) .net) n r) ≡ lasting (fieldsOf r v)
   reads-back R.Unknown v e = refl
   reads-back R.Width v e =
       let x = Width (pick (eqb (v % 2) 1) 1 3) in
-      rw (own-after s n x _ (first-of (passesSet s n x) true e) (upd-same (s .own) n 0 _)) (width-back (eqb (v % 2) 1))
+      rw (own-after w n x _ (first-of (passesSet w n x) true e) (upd-same (w .net .own) n 0 _)) (width-back (eqb (v % 2) 1))
   reads-back R.Number v e =
       let x = Number (v % 65536) in
-      let k = ap (λ (k : Node). k .number) (own-after s n x _ (first-of (passesSet s n x) true e) (upd-same (s .own) n 0 _)) in
+      let k = ap (λ (k : Node). k .number) (own-after w n x _ (first-of (passesSet w n x) true e) (upd-same (w .net .own) n 0 _)) in
       ap number-field (ap (λ (m : ℕ). m % 65536) k ∙ number-back v)
   reads-back R.LowDirections v e =
-      let t = madeAll s n (entriesOf 0 v) .own n 0 .directions in
-      taken-apart s n hn 0 v (omega arith) (t .first)
-      (λ i l. sym (low-entry t i l) ∙ entries-back s n hn 0 v (omega arith) 8 (omega arith) i l)
+      let t = madeAll w n (entriesOf 0 v) .net .own n 0 .directions in
+      taken-apart w n hn 0 v (omega arith) (t .first)
+      (λ i l. sym (low-entry t i l) ∙ entries-back w n hn 0 v (omega arith) 8 (omega arith) i l)
   reads-back R.HighDirections v e =
-      let t = madeAll s n (entriesOf 8 v) .own n 0 .directions in
-      taken-apart s n hn 8 v (omega arith) (t .second)
-      (λ i l. sym (high-entry t i l) ∙ entries-back s n hn 8 v (omega arith) 8 (omega arith) i l)
+      let t = madeAll w n (entriesOf 8 v) .net .own n 0 .directions in
+      taken-apart w n hn 8 v (omega arith) (t .second)
+      (λ i l. sym (high-entry t i l) ∙ entries-back w n hn 8 v (omega arith) 8 (omega arith) i l)
   reads-back (R.Route l) v e =
-      let z = route-link s n l (bitsFrom 8 4 v) (bitsFrom 4 2 v) e in
+      let z = route-link w n l (bitsFrom 8 4 v) (bitsFrom 4 2 v) e in
       let q = route-back (bitsFrom 8 4 v) (bitsFrom 4 2 v) (omega arith) (omega arith) in
       rw (z .0, z .1, q .0, q .1)
   reads-back (R.State l) v e =
       by-test (eqb (bitsFrom 24 1 v) 1)
       (λ h. rw h (state-reads l v (Enable l (bitsFrom 31 1 v) ∷ Hello l ∷ []) refl
-      (greeted-link s n l (bitsFrom 31 1 v) (bit-in v 31) (rw h at e))))
-      (λ h. rw h (state-reads l v (Enable l (bitsFrom 31 1 v) ∷ []) refl (enabled-link s n l (bitsFrom 31 1 v) (bit-in v 31) (rw h at e))))
+      (greeted-link w n l (bitsFrom 31 1 v) (bit-in v 31) (rw h at e))))
+      (λ h. rw h (state-reads l v (Enable l (bitsFrom 31 1 v) ∷ []) refl (enabled-link w n l (bitsFrom 31 1 v) (bit-in v 31) (rw h at e))))
 
 -- "Reading back what an accepted write wrote gives its fields"
-pub written-reads-back : (s : Net) (n : ℕ) → n < s .nodes → (r : Register) (v : ℕ) → accepted s n (fieldsOf r v) ≡ true
-    → fieldsOf r (readOf (written s n (fieldsOf r v)) n r) ≡ lasting (fieldsOf r v)
-written-reads-back s n hn r v e = rw (as-sets s n (fieldsOf r v) e) (reads-back s n hn r v e)
+pub written-reads-back : (w : World) (n : ℕ) → n < w .net .nodes → (r : Register) (v : ℕ) → accepted w n (fieldsOf r v) ≡ true
+    → fieldsOf r (readOf (written w n (fieldsOf r v) .net) n r) ≡ lasting (fieldsOf r v)
+written-reads-back w n hn r v e = rw (as-sets w n (fieldsOf r v) e) (reads-back w n hn r v e)

@@ -1,7 +1,7 @@
 -- There is room for the whole of a reply. Assumes nothing.
 use Prim.{tt}
 use Prim.Native.Nat.{ℕ, _+_, _≤_}
-use mathlib.Core.List.{List}
+use mathlib.Core.List.{List, []}
 use native.Mathlib.Omega.{arith}
 use lib.Dec.{lit≤}
 use lib.ListN.{length}
@@ -9,9 +9,8 @@ use Rattle.names.specs.Size.{replyPort}
 use Rattle.tokens.specs.Header.{words}
 use Rattle.tokens.specs.declared.header.Header.{Header}
 use Rattle.tokens.specs.declared.header.Header.the-variants as H
-use Rattle.cells.specs.View.{Net}
 use Rattle.cells.specs.World.{World}
-use Rattle.acts.specs.Acts.{pushedAll, withNet}
+use Rattle.acts.specs.Acts.{pushedAll}
 use Rattle.acts.specs.Needs.{Room}
 use Rattle.acts.proofs.Pushes.{less, room-all}
 use Rattle.settings.proofs.Leaves.{Leaves}
@@ -42,8 +41,9 @@ module _ (w : World) (n : ℕ) where
   after-said x r = room-past (said x) w n replyPort 5 1 (said-size x) r
 
 -- .. whatever is written before
-pub room-leaves : {w : World} {n p k : ℕ} (z : Net) → Leaves (w .net) z → Room w n p k → Room (withNet w z) n p k
-room-leaves z v r =
+pub room-leaves : {w z : World} {n p k : ℕ} (m ls : List ℕ) → Leaves w z → Room (record { net = w .net; memory = m; lineMemory = ls }) n p k
+    → Room (record { net = z .net; memory = m; lineMemory = [] }) n p k
+room-leaves m ls v r =
     record {
       node = rw (v .nodes) (r .node);
       port = r .port;

@@ -11,7 +11,7 @@ use Rattle.tokens.specs.declared.header.Target.{Target}
 use Rattle.answers.specs.Out.{Out, out}
 use Rattle.answers.specs.declared.Answer.the-variants as Answers
 use Rattle.cells.specs.World.{World}
-use Rattle.acts.specs.Acts.{withNet, widthAt, pushed, pushedAll}
+use Rattle.acts.specs.Acts.{widthAt, pushed, pushedAll}
 use Rattle.messages.specs.Register.{fieldsOf, readOf}
 use Rattle.messages.specs.Heard.{messageOf}
 use Rattle.messages.specs.Write.{accepted, written}
@@ -53,7 +53,7 @@ obeyed w n Malformed = out Answers.Malformed w
 obeyed w n (Wrong g) = replySent w n g Nack
 obeyed w n (Read g r) = replySent w n g (Value (readOf (w .net) n r))
 obeyed w n (Write g r v) =
-    replySent (withNet w (written (w .net) n (fieldsOf r v))) n g (pick (accepted (w .net) n (fieldsOf r v)) Ack Nack)
+    replySent (written w n (fieldsOf r v)) n g (pick (accepted w n (fieldsOf r v)) Ack Nack)
 
 -- node n's control unit, at END or PAUSE
 unfoldable pub ended : World → ℕ → ℕ → Out World

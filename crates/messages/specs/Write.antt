@@ -6,24 +6,24 @@ use lib.Dec.{eqb}
 use Rattle.laws.specs.Pick.{pick}
 use Rattle.names.specs.No.{passes}
 use Rattle.answers.specs.Answer.{numberOf}
-use Rattle.cells.specs.View.{Net}
+use Rattle.cells.specs.World.{World}
 use Rattle.settings.specs.Set.{setCall}
 use Rattle.settings.specs.declared.Setting.{Setting}
 
 -- Set does not refuse it
-abbrev pub passesSet : Net → ℕ → Setting → Bool
-passesSet s n x = eqb (numberOf (setCall s n x .answer)) passes
+abbrev pub passesSet : World → ℕ → Setting → Bool
+passesSet w n x = eqb (numberOf (setCall w n x .answer)) passes
 
 -- none is refused, each tried on what the one before left
-abbrev pub accepted : Net → ℕ → List Setting → Bool
-accepted s n [] = true
-accepted s n (x ∷ xs) = passesSet s n x && accepted (setCall s n x .next) n xs
+abbrev pub accepted : World → ℕ → List Setting → Bool
+accepted w n [] = true
+accepted w n (x ∷ xs) = passesSet w n x && accepted (setCall w n x .next) n xs
 
 -- what they leave, made one by one
-abbrev pub madeAll : Net → ℕ → List Setting → Net
-madeAll s n [] = s
-madeAll s n (x ∷ xs) = madeAll (setCall s n x .next) n xs
+abbrev pub madeAll : World → ℕ → List Setting → World
+madeAll w n [] = w
+madeAll w n (x ∷ xs) = madeAll (setCall w n x .next) n xs
 
 -- "whole or not at all"
-unfoldable pub written : Net → ℕ → List Setting → Net
-written s n xs = pick (accepted s n xs) (madeAll s n xs) s
+unfoldable pub written : World → ℕ → List Setting → World
+written w n xs = pick (accepted w n xs) (madeAll w n xs) w

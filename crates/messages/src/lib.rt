@@ -18,7 +18,7 @@ use names::Slot;
 ghost use mathlib.Core.Path.{_≡_};
 ghost use Rattle.laws.specs.Pick.{pick};
 ghost use Rattle.answers.specs.Out.{out};
-ghost use Rattle.cells.specs.World.{world};
+ghost use Rattle.cells.specs.World.{lent};
 ghost use Rattle.messages.specs.declared.reply.Reply.the-variants.{Nack, Ack};
 ghost use Rattle.messages.specs.Ended.{obeyed, ended};
 ghost use Rattle.messages.specs.Needs.{Ready};
@@ -34,9 +34,9 @@ fn verdict(accepted: bool) -> Reply
 }
 
 // A message is obeyed, and replied to with the width that the node has then.
-fn obey(st: &mut [u32], mem: &mut [u16], slot: Slot, m: Message) -> Answer
-    requires { ⌜ Ready (world (now st) (now mem)) (slot .0) ⌝ }
-    ensures { λ r. ⌜ out r (world (now (st .exit)) (now (mem .exit))) ≡ obeyed (world (now (st .entry)) (now (mem .entry))) (slot .0) m ⌝ }
+fn obey(st: &mut [u32], mem: &mut [u16], ls: &mut [u16], slot: Slot, m: Message) -> Answer
+    requires { ⌜ Ready (lent (now st) (now mem) (now ls)) (slot .0) ⌝ }
+    ensures { λ r. ⌜ out r (lent (now (st .exit)) (now (mem .exit)) (now (ls .exit))) ≡ obeyed (lent (now (st .entry)) (now (mem .entry)) (now (ls .entry))) (slot .0) m ⌝ }
 {
     match m {
         Message::Malformed => Answer::Malformed,
@@ -46,19 +46,19 @@ fn obey(st: &mut [u32], mem: &mut [u16], slot: Slot, m: Message) -> Answer
             send(st, mem, slot, g, Reply::Value(v))
         }
         Message::Write(g, r, v) => {
-            let done = write(st, slot, r, v);
+            let done = write(st, ls, slot, r, v);
             send(st, mem, slot, g, verdict(done))
         }
     }
 }
 
 // END or PAUSE has come to a node's control unit.
-pub fn end_message(st: &mut [u32], mem: &mut [u16], slot: Slot, word: u16) -> Answer
-    requires { ⌜ Ready (world (now st) (now mem)) (slot .0) ⌝ }
-    ensures { λ r. ⌜ out r (world (now (st .exit)) (now (mem .exit)))
-        ≡ ended (world (now (st .entry)) (now (mem .entry))) (slot .0) word ⌝ }
+pub fn end_message(st: &mut [u32], mem: &mut [u16], ls: &mut [u16], slot: Slot, word: u16) -> Answer
+    requires { ⌜ Ready (lent (now st) (now mem) (now ls)) (slot .0) ⌝ }
+    ensures { λ r. ⌜ out r (lent (now (st .exit)) (now (mem .exit)) (now (ls .exit)))
+        ≡ ended (lent (now (st .entry)) (now (mem .entry)) (now (ls .entry))) (slot .0) word ⌝ }
 {
     let k = unit::at(st, slot);
     let m = message_of(k.hearing, word);
-    obey(st, mem, slot, m)
+    obey(st, mem, ls, slot, m)
 }

@@ -1,61 +1,55 @@
--- A token that moves over a cable stands last in the far port, the very word that stood first here: value, marks and width. Assumes
+-- A token that moves over a cable stands last on the line, the very word that stood first in its port: value, marks and width. Assumes
 -- nothing.
-use Prim.Native.Nat.{ℕ}
+use Prim.Native.Nat.{ℕ, _<_}
 use mathlib.Core.Path.{_≡_, refl, ap, _∙_}
+use mathlib.Core.Bool.{true}
 use mathlib.Core.List.{List, [], _∷_, _++_}
 use Rattle.laws.specs.Table.{Off}
-use Rattle.laws.proofs.Table.{upd-miss}
-use Rattle.names.specs.declared.Slot.{Slot}
-use Rattle.ports.specs.Memory.{place, held}
-use Rattle.ports.specs.declared.Counters.{Counters}
-use Rattle.ports.proofs.Ports.{elsewhere}
-use Rattle.cells.specs.View.{PortTables}
-use Rattle.cells.specs.World.{World, farOf, queue}
-use Rattle.cells.specs.declared.link.Far.{Far}
-use Rattle.cells.specs.declared.link.Far.the-variants.{At}
-use Rattle.acts.specs.Acts.{pushed, popped, withNet, firstAt}
-use Rattle.acts.specs.Needs.{Room, Holds}
-use Rattle.acts.proofs.Queues.{pushed-queue}
-use Rattle.grants.specs.Grants.{considered}
-use Rattle.moves.specs.Moves.{took, closesOut, arrives, pays, crosses, movesOut}
-use Rattle.moves.proofs.Takes.{up-ports}
-use Rattle.moves.proofs.After.{took-is, closed-counters, room-after, far-after}
+use Rattle.names.specs.Size.{links}
+use Rattle.lines.specs.Line.{lineCapacity, linePlace, onLine}
+use Rattle.lines.specs.Load.{isToken, tokensOf}
+use Rattle.cells.specs.View.{LineTables}
+use Rattle.cells.specs.World.{World, lineFrom}
+use Rattle.acts.specs.Acts.{withNet, firstAt}
+use Rattle.travel.specs.Travel.{paidOne}
+use Rattle.travel.specs.Needs.{LineThere}
+use Rattle.travel.proofs.There.{there-kept}
+use Rattle.travel.proofs.Loads.{put-line}
+use Rattle.travel.proofs.Tokens.{put-token, put-tokens-away}
+use Rattle.moves.specs.Moves.{took, closesOut, movesOut}
+use Rattle.moves.specs.Needs.{Up, Passes}
+use Rattle.moves.proofs.After.{closed-nodes, closed-lines, took-coming}
 
-module _ (w : World) (n p m j : ℕ) (h : Holds w n p 1) (r : Room w m j 1) (o : Off n p m j) where
-  took-counters : took w n p .net .ports .counters m j ≡ w .net .ports .counters m j
-  unfolding took popped
-  took-counters =
-      ap (λ (t : PortTables). t .counters m j) (up-ports (popped w n p .net) n p) ∙ upd-miss (w .net .ports .counters) n p _ m j o
+module _ (w : World) (n p l : ℕ) (r : Passes w n p l) where
+  abbrev x : ℕ
+  x = firstAt w n p
 
-  -- another port holds what it held
-  took-queue : queue (took w n p) m j ≡ queue w m j
-  unfolding took popped
-  took-queue =
-      ap (λ (k : Counters). held k (took w n p .memory) (place m j)) took-counters
-      ∙ elsewhere (w .net .ports .counters m j) (w .memory) n p m j (w .net .ports .counters n p .head) 0 (h .port) (r .port)
-      (h .fair .head-in) o
+  -- the state that it is sent in
+  abbrev closed : World
+  closed = withNet (took w n p) (closesOut (took w n p .net) n p l x)
 
-paid-queue : (y : World) (n l m j : ℕ) → queue (pays y n l) m j ≡ queue y m j
-unfolding considered
-paid-queue y n l m j = refl
+  abbrev paid : World
+  paid = withNet closed (paidOne (closed .net) n l)
 
-pub moved : (w : World) (n p l : ℕ) (m : Slot) (j : ℕ) → Holds w n p 1 → farOf (w .net .links .cables n l) ≡ At m j
-    → Room w (m .0) j 1
-    → Off n p (m .0) j
-    → queue (movesOut w n p l) (m .0) j ≡ queue w (m .0) j ++ (firstAt w n p ∷ [])
-unfolding crosses
-moved w n p l m j h e r o =
-    let z = took w n p in
-    let x = firstAt w n p in
-    let y : World = withNet z (closesOut (z .net) n p l x) in
-    let far : farOf (y .net .links .cables n l) ≡ At m j = far-after w (z .net) (z .memory) n p (took-is w n p) l x ∙ e in
-    let left = room-after w (z .net) (z .memory) n p (took-is w n p) l x (At m j) h r in
-    let room : Room y (m .0) j 1 =
-    record { node = left .node; port = left .port; fair = left .fair; room = left .room; reaches = left .reaches } in
-    let kept : queue y (m .0) j ≡ queue w (m .0) j =
-    ap (λ (t : ℕ → ℕ → Counters). held (t (m .0) j) (z .memory) (place (m .0) j)) (closed-counters (z .net) n p l x)
-    ∙ took-queue w n p (m .0) j h r o in
-    ap (λ (f : Far). queue (pays (arrives y f x) n l) (m .0) j) far
-    ∙ paid-queue (pushed y (m .0) j x) n l (m .0) j
-    ∙ pushed-queue y (m .0) j x room
-    ∙ ap (λ (q : List ℕ). q ++ (x ∷ [])) kept
+  there : LineThere paid n l
+  there = there-kept (closed-nodes (took w n p .net) n p l x) (closed-lines (took w n p .net) n p l x) refl (r .there)
+
+  lines-are : (a j : ℕ) → lineFrom paid a j ≡ lineFrom (took w n p) a j
+  lines-are a j =
+      ap (λ (t : LineTables). onLine (t .rings a j) (took w n p .lineMemory) (linePlace a j)) (closed-lines (took w n p .net) n p l x)
+
+  room : paid .net .lines .rings n l .held < lineCapacity
+  room = rw (closed-lines (took w n p .net) n p l x) (r .room)
+
+  pub moved : lineFrom (movesOut w n p l) n l ≡ lineFrom (took w n p) n l ++ (x ∷ [])
+  moved = put-line paid n l there x room ∙ ap (λ (q : List ℕ). q ++ (x ∷ [])) (lines-are n l)
+
+  -- the tokens on that line are those that were, and it last; those on every other are those that were
+  still : Up w n p → (a j : ℕ) → j < links → tokensOf (lineFrom paid a j) ≡ tokensOf (lineFrom w a j)
+  still u a j hj = ap tokensOf (lines-are a j) ∙ took-coming w n p u a j hj
+
+  pub moved-last : Up w n p → isToken x ≡ true → tokensOf (lineFrom (movesOut w n p l) n l) ≡ tokensOf (lineFrom w n l) ++ (x ∷ [])
+  moved-last u t = put-token paid n l there x room t ∙ ap (λ (q : List ℕ). q ++ (x ∷ [])) (still u n l (r .there .link))
+
+  pub moved-away : Up w n p → (a j : ℕ) → j < links → Off n l a j → tokensOf (lineFrom (movesOut w n p l) a j) ≡ tokensOf (lineFrom w a j)
+  moved-away u a j hj o = put-tokens-away paid n l there x a j hj o ∙ still u a j hj

@@ -1,5 +1,5 @@
 -- What a Step does with one token, or with one circuit of a port (document 01, "What a Step does"): the acts, one after the other.
-use Prim.Native.Nat.{ℕ, _-_}
+use Prim.Native.Nat.{ℕ}
 use lib.Dec.{ltb}
 use Rattle.laws.specs.Pick.{pick}
 use Rattle.names.specs.Size.{links}
@@ -9,25 +9,18 @@ use Rattle.circuits.specs.declared.Hop.the-variants as Hops
 use Rattle.tokens.specs.Word.{closes}
 use Rattle.tokens.specs.declared.header.Width.{Width}
 use Rattle.tokens.specs.declared.header.Width.the-variants.{One, Three}
-use Rattle.cells.specs.View.{Net, withFlow, withServing, withHearing}
-use Rattle.cells.specs.World.{World, farOf}
-use Rattle.cells.specs.Changes.{creditAs}
-use Rattle.cells.specs.declared.link.Far.{Far}
-use Rattle.cells.specs.declared.link.Far.the-variants.{Nowhere, At}
-use Rattle.acts.specs.Acts.{withNet, widthAt, pushed, firstAt, popped, hopped, shut, linkedTo, tiledTo, claimedBy, handed}
-use Rattle.grants.specs.Grants.{considered}
+use Rattle.cells.specs.View.{Net, withServing, withHearing}
+use Rattle.cells.specs.World.{World}
+use Rattle.acts.specs.Acts.{withNet, widthAt, firstAt, popped, hopped, shut, linkedTo, tiledTo, claimedBy, handed}
+use Rattle.travel.specs.Travel.{grantsBack, sendsOn}
 
--- "after each token .. taken from the far buffer": the link that feeds port p may be granted
-abbrev pub consideredAt : Net → Far → Net
-consideredAt s Nowhere = s
-consideredAt s (At m j) = considered s (m .0) j
-
-abbrev pub grantsUp : Net → ℕ → ℕ → Net
-grantsUp s n p = pick (ltb p links) (consideredAt s (farOf (s .links .cables n p))) s
+-- "considers a grant .. at each arrival and taking" (document 02, Ask 4): at a port that a link feeds
+abbrev pub grantsUp : World → ℕ → ℕ → World
+grantsUp w n p = pick (ltb p links) (grantsBack w n p) w
 
 -- a token is taken, and a grant considered for it
 unfoldable pub took : World → ℕ → ℕ → World
-took w n p = withNet (popped w n p) (grantsUp (popped w n p .net) n p)
+took w n p = grantsUp (popped w n p) n p
 
 -- "the header is removed"
 abbrev pub stripped : World → ℕ → ℕ → Width → World
@@ -74,24 +67,10 @@ closesUnit s n p = servesNobody (shut s n p) n
 abbrev pub closesDropped : Net → ℕ → ℕ → ℕ → Net
 closesDropped s n p x = pick (closes x) (shut s n p) s
 
--- "Each token moved over a link, header included, costs one credit."
-abbrev pub paid : Net → ℕ → ℕ → Net
-paid s n l = withFlow s n l (creditAs (s .links .flows n l) (s .links .flows n l .credit - 1))
-
--- a token crosses at once: put at the far end, paid, and a grant considered
-abbrev pub arrives : World → Far → ℕ → World
-arrives w Nowhere x = w
-arrives w (At m j) x = pushed w (m .0) j x
-
-abbrev pub pays : World → ℕ → ℕ → World
-pays w n l = withNet w (considered (paid (w .net) n l) n l)
-
-unfoldable pub crosses : World → ℕ → ℕ → ℕ → World
-crosses w n l x = pays (arrives w (farOf (w .net .links .cables n l)) x) n l
-
+-- "Outward: .. Moved": taken and considered first, so that a credit stands before the token where both go on one line
 abbrev pub movesOut : World → ℕ → ℕ → ℕ → World
 movesOut w n p l =
-    crosses (withNet (took w n p) (closesOut (took w n p .net) n p l (firstAt w n p))) n l (firstAt w n p)
+    sendsOn (withNet (took w n p) (closesOut (took w n p .net) n p l (firstAt w n p))) n l (firstAt w n p)
 
 -- "To a channel: .. Moved"
 abbrev pub hands : World → ℕ → ℕ → ℕ → ℕ → World

@@ -1,8 +1,9 @@
--- What a Wire or Set that is not refused has: its nodes and links are there. Assumes nothing.
+-- What a Wire or Set that is not refused has: its nodes and links are there, and a Set is not Busy. Assumes nothing.
 use Prim.{tt}
 use Prim.Native.Nat.{ℕ, _<_}
 use mathlib.Core.Path.{_≡_, ap}
-use mathlib.Core.Bool.{true}
+use mathlib.Core.Bool.{true, false, not, _&&_}
+use lib.Dec.{ltb}
 use borrow.Author.Tests.{ltb-true, eq-eqb, not-false}
 use Rattle.laws.proofs.All.{also, as-is, below}
 use Rattle.names.specs.Size.{links}
@@ -13,7 +14,8 @@ use Rattle.answers.specs.Out.{Out, out}
 use Rattle.answers.specs.declared.Answer.the-variants.{No, Done}
 use Rattle.answers.proofs.Refusals.{passed, refuses, goes-on}
 use Rattle.cells.specs.View.{Net}
-use Rattle.settings.specs.Set.{setRows, linkThere, inRange, setAnswer, setMade, setCall}
+use Rattle.cells.specs.World.{World}
+use Rattle.settings.specs.Set.{setRows, linkThere, inRange, setBusy, setAnswer, setMade, setCall}
 use Rattle.settings.specs.Needs.{Settable}
 use Rattle.settings.specs.Wire.{wireRows, wired, wire}
 use Rattle.settings.specs.declared.Setting.{Setting}
@@ -28,11 +30,16 @@ settable (Network l v) e r = ltb-true l links e
 settable (Enable l v) e r = ltb-true l links e
 settable (Hello l) e r = ltb-true l links e
 
-pub set-there : (s : Net) (n : ℕ) (x : Setting) → refusal (setRows s n x) ≡ passes → (n < s .nodes) × Settable x
-set-there s n x e =
-    let h = passed (setRows s n x) .sure (eq-eqb (refusal (setRows s n x)) passes e) in
-    let z = also (below n (s .nodes)) (as-is (linkThere x)) .sure (not-false _ (h .0)) in
-    (z .0, settable x (z .1) (not-false _ (h .1 .0)))
+pub there-set : (N n : ℕ) (x : Setting) → not (ltb n N && linkThere x) ≡ false → not (inRange x) ≡ false → (n < N) × Settable x
+there-set N n x e r =
+    let z = also (below n N) (as-is (linkThere x)) .sure (not-false _ e) in (z .0, settable x (z .1) (not-false _ r))
+
+pub set-there : (w : World) (n : ℕ) (x : Setting) → refusal (setRows w n x) ≡ passes
+    → (n < w .net .nodes) × Settable x × (setBusy w n x ≡ false)
+set-there w n x e =
+    let h = passed (setRows w n x) .sure (eq-eqb (refusal (setRows w n x)) passes e) in
+    let z = there-set (w .net .nodes) n x (h .0) (h .1 .0) in
+    (z .0, z .1, h .1 .1 .0)
 
 -- both link ends are there
 pub record Ends (s : Net) (n l m k : ℕ) : Type 0 where
@@ -46,14 +53,14 @@ wire-there s n l m k e =
     record { one = z .0; other = z .1 }
 
 -- Refused, or gone on with, by the number that the rows give
-module _ (s : Net) (n : ℕ) (x : Setting) (k : ℕ) (e : k ≡ refusal (setRows s n x)) where
-  pub set-refuses : (k ≡ passes → ⊥) → out (No k) s ≡ setCall s n x
+module _ (w : World) (n : ℕ) (x : Setting) (k : ℕ) (e : k ≡ refusal (setRows w n x)) where
+  pub set-refuses : (k ≡ passes → ⊥) → out (No k) w ≡ setCall w n x
   unfolding setCall
-  set-refuses h = refuses (setRows s n x) s (out (setAnswer s n x) (setMade s n x)) k e h
+  set-refuses h = refuses (setRows w n x) w (out (setAnswer x) (setMade w n x)) k e h
 
-  pub set-goes-on : (o : Out Net) → k ≡ passes → o ≡ out (setAnswer s n x) (setMade s n x) → o ≡ setCall s n x
+  pub set-goes-on : (o : Out World) → k ≡ passes → o ≡ out (setAnswer x) (setMade w n x) → o ≡ setCall w n x
   unfolding setCall
-  set-goes-on o h q = goes-on (setRows s n x) s (out (setAnswer s n x) (setMade s n x)) k e h q
+  set-goes-on o h q = goes-on (setRows w n x) w (out (setAnswer x) (setMade w n x)) k e h q
 
 module _ (s : Net) (n l m j : ℕ) (k : ℕ) (e : k ≡ refusal (wireRows s n l m j)) where
   pub wire-refuses : (k ≡ passes → ⊥) → out (No k) s ≡ wire s n l m j

@@ -10,9 +10,9 @@ use answers::Answer;
 use names::Slot;
 ghost use mathlib.Core.Path.{_≡_};
 ghost use Rattle.answers.specs.Out.{out};
-ghost use Rattle.cells.specs.View.{view};
+ghost use Rattle.cells.specs.World.{lined};
 ghost use Rattle.settings.specs.Set.{setCall};
-ghost use Rattle.settings.specs.Needs.{AllCabled};
+ghost use Rattle.settings.specs.Needs.{Settled};
 
 // What is to be set. Values are as wide as they are asked for: those out of range are refused.
 pub enum Setting {
@@ -33,13 +33,13 @@ pub enum Setting {
 }
 
 // Set, whole: refused by its number with nothing changed, or made.
-pub fn set(st: &mut [u32], slot: Slot, x: Setting) -> Answer
-    requires { ⌜ AllCabled (view (now st)) ⌝ }
-    ensures { λ r. ⌜ out r (view (now (st .exit))) ≡ setCall (view (now (st .entry))) (slot .0) x ⌝ }
+pub fn set(st: &mut [u32], ls: &mut [u16], slot: Slot, x: Setting) -> Answer
+    requires { ⌜ Settled (lined (now st) (now ls)) ⌝ }
+    ensures { λ r. ⌜ out r (lined (now (st .exit)) (now (ls .exit))) ≡ setCall (lined (now (st .entry)) (now (ls .entry))) (slot .0) x ⌝ }
 {
-    let no = set_no(st, slot, x);
+    let no = set_no(st, ls, slot, x);
     if no != 0 {
         return Answer::No(no);
     }
-    make(st, slot, x)
+    make(st, ls, slot, x)
 }

@@ -16,7 +16,7 @@ ghost use Rattle.answers.specs.Out.{out};
 ghost use Rattle.cells.specs.View.{view};
 ghost use Rattle.settings.specs.Wire.{linkAt, endWired, wireRows, cableTo, wired, wire};
 
-fn link_at(st: &[u32], slot: Slot, l: usize) -> bool
+pub fn link_at(st: &[u32], slot: Slot, l: usize) -> bool
     ensures { λ r. ⌜ r ≡ linkAt (view (now (st .entry))) (slot .0) l ⌝ }
 {
     (slot.0 < node::count(st)) & (l < LINKS)

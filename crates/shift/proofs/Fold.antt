@@ -12,7 +12,7 @@ use lib.Seq.{drop-cons, drop-length}
 use lib.Seq.{take-suc-set, take-all}
 use borrow.Author.Tests.{eq-eqb, ne-eqb}
 use Rattle.answers.specs.Answer.{answerNumber}
-use Rattle.cells.specs.World.{World, world}
+use Rattle.cells.specs.World.{World, lent}
 use Rattle.bench.specs.declared.StepRecord.{StepRecord}
 use Rattle.bench.specs.Calls.{stepBy, stepped, results, apply}
 use Rattle.shift.specs.Needs.{Sure}
@@ -45,18 +45,20 @@ pub from-first : (w : World) (rs : List ℕ) (xs : List StepRecord) → length r
     → stepsFrom (left w rs) 0 xs ≡ left (stepped w xs) (map answerNumber (results w xs))
 from-first w rs xs e = λ j. record { next = next-from (left w rs) 0 xs j; results = results-from (left w rs) 0 xs (omega arith) j }
 
-module _ (ys : List StepRecord) (st₀ mem₀ res₀ : List ℕ) where
+module _ (ys : List StepRecord) (st₀ mem₀ ls₀ res₀ : List ℕ) where
   pub record At : Type 0 where
     pub i : ℕ
     pub sure : Bool
     pub st : List ℕ
     pub mem : List ℕ
+    pub ls : List ℕ
     pub results : List ℕ
     pub within : i ≤ length ys
-    pub known : Sure sure (world st mem)
-    pub so-far : stepsFrom (left (world st mem) results) i (drop i ys) ≡ stepsFrom (left (world st₀ mem₀) res₀) 0 ys
+    pub known : Sure sure (lent st mem ls)
+    pub so-far : stepsFrom (left (lent st mem ls) results) i (drop i ys) ≡ stepsFrom (left (lent st₀ mem₀ ls₀) res₀) 0 ys
     pub st-len : length st ≡ length st₀
     pub mem-len : length mem ≡ length mem₀
+    pub ls-len : length ls ≡ length ls₀
     pub results-len : length results ≡ length res₀
 
   abbrev pub remaining : At → ℕ
@@ -69,12 +71,14 @@ module _ (ys : List StepRecord) (st₀ mem₀ res₀ : List ℕ) where
         sure = false;
         st = st₀;
         mem = mem₀;
+        ls = ls₀;
         results = res₀;
         within = omega arith;
         known = tt;
         so-far = refl;
         st-len = refl;
         mem-len = refl;
+        ls-len = refl;
         results-len = refl;
       }
 
@@ -86,24 +90,27 @@ module _ (ys : List StepRecord) (st₀ mem₀ res₀ : List ℕ) where
       (ap (λ (n : ℕ). stepsFrom (oneStep k i (getD ys i none .slot) (getD ys i none .port)) (i + 1) (drop n ys)) (sym (add-one i)))
 
   -- one record more is done
-  abbrev pub next : (t : At) (sure : Bool) (st mem results : List ℕ) → t .i < length ys
-      → Sure sure (world st mem)
-      → left (world st mem) results
-      ≡ oneStep (left (world (t .st) (t .mem)) (t .results)) (t .i) (getD ys (t .i) none .slot) (getD ys (t .i) none .port)
-      → length st ≡ length (t .st) → length mem ≡ length (t .mem) → length results ≡ length (t .results) → At
-  next t sure st mem results h known o a b c =
+  abbrev pub next : (t : At) (sure : Bool) (st mem ls results : List ℕ) → t .i < length ys
+      → Sure sure (lent st mem ls)
+      → left (lent st mem ls) results
+      ≡ oneStep (left (lent (t .st) (t .mem) (t .ls)) (t .results)) (t .i) (getD ys (t .i) none .slot) (getD ys (t .i) none .port)
+      → length st ≡ length (t .st) → length mem ≡ length (t .mem) → length ls ≡ length (t .ls) → length results ≡ length (t .results)
+      → At
+  next t sure st mem ls results h known o a b c d =
       record {
         i = t .i + 1;
         sure = sure;
         st = st;
         mem = mem;
+        ls = ls;
         results = results;
         within = omega arith;
         known = known;
-        so-far = rw o (sym (one-turn (left (world (t .st) (t .mem)) (t .results)) (t .i) h) ∙ t .so-far);
+        so-far = rw o (sym (one-turn (left (lent (t .st) (t .mem) (t .ls)) (t .results)) (t .i) h) ∙ t .so-far);
         st-len = a ∙ t .st-len;
         mem-len = b ∙ t .mem-len;
-        results-len = c ∙ t .results-len;
+        ls-len = c ∙ t .ls-len;
+        results-len = d ∙ t .results-len;
       }
 
   pub less : (t : At) → t .i < length ys → length ys - (t .i + 1) < remaining t
@@ -115,14 +122,14 @@ module _ (ys : List StepRecord) (st₀ mem₀ res₀ : List ℕ) where
 
   -- the whole list is done, and there is a place for each record
   pub done-all : (t : At) → length ys ≤ t .i → length res₀ ≡ length ys
-      → listed 4294967296 (world (t .st) (t .mem)) (t .results) ≡ listMade (world st₀ mem₀) res₀ ys
+      → listed 4294967296 (lent (t .st) (t .mem) (t .ls)) (t .results) ≡ listMade (lent st₀ mem₀ ls₀) res₀ ys
   unfolding listMade apply
   done-all t l e =
       let all : t .i ≡ length ys = omega (arith, t .within) in
-      let whole = sym (ended (left (world (t .st) (t .mem)) (t .results)) (t .i) all) ∙ t .so-far ∙ from-first (world st₀ mem₀) res₀ ys e in
+      let whole = sym (ended (left (lent (t .st) (t .mem) (t .ls)) (t .results)) (t .i) all) ∙ t .so-far ∙ from-first (lent st₀ mem₀ ls₀) res₀ ys e in
       rw (eq-eqb (length res₀) (length ys) e) (ap (λ (k : Left). listed 4294967296 (k .next) (k .results)) whole)
 
   -- another length: nothing is done
-  pub refused : (length res₀ ≡ length ys → ⊥) → listed 2 (world st₀ mem₀) res₀ ≡ listMade (world st₀ mem₀) res₀ ys
+  pub refused : (length res₀ ≡ length ys → ⊥) → listed 2 (lent st₀ mem₀ ls₀) res₀ ≡ listMade (lent st₀ mem₀ ls₀) res₀ ys
   unfolding listMade apply
   refused n = rw (ne-eqb (length res₀) (length ys) n)

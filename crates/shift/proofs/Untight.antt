@@ -35,7 +35,7 @@ board =
     0 0 (ofPeer (Port 8))
 
 abbrev untight : World
-untight = record { net = board; memory = set (startWorld noneOn 1 .memory) (place 0 8) (controlWord end); lineMemory = [] }
+untight = record { net = board; memory = set (startWorld noneOn 1 .memory) (place 0 8) (controlWord end); lineMemory = startWorld noneOn 1 .lineMemory }
 
 pub passes : sound untight ≡ true
 unfolding computes sound holds every all

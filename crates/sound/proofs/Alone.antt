@@ -8,7 +8,8 @@ use Rattle.names.specs.Size.{ports, ends}
 use Rattle.cells.specs.View.{wholePort, wholeEnd}
 use Rattle.cells.specs.World.{World}
 use Rattle.clauses.specs.Counts.{portCounts, endCounts}
-use Rattle.clauses.specs.Contents.{contents, heldTokens}
+use Rattle.clauses.specs.Contents.{heldTokens}
+use Rattle.line_clauses.specs.Lines.{holdsOver}
 use Rattle.sound.specs.Clauses.{circuits, soundClauses, asked}
 
 module _ (w : World) (n i : ℕ) where
@@ -20,8 +21,8 @@ module _ (w : World) (n i : ℕ) where
       rw (q, and-true (heldTokens (w .net) n i))
 
   pub port-alone : (eqb (w .net .ports .legs n i .circuit .kind) 0 && eqb (w .net .ports .senders n i .kind) 0) ≡ true
-      → (portCounts i (wholePort (w .net) n i) && contents w n i) ≡ asked soundClauses ports w n i
+      → (portCounts i (wholePort (w .net) n i) && holdsOver w n i) ≡ asked soundClauses ports w n i
   port-alone e =
       let z = also (equal (w .net .ports .legs n i .circuit .kind) 0) (equal (w .net .ports .senders n i .kind) 0) .sure e in
       let q : asked circuits ports w n i ≡ true = rw (z .0, z .1) in
-      rw (q, and-true (contents w n i))
+      rw (q, and-true (holdsOver w n i))

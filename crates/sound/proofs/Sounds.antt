@@ -21,7 +21,7 @@ use Rattle.sound.specs.Clauses.{Clause, soundClauses, allHold, ask, askA
 use Rattle.sound.specs.Sound.{sound, unsoundClause}
 use Rattle.sound.specs.declared.tests.Test.{Test}
 use Rattle.sound.specs.declared.tests.Test.the-variants.{Nodes, Links, Ports, Tiles, Ends, Units, Credited, Greeted, Room, Cable}
-use Rattle.sound.specs.declared.tests.Test.the-variants.{Contents, Held, Agrees, OpenEnd, Silent, Heard, Lines}
+use Rattle.sound.specs.declared.tests.Test.the-variants.{Contents, Held, Agrees, OpenEnd, Silent, Heard, Lines, Few, Counted, Unlined}
 
 -- a test everywhere is that test at every place
 pub at-places : (t : Test) (w : World) → Means (holds t w) ((n i : ℕ) → n < w .net .nodes → i < places t → holdsAt t w n i ≡ true)
@@ -134,6 +134,9 @@ module _ (w : World) (e : Each (Holds w) soundClauses) where
   list-says Silent = cc
   list-says Heard = cc
   list-says Lines = cc
+  list-says Few = cc
+  list-says Counted = cc
+  list-says Unlined = cc
 
 -- a sound state passes every test, at every place
 pub sound-says : (w : World) → sound w ≡ true → (t : Test) (n i : ℕ) → n < w .net .nodes → i < places t → holdsAt t w n i ≡ true

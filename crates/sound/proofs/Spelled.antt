@@ -8,20 +8,22 @@ use lib.ListN.{length, getD}
 use Rattle.laws.specs.All.{Means}
 use Rattle.laws.proofs.All.{also, same-as, at-most, equal}
 use Rattle.laws.proofs.Order.{never, clash}
-use Rattle.names.specs.Size.{nodes, ports, endBuffer, unitBuffer, replyPort, numbers}
+use Rattle.names.specs.Size.{nodes, links, ports, endBuffer, unitBuffer, replyPort, numbers}
 use Rattle.names.specs.declared.Slot.{Slot}
 use Rattle.ports.specs.Queue.{capacity}
+use Rattle.lines.specs.Line.{lineCapacity}
 use Rattle.cells.specs.View.{wholeLink, wholePort, wholeEnd, wholeUnit, wholeLine}
-use Rattle.cells.specs.World.{World, shaped, isEmpty, farOf, hop, queue}
+use Rattle.cells.specs.World.{World, shaped, isEmpty, farOf}
 use Rattle.cells.specs.declared.link.Far.the-variants.{At}
 use Rattle.clauses.specs.Pairs.{backward, players}
-use Rattle.clauses.specs.Sentences.{Plain, Holds}
-use Rattle.clauses.proofs.Readies.{Ready}
-use Rattle.clauses.proofs.Spoken.{ports-hold}
+use Rattle.clauses.specs.Sentences.{Plain}
 use Rattle.clauses.proofs.Meanings.{node-counts, LinkFacts, link-counts, PortFacts, port-counts, tile-counts, EndFacts, end-counts}
 use Rattle.clauses.proofs.Meanings.{LineFacts, line-counts}
-use Rattle.clauses.proofs.Meanings.{unit-counts, Joined, cables, credits, Hears, greetings, rooms, Held, held-tokens, heard-tokens}
+use Rattle.clauses.proofs.Meanings.{unit-counts, Joined, cables, credits, Hears, greetings, Held, held-tokens, heard-tokens}
 use Rattle.clauses.proofs.Meanings.{Names, each-names-back, Opened, open-ends, silences}
+use Rattle.line_clauses.specs.Lines.{loadAt}
+use Rattle.line_clauses.proofs.Spoken.{PortHolds, ports-hold}
+use Rattle.line_clauses.proofs.Meanings.{few-means, unlined-means, room-means, count-means}
 use Rattle.sound.specs.Tests.{holdsAt, places}
 use Rattle.sound.specs.Sound.{sound}
 use Rattle.sound.specs.declared.tests.Test.{Test}
@@ -43,9 +45,10 @@ Meaning Tests.Greeted w n i =
     ⊎ ((w .net .links .setups n i .enabled ≡ 1) × Hears (w .net) (w .net .links .cables n i))
 Meaning Tests.Room w n i =
     (m : Slot) (k : ℕ) → farOf (w .net .links .cables n i) ≡ At m k
-    → w .net .links .flows n i .credit + w .net .ports .counters (m .0) k .held ≤ capacity
+    → w .net .links .flows n i .credit + loadAt w (m .0) k .credit
+    + (loadAt w n i .tokens + w .net .ports .counters (m .0) k .held) ≤ capacity
 Meaning Tests.Cable w n i = (m : Slot) (k : ℕ) → farOf (w .net .links .cables n i) ≡ At m k → Joined (w .net) n i m k
-Meaning Tests.Contents w n i = Ready w n i × Holds (hop (w .net) n i) (queue w n i)
+Meaning Tests.Contents w n i = PortHolds w n i
 Meaning Tests.Held w n i =
     let k = w .net .ends .buffers n i in (j : ℕ) → j < k .held → j < endBuffer → Held (getD (k .tokens) j 0)
 Meaning (Tests.Agrees r) w n i =
@@ -56,6 +59,13 @@ Meaning Tests.Heard w n i =
     let k = w .net .units .hearings n 0 in
     (w .net .units .serving n 0 .kind ≡ 0) ⊎ ((j : ℕ) → j < k .heard → j < unitBuffer → Plain (getD (k .tokens) j 0))
 Meaning Tests.Lines w n i = LineFacts (wholeLine (w .net) n i)
+Meaning Tests.Few w n i = (loadAt w n i .credits ≤ 1) × (loadAt w n i .hellos ≤ 1)
+Meaning Tests.Counted w n i =
+    (m : Slot) (k : ℕ) → farOf (w .net .links .cables n i) ≡ At m k
+    → (loadAt w (m .0) k .hellos ≡ 0 → ⊥)
+    ⊎ (w .net .lines .issued n i ≡ w .net .links .flows (m .0) k .credit + loadAt w n i .credit + loadAt w (m .0) k .tokens)
+Meaning Tests.Unlined w n i =
+    (w .net .links .cables n i .wired ≡ 1) ⊎ ((w .net .lines .rings n i .held ≡ 0) × (w .net .lines .issued n i ≡ 0))
 
 pub each-test : (t : Test) (w : World) (n i : ℕ) → Means (holdsAt t w n i) (Meaning t w n i)
 each-test Tests.Nodes w n i = node-counts (w .net .own n 0)
@@ -66,7 +76,7 @@ each-test Tests.Ends w n i = end-counts (wholeEnd (w .net) n i)
 each-test Tests.Units w n i = unit-counts (wholeUnit (w .net) n)
 each-test Tests.Credited w n i = credits (w .net) n i
 each-test Tests.Greeted w n i = greetings (w .net) n i
-each-test Tests.Room w n i = rooms (w .net) n i
+each-test Tests.Room w n i = room-means w n i
 each-test Tests.Cable w n i = cables (w .net) n i
 each-test Tests.Contents w n i = ports-hold w n i
 each-test Tests.Held w n i = held-tokens (w .net) n i
@@ -75,13 +85,17 @@ each-test Tests.OpenEnd w n i = open-ends (w .net) n i
 each-test Tests.Silent w n i = silences (w .net) n 0
 each-test Tests.Heard w n i = heard-tokens (w .net) n 0
 each-test Tests.Lines w n i = line-counts (wholeLine (w .net) n i)
+each-test Tests.Few w n i = few-means w n i
+each-test Tests.Counted w n i = count-means w n i
+each-test Tests.Unlined w n i = unlined-means w n i
 
--- "A network of 1 to 16 nodes", with no word past the last, and "nodes × 13 ports × 64 words, exactly"
+-- "A network of 1 to 16 nodes", with no word past the last, "nodes × 13 ports × 64 words, exactly", and for the lines "nodes × 8 × 66 words"
 pub record Fitting (w : World) : Type 0 where
   pub rest : w .net .rest ≡ []
   pub some : 1 ≤ w .net .nodes
   pub few : w .net .nodes ≤ nodes
   pub memory : length (w .memory) ≡ w .net .nodes * (ports * capacity)
+  pub lines : length (w .lineMemory) ≡ w .net .nodes * (links * lineCapacity)
 
 nothing : (l : List ℕ) → Means (isEmpty l) (l ≡ [])
 nothing [] = record { sure = λ e. refl; back = λ e. refl }
@@ -91,9 +105,9 @@ fitting : (w : World) → Means (shaped w) (Fitting w)
 unfolding shaped
 fitting w =
     same-as
-    (λ z. record { rest = z .0; some = z .1 .0; few = z .1 .1 .0; memory = z .1 .1 .1 })
-    (λ f. (f .rest, (f .some, (f .few, f .memory))))
-    (also (nothing (w .net .rest)) (also (at-most _ _) (also (at-most _ _) (equal _ _))))
+    (λ z. record { rest = z .0; some = z .1 .0; few = z .1 .1 .0; memory = z .1 .1 .1 .0; lines = z .1 .1 .1 .1 })
+    (λ f. (f .rest, (f .some, (f .few, (f .memory, f .lines)))))
+    (also (nothing (w .net .rest)) (also (at-most _ _) (also (at-most _ _) (also (equal _ _) (equal _ _)))))
 
 -- the lengths and the whole list
 pub record Spelled (w : World) : Type 0 where

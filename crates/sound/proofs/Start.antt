@@ -4,17 +4,19 @@ use mathlib.Core.Bool.{Bool, true, not, or-true}
 use mathlib.Core.List.{[]}
 use mathlib.Core.Path.{_≡_, refl, ap, _∙_}
 use native.Mathlib.Omega.{arith}
-use lib.Dec.{lit≤}
+use lib.Dec.{ltb, lit≤}
 use lib.ListN.{length, length-replicate}
 use borrow.Author.Tests.{lt-ltb, le-leb, eq-eqb}
 use Rattle.laws.specs.All.{all}
 use Rattle.laws.proofs.All.{each-place, as-is}
 use Rattle.laws.proofs.Order.{by-test}
-use Rattle.names.specs.Size.{nodes, ports, replyPort}
+use Rattle.names.specs.Size.{nodes, links, ports, replyPort}
 use Rattle.ports.specs.Queue.{capacity}
 use Rattle.ports.specs.Ring.{ring}
+use Rattle.lines.specs.Line.{lineCapacity}
+use Rattle.lines.specs.Load.{noLoad}
 use Rattle.grammar.specs.declared.stage.Stage.the-variants.{Fresh}
-use Rattle.cells.specs.World.{shaped}
+use Rattle.cells.specs.World.{shaped, tokenWords, lineWords}
 use Rattle.cells.specs.Start.{startNet, startWorld}
 use Rattle.cells.specs.Records.{toPort}
 use Rattle.clauses.specs.Counts.{portCounts, tilePort}
@@ -24,24 +26,38 @@ use Rattle.clauses.specs.declared.pairs.Named.the-variants.{Nothing}
 use Rattle.clauses.specs.declared.pairs.Role.{Role}
 use Rattle.clauses.specs.declared.pairs.Role.the-variants.{PortLink, LinkPort, PortTile, TilePort, PortUnit, UnitPort}
 use Rattle.clauses.specs.declared.pairs.Role.the-variants.{PortClaim, ClaimPort, EndClaim, ClaimEnd, EndPort, PortEnd}
+use Rattle.line_clauses.specs.Lines.{loadAt, reached}
 use Rattle.sound.specs.Tests.{holdsAt, places}
 use Rattle.sound.specs.Questions.{answerAt, placesOf, everywhere}
 use Rattle.sound.specs.Sound.{sound, tight, quiet}
 use Rattle.sound.specs.declared.tests.Test.{Test}
 use Rattle.sound.specs.declared.tests.Test.the-variants.{Nodes, Links, Ports, Tiles, Ends, Units, Credited, Greeted, Room, Cable}
-use Rattle.sound.specs.declared.tests.Test.the-variants.{Contents, Held, Agrees, OpenEnd, Silent, Heard, Lines}
+use Rattle.sound.specs.declared.tests.Test.the-variants.{Contents, Held, Agrees, OpenEnd, Silent, Heard, Lines, Few, Counted, Unlined}
 use Rattle.sound.specs.declared.questions.Question.{Question}
-use Rattle.sound.specs.declared.questions.Question.the-variants.{Tied, Sends, Replied, QuietPort, QuietEnd}
+use Rattle.sound.specs.declared.questions.Question.the-variants.{Tied, Sends, Replied, QuietPort, QuietEnd, QuietLine}
 use Rattle.sound.proofs.Sounds.{sound-from}
 
 module _ (on : ℕ → ℕ → Bool) (n : ℕ) (some : 1 ≤ n) (few : n ≤ nodes) where
   memory-nodes : length (startWorld on n .memory) / (ports * capacity) ≡ n
-  memory-nodes = ap (λ (l : ℕ). l / (ports * capacity)) (length-replicate (n * (ports * capacity)) 0) ∙ omega arith
+  memory-nodes = ap (λ (l : ℕ). l / (ports * capacity)) (length-replicate (tokenWords n) 0) ∙ omega arith
 
   -- an empty port ends where it begins
   empty-back : (m p : ℕ) → m < n → p < ports → back (startWorld on n) m p ≡ Fresh
   unfolding ring
   empty-back m p h g = rw (memory-nodes, lt-ltb m n h, lt-ltb p ports g)
+
+  -- and so does one with nothing coming
+  empty-reached : (m p : ℕ) → m < n → p < ports → reached (startWorld on n) m p ≡ Fresh
+  unfolding reached
+  empty-reached m p h g = by-test (ltb p links) (λ e. rw (e, empty-back m p h g)) (λ e. rw (e, empty-back m p h g))
+
+  line-nodes : length (startWorld on n .lineMemory) / (links * lineCapacity) ≡ n
+  line-nodes = ap (λ (l : ℕ). l / (links * lineCapacity)) (length-replicate (lineWords n) 0) ∙ omega arith
+
+  -- nothing is on a line
+  no-load : (m l : ℕ) → m < n → l < links → loadAt (startWorld on n) m l ≡ noLoad
+  unfolding loadAt ring
+  no-load m l h g = rw (line-nodes, lt-ltb m n h, lt-ltb l links g)
 
   -- a port that is free has no network to look at
   zero-port : (i : ℕ) → portCounts i (toPort []) ≡ true
@@ -75,19 +91,22 @@ module _ (on : ℕ → ℕ → Bool) (n : ℕ) (some : 1 ≤ n) (few : n ≤ nod
   start-passes Greeted m i h g = refl
   start-passes Room m i h g = refl
   start-passes Cable m i h g = refl
-  start-passes Contents m i h g = rw (empty-back m i h g)
+  start-passes Contents m i h g = rw (empty-reached m i h g)
   start-passes Held m i h g = refl
   start-passes (Agrees r) m i h g = rw (names-nobody r m i)
   start-passes OpenEnd m i h g = refl
   start-passes Silent m i h g = refl
   start-passes Heard m i h g = refl
   start-passes Lines m i h g = refl
+  start-passes Few m i h g = rw (no-load m i h g)
+  start-passes Counted m i h g = refl
+  start-passes Unlined m i h g = refl
 
   pub start-shaped : shaped (startWorld on n) ≡ true
   unfolding shaped
   start-shaped =
-      let words = n * (ports * capacity) in
-      rw (le-leb 1 n some, le-leb n nodes few, eq-eqb (length (startWorld on n .memory)) words (length-replicate words 0))
+      rw (le-leb 1 n some, le-leb n nodes few, eq-eqb (length (startWorld on n .memory)) (tokenWords n) (length-replicate (tokenWords n) 0))
+      (rw (eq-eqb (length (startWorld on n .lineMemory)) (lineWords n) (length-replicate (lineWords n) 0)))
 
   pub start-sound : sound (startWorld on n) ≡ true
   start-sound = sound-from (startWorld on n) start-shaped start-passes
@@ -104,10 +123,12 @@ module _ (on : ℕ → ℕ → Bool) (n : ℕ) (some : 1 ≤ n) (few : n ≤ nod
   start-tight =
       let linked = passes Tied (λ m i h g.
       let back = empty-back m i h (omega arith) in
-      by-test (on m i) (λ e. rw (back, e)) (λ e. rw (back, e))) in
+      let on-it = no-load m i h g in
+      by-test (on m i) (λ e. rw (back, on-it, e)) (λ e. rw (back, on-it, e))) in
       let replies = passes Replied (λ m i h g. rw (empty-back m replyPort h (lit≤ tt))) in
       rw (linked, passes Sends (λ m i h g. refl), replies)
 
   pub start-quiet : quiet (startWorld on n) ≡ true
   unfolding quiet
-  start-quiet = rw (passes QuietPort (λ m i h g. refl), passes QuietEnd (λ m i h g. refl))
+  start-quiet =
+      rw (passes QuietPort (λ m i h g. refl), passes QuietEnd (λ m i h g. refl), passes QuietLine (λ m i h g. refl))

@@ -11,7 +11,7 @@ use Rattle.clauses.specs.declared.pairs.Role.the-variants.{PortClaim, ClaimPort
 use Rattle.sound.specs.Tests.{holds, holdsAt, places}
 use Rattle.sound.specs.declared.tests.Test.{Test}
 use Rattle.sound.specs.declared.tests.Test.the-variants.{Nodes, Links, Ports, Tiles, Ends, Units, Credited, Greeted, Room, Cable}
-use Rattle.sound.specs.declared.tests.Test.the-variants.{Contents, Held, Agrees, OpenEnd, Silent, Heard, Lines}
+use Rattle.sound.specs.declared.tests.Test.the-variants.{Contents, Held, Agrees, OpenEnd, Silent, Heard, Lines, Few, Counted, Unlined}
 
 pub record Clause : Type 0 where
   pub number : ℕ
@@ -33,7 +33,7 @@ counts =
     ∷ []
 
 -- 3: "credit only where greeted"; 4: "greeted only where wired with both ends enabled"; 5: "credit plus tokens held at the far end at
--- most 64"; 6: "cables agree at both ends"
+-- most 64", with what is on the lines between them (document 02, Ask 4: "Sound counts tokens on a line"); 6: "cables agree at both ends"
 abbrev pub cables : List Clause
 cables =
     clause 3 Credited
@@ -84,9 +84,18 @@ openings =
 abbrev pub circuits : List Clause
 circuits = outputs ++ (claims ++ openings)
 
--- the whole list, in document 01's order
+-- what lines bring (document 02, Ask 4). 13: "allows one credit and one HELLO there"; 14: "while no HELLO is coming to a receiver, holds its
+-- count to ..."; 15: an end without a cable has no line
+abbrev pub travels : List Clause
+travels =
+    clause 13 Few
+    ∷ clause 14 Counted
+    ∷ clause 15 Unlined
+    ∷ []
+
+-- the whole list, in document 01's order, and what document 02 adds behind it
 abbrev pub soundClauses : List Clause
-soundClauses = counts ++ (cables ++ (tokens ++ circuits))
+soundClauses = counts ++ (cables ++ (tokens ++ (circuits ++ travels)))
 
 -- every row's test holds at every place
 abbrev pub allHold : List Clause → World → Bool

@@ -9,8 +9,6 @@ use cells::unit;
 use clauses::cables::cable;
 use clauses::cables::credited;
 use clauses::cables::greeted;
-use clauses::cables::room;
-use clauses::contents::contents;
 use clauses::contents::heard_tokens;
 use clauses::contents::held_tokens;
 use clauses::counts::end_counts;
@@ -25,13 +23,18 @@ use clauses::pairs::agrees;
 use clauses::pairs::open_end;
 use clauses::pairs::players;
 use clauses::pairs::silent;
+use line_clauses::loads::counted;
+use line_clauses::loads::few_on;
+use line_clauses::loads::room_over;
+use line_clauses::loads::unlined;
+use line_clauses::reached::holds_over;
 use names::Slot;
 use names::size::ENDS;
 use names::size::LINKS;
 use names::size::PORTS;
 use names::size::TILE_LINKS;
 ghost use mathlib.Core.Path.{_≡_};
-ghost use Rattle.cells.specs.World.{world};
+ghost use Rattle.cells.specs.World.{lent};
 ghost use Rattle.sound.specs.Tests.{holdsAt, places};
 
 pub enum Test {
@@ -51,11 +54,11 @@ pub enum Test {
     Credited,
     // greeted only where wired with both ends enabled
     Greeted,
-    // credit plus tokens held at the far end at most 64
+    // credit plus tokens held at the far end at most 64, with what travels between them
     Room,
     // cables agree at both ends
     Cable,
-    // what a port holds
+    // what a port holds, with its line behind
     Contents,
     // what a channel-end holds
     Held,
@@ -69,11 +72,17 @@ pub enum Test {
     Heard,
     // the counts of a line
     Lines,
+    // one credit and one HELLO on a line
+    Few,
+    // what a receiver has issued is on its way
+    Counted,
+    // without a cable there is no line
+    Unlined,
 }
 
 // The test at one place.
-pub fn holds_at(st: &[u32], mem: &[u16], t: Test, slot: Slot, i: usize) -> bool
-    ensures { λ r. ⌜ r ≡ holdsAt t (world (now (st .entry)) (now (mem .entry))) (slot .0) i ⌝ }
+pub fn holds_at(st: &[u32], mem: &[u16], ls: &[u16], t: Test, slot: Slot, i: usize) -> bool
+    ensures { λ r. ⌜ r ≡ holdsAt t (lent (now (st .entry)) (now (mem .entry)) (now (ls .entry))) (slot .0) i ⌝ }
 {
     match t {
         Test::Nodes => node_counts(node::at(st, slot)),
@@ -84,15 +93,18 @@ pub fn holds_at(st: &[u32], mem: &[u16], t: Test, slot: Slot, i: usize) -> bool
         Test::Units => unit_counts(unit::at(st, slot)),
         Test::Credited => credited(st, slot, i),
         Test::Greeted => greeted(st, slot, i),
-        Test::Room => room(st, slot, i),
+        Test::Room => room_over(st, ls, slot, i),
         Test::Cable => cable(st, slot, i),
-        Test::Contents => contents(st, mem, slot, i),
+        Test::Contents => holds_over(st, mem, ls, slot, i),
         Test::Held => held_tokens(st, slot, i),
         Test::Agrees(r) => agrees(st, slot, r, i),
         Test::OpenEnd => open_end(st, slot, i),
         Test::Silent => silent(st, slot),
         Test::Heard => heard_tokens(st, slot),
         Test::Lines => line_counts(line::at(st, slot, i)),
+        Test::Few => few_on(st, ls, slot, i),
+        Test::Counted => counted(st, ls, slot, i),
+        Test::Unlined => unlined(st, slot, i),
     }
 }
 
@@ -118,5 +130,8 @@ pub fn places(t: Test) -> usize
         Test::Silent => 1,
         Test::Heard => 1,
         Test::Lines => LINKS,
+        Test::Few => LINKS,
+        Test::Counted => LINKS,
+        Test::Unlined => LINKS,
     }
 }

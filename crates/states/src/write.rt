@@ -2,6 +2,7 @@
 use cells::end;
 use cells::end::Buffer;
 use cells::end::End;
+use cells::layout::LINE_WORDS;
 use cells::layout::STRIDE;
 use cells::layout::TOKEN_WORDS;
 use cells::line;
@@ -26,6 +27,8 @@ use ports::Counters;
 pub const WORDS: usize = 2 * STRIDE;
 
 pub const TOKENS: usize = 2 * TOKEN_WORDS;
+
+pub const LINES: usize = 2 * LINE_WORDS;
 
 pub fn set_width(st: &mut [u32], n: usize, width: u32) {
     if n < node::count(st) {
@@ -67,8 +70,8 @@ pub fn put_end(st: &mut [u32], n: usize, c: usize, k: End) {
     }
 }
 
-// What is on a line, and what its link has issued.
-pub fn set_line(st: &mut [u32], n: usize, l: usize, held: u32, issued: u32) {
+// How much is on a line, and what its link has issued.
+fn set_line(st: &mut [u32], n: usize, l: usize, held: u32, issued: u32) {
     if n < node::count(st) {
         if l < LINKS {
             let ring = Counters { head: 0, held };
@@ -197,7 +200,45 @@ pub fn set_word(st: &mut [u32], mem: &mut [u16], n: usize, p: usize, held: u32, 
     set_memory(mem, n, p, 0, word);
 }
 
+// A word of the lines' memory, at a place of a line's stretch.
+fn set_line_memory(ls: &mut [u16], n: usize, l: usize, place: usize, word: u16) {
+    if n < NODES {
+        if l < LINKS {
+            if place < lines::CAPACITY as usize {
+                let at = (n * LINKS + l) * lines::CAPACITY as usize + place;
+                if at < ls.len() {
+                    ls[at] = word;
+                }
+            }
+        }
+    }
+}
+
+// A line that starts at a link of a slot, with one or two words on it, or none.
+pub fn set_on(st: &mut [u32], ls: &mut [u16], n: usize, l: usize, held: u32, a: u16, b: u16) {
+    let x = line::at(st, Slot(n), l);
+    set_line(st, n, l, held, x.issued);
+    set_line_memory(ls, n, l, 0, a);
+    set_line_memory(ls, n, l, 1, b);
+}
+
+// What a link has issued, with its line as it is.
+pub fn set_issued(st: &mut [u32], n: usize, l: usize, issued: u32) {
+    let x = line::at(st, Slot(n), l);
+    set_line(st, n, l, x.ring.held, issued);
+}
+
 pub fn blank(st: &mut [u32]) {
     set_width(st, 0, 3);
     set_width(st, 1, 3);
+}
+
+// Link 0 of slot 0 and link 3 of slot 1, joined and enabled, the first greeted with some credit, which the
+// second has issued.
+pub fn join(st: &mut [u32], greeted: u32, credit: u32) {
+    set_wired(st, 0, 0, 1, 3);
+    set_wired(st, 1, 3, 0, 0);
+    set_credit(st, 0, 0, 1, greeted, credit);
+    set_credit(st, 1, 3, 1, 0, 0);
+    set_issued(st, 1, 3, credit);
 }

@@ -2,7 +2,7 @@
 use Prim.Native.Nat.{ℕ, _<_}
 use mathlib.Core.Path.{_≡_, refl, sym, ap, _∙_}
 use mathlib.Core.Bool.{Bool, true, false}
-use mathlib.Core.List.{[], _∷_}
+use mathlib.Core.List.{List, [], _∷_, _++_}
 use lib.Dec.{eqb}
 use Rattle.laws.specs.Pick.{pick}
 use Rattle.laws.specs.Table as Two
@@ -17,28 +17,31 @@ use Rattle.circuits.specs.declared.Peer.{Peer}
 use Rattle.circuits.specs.declared.Peer.the-variants as Peers
 use Rattle.circuits.proofs.Backs.{hop-back}
 use Rattle.tokens.specs.Word.{closes}
+use Rattle.lines.specs.Load.{tokensOf}
 use Rattle.cells.specs.View as Cells
-use Rattle.cells.specs.World.{World, farOf, hop, queue}
+use Rattle.cells.specs.World.{World, farOf, hop, queue, lineFrom}
 use Rattle.cells.specs.declared.link.Far.the-variants.{At}
 use Rattle.cells.specs.declared.port.Leg.{Leg}
 use Rattle.acts.specs.Acts.{withNet, popped, firstAt, legOf, hopped, shut, tiledTo, claimedBy, handed}
 use Rattle.acts.specs.Needs.{Holds}
 use Rattle.acts.proofs.Queues.{popped-queue}
 use Rattle.messages.specs.Heard.{listens}
-use Rattle.grants.specs.Grants.{considered}
-use Rattle.moves.specs.Moves.{took, opensOut, closesUnit, paid, crosses, movesOut, hands, drops}
+use Rattle.travel.specs.Travel.{putOn, paidOne}
+use Rattle.travel.specs.Needs.{LineThere}
+use Rattle.travel.proofs.There.{there-net}
+use Rattle.travel.proofs.Tokens.{token-is, put-token, put-tokens-away}
+use Rattle.moves.specs.Moves.{took, opensOut, closesUnit, movesOut, hands, drops}
 use Rattle.kept.specs.Kept.{Kept}
-use Rattle.kept.proofs.Fills.{filled-one}
-use Rattle.kept.proofs.Empties.{emptied-one}
+use Rattle.kept.proofs.Grants.{kept-credited}
+use Rattle.kept.proofs.Empties.{Emptied, emptied-one}
 use Rattle.kept.proofs.Leaves.{taken-is, left, left-is}
-use Rattle.kept.proofs.Moves.{userIf, freed, putThere, freed-is, crosses-as, link-there, by-port, far-room}
-use Rattle.streams.specs.Model.{alter, tl, pop, push, portNo, isLink, Place, ToChannel, ToUnit, Out}
-use Rattle.streams.specs.Model.{Shut, Via, Into, Nobody, By, Moving}
-use Rattle.streams.specs.Events.{Event, Takes, Refuses, Enters, Arrives, Hands, Loses, effect, Ok}
-use Rattle.streams.specs.View.{moving, farEnd, outBy, outOf, outs, useBy, queues}
-use Rattle.streams.proofs.Basics.{alter-same, passes}
-use Rattle.streams.proofs.View.{net-as, out-put, user-put, queue-emptied}
-use Rattle.streams.proofs.View.{filled-seen, view-cable, view-queue, alike}
+use Rattle.kept.proofs.Moves.{userIf, freed, sentOn, moves-is, link-there, by-port, plain, line-here, line-room}
+use Rattle.streams.specs.Model.{alter, tl, push, portNo, isLink, Place, ToChannel, ToUnit, Out}
+use Rattle.streams.specs.Model.{Shut, Into, Nobody, By}
+use Rattle.streams.specs.Events.{Event, Takes, Refuses, Enters, Hands, Loses, effect, Ok}
+use Rattle.streams.specs.View.{moving, farEnd, outBy, outOf, outs, useBy, queues, linesOf}
+use Rattle.streams.proofs.View.{net-as, out-put, user-put, lines-same, line-put, queue-emptied}
+use Rattle.streams.proofs.View.{view-cable, view-line, view-queue, alike}
 use Rattle.streams.proofs.View.{view-out, view-user, Alike, alike-all, alike-then, alike-pick, unseen}
 
 -- the event leads from the one world to the other: it may happen, and does what was done
@@ -81,12 +84,19 @@ module _ (w : World) (n p : ℕ) (r : Holds w n p 1) where
             refl refl refl refl;
       }
 
-  -- A TOKEN THAT LEAVES ITS PORT
+-- A TOKEN THAT LEAVES ITS PORT. The grant that is considered for it is no event
+module _ (w : World) (k : Kept w) (n p : ℕ) (r : Holds w n p 1) where
+  emptied : Emptied w (took w n p) n p (firstAt w n p ∷ [])
+  emptied = emptied-one w n p (kept-credited w k) r
+
   left-queue : queues (left w n p) ≡ alter (moving w .queue) (portNo n p) (tl (moving w .queue (portNo n p)))
   left-queue =
       ap (λ (s : Cells.Net). queues (withNet (took w n p) s)) (sym (taken-is w n p))
-      ∙ queue-emptied w (took w n p) n p (firstAt w n p ∷ []) (r .port) (emptied-one w n p r)
-      ∙ ap (alter (queues w) (portNo n p)) (sym (ap tl (view-queue w n p (r .port) ∙ emptied-one w n p r .here)))
+      ∙ queue-emptied w (took w n p) n p (firstAt w n p ∷ []) (r .port) emptied
+      ∙ ap (alter (queues w) (portNo n p)) (sym (ap tl (view-queue w n p (r .port) ∙ emptied .here)))
+
+  left-line : linesOf (left w n p) ≡ moving w .line
+  left-line = lines-same w (left w n p) (emptied .tokens)
 
   leg-if : (b : Bool) (k : Leg) → outOf n (pick b (legOf Hops.Shut) k) ≡ pick b Shut (outOf n k)
   leg-if true k = refl
@@ -104,17 +114,17 @@ module _ (w : World) (n p : ℕ) (r : Holds w n p 1) where
   unfolding effect
   does-drops x e =
       record {
-        ok = (_, first-seen, out-seen (Hops.Dropped x) e);
-        is = ap moving (left-is w n p) ∙ net-as left-queue (left-out (Hops.Dropped x) e) refl refl refl refl;
+        ok = (_, first-seen w n p r, out-seen w n p r (Hops.Dropped x) e);
+        is = ap moving (left-is w n p) ∙ net-as left-queue (left-out (Hops.Dropped x) e) refl refl refl left-line;
       }
 
 -- WHAT THE VIEW DOES NOT SEE of a handing: claims, tile links, buffers
 module _ (s : Cells.Net) (n c : ℕ) where
   pub alike-claimed : (x : Peer) → Alike s (claimedBy s n c x)
-  alike-claimed x = alike-pick (eqb c sink) (alike-all s) (alike refl refl refl refl refl)
+  alike-claimed x = alike-pick (eqb c sink) (alike-all s) (alike refl refl refl refl refl refl)
 
   pub alike-handed : (x : ℕ) → Alike s (handed s n c x)
-  alike-handed x = alike-pick (eqb c sink) (alike-all s) (alike refl refl refl refl refl)
+  alike-handed x = alike-pick (eqb c sink) (alike-all s) (alike refl refl refl refl refl refl)
 
 alike-shut : {s z : Cells.Net} (n p : ℕ) → Alike s z → Alike (shut s n p) (shut z n p)
 alike-shut {s} {z} n p a =
@@ -124,6 +134,7 @@ alike-shut {s} {z} n p a =
       users = a .users;
       cables = a .cables;
       sendings = a .sendings;
+      lines = a .lines;
     }
   where
     shutIn : Cells.PortTables → Cells.PortTables
@@ -140,12 +151,12 @@ alike-closed : (b : Bool) (s : Cells.Net) (n p c t x : ℕ)
     (pick b (claimedBy (tiledTo (shut (handed s n c x) n p) n t Peers.Nobody) n c Peers.Nobody) (handed s n c x))
 alike-closed true s n p c t x =
     let z = shut (handed s n c x) n p in
-    let tiled : Alike z (tiledTo z n t Peers.Nobody) = alike refl refl refl refl refl in
+    let tiled : Alike z (tiledTo z n t Peers.Nobody) = alike refl refl refl refl refl refl in
     alike-then (alike-shut n p (alike-handed s n c x)) (alike-then tiled (alike-claimed (tiledTo z n t Peers.Nobody) n c Peers.Nobody))
 alike-closed false s n p c t x = alike-handed s n c x
 
 -- A TOKEN HANDED
-module _ (w : World) (n p : ℕ) (r : Holds w n p 1) where
+module _ (w : World) (k : Kept w) (n p : ℕ) (r : Holds w n p 1) where
   -- whatever the moving does not see
   does-hand : (a : Place) (h : Hop) → hop (w .net) n p ≡ h → outBy n h ≡ Into a
       → (z : Cells.Net)
@@ -158,9 +169,9 @@ module _ (w : World) (n p : ℕ) (r : Holds w n p 1) where
         is =
             unseen (took w n p) _ z same
             ∙ ap moving (left-is w n p)
-            ∙ net-as (left-queue w n p r)
-            (left-out w n p r h e ∙ ap (λ (x : Out). alter (moving w .out) (portNo n p) (pick (closes (firstAt w n p)) Shut x)) to)
-            refl refl refl refl;
+            ∙ net-as (left-queue w k n p r)
+            (left-out w k n p r h e ∙ ap (λ (x : Out). alter (moving w .out) (portNo n p) (pick (closes (firstAt w n p)) Shut x)) to)
+            refl refl refl (left-line w k n p r);
       }
 
   pub does-hands : (c t : ℕ) → hop (w .net) n p ≡ Hops.Channel c t
@@ -173,20 +184,14 @@ module _ (w : World) (n p : ℕ) (r : Holds w n p 1) where
   pub does-listens : hop (w .net) n p ≡ Hops.Unit → closes (firstAt w n p) ≡ false
       → Does (Hands (portNo n p) ToUnit (firstAt w n p)) w (withNet (took w n p) (listens (took w n p .net) n (firstAt w n p)))
   does-listens e more =
-      does-hand ToUnit Hops.Unit e refl _ (rw more (alike refl refl refl refl refl))
+      does-hand ToUnit Hops.Unit e refl _ (rw more (alike refl refl refl refl refl refl))
 
   pub does-freed : hop (w .net) n p ≡ Hops.Unit → closes (firstAt w n p) ≡ true
       → Does (Hands (portNo n p) ToUnit (firstAt w n p)) w (withNet (took w n p) (closesUnit (took w n p .net) n p))
   does-freed e ends =
-      does-hand ToUnit Hops.Unit e refl _ (rw ends (alike refl refl refl refl refl))
+      does-hand ToUnit Hops.Unit e refl _ (rw ends (alike refl refl refl refl refl refl))
 
--- A TOKEN OVER A CABLE: on to the line, and off it
--- two events, one after the other
-pub record Both (u v : Event) (w z : World) : Type 0 where
-  pub first : Ok isLink (moving w) u
-  pub second : Ok isLink (effect u (moving w)) v
-  pub is : moving z ≡ effect v (effect u (moving w))
-
+-- A TOKEN THAT GOES ON A LINE
 user-if : (n p : ℕ) (b : Bool) (c : Circuit) → peerOf c ≡ Peers.Port p → useBy n (peerOf (userIf b c)) ≡ pick b Nobody (By (portNo n p))
 user-if n p true c e = refl
 user-if n p false c e = ap (useBy n) e
@@ -199,55 +204,32 @@ module _ (w : World) (k : Kept w) (n p l : ℕ) (m : Slot) (j : ℕ) (r : Holds 
   hl : l < links
   hl = link-there w k n p l m j r out leads has
 
-  cable-seen : moving w .cable (portNo n l) ≡ By (portNo (m .0) j)
-  cable-seen = view-cable w n l hl ∙ ap farEnd leads
+  -- behind the tokens that are on it, for which a credit is paid
+  sent-line : linesOf (sentOn w n p l) ≡ push (moving w .line) (portNo n l) x
+  sent-line =
+      let y = withNet (freed w n p l) (paidOne (freed w n p l .net) n l) in
+      let there : LineThere y n l = there-net refl refl (line-here w k n p l m j r out leads has) in
+      let word = plain w k n p l m j r out leads has in
+      let line = portNo n l in
+      let same : linesOf y ≡ moving w .line = left-line w k n p r in
+      let old : moving w .line line ≡ tokensOf (lineFrom y n l) =
+      ap (λ (f : ℕ → List ℕ). f line) (sym same) ∙ view-line y n l hl in
+      line-put y (sentOn w n p l) n l (tokensOf (lineFrom y n l) ++ (x ∷ [])) hl
+      (put-token y n l there x (line-room w k n p l m j r out leads has) (token-is x (word .0) (word .1)))
+      (put-tokens-away y n l there x)
+      ∙ ap (λ (f : ℕ → List ℕ). alter f line (tokensOf (lineFrom y n l) ++ (x ∷ []))) same
+      ∙ ap (λ (ts : List ℕ). alter (moving w .line) line (ts ++ (x ∷ []))) (sym old)
 
-  -- the token is taken, and the link freed
-  freed-seen : moving (freed w n p l) ≡ record {
-    queue = pop (moving w .queue) (portNo n p);
-    out = alter (moving w .out) (portNo n p) (pick (closes x) Shut (Via (portNo n l)));
-    user = alter (moving w .user) (portNo n l) (pick (closes x) Nobody (By (portNo n p)));
-    busy = moving w .busy;
-    cable = moving w .cable;
-    line = moving w .line;
-  }
-  freed-seen =
-      net-as (left-queue w n p r) (left-out w n p r (Hops.Out l) out)
-      (user-put n (w .net .links .users) l (userIf (closes x) (w .net .links .users n l)) hl
-      ∙ ap (alter (moving w .user) (portNo n l)) (user-if n p (closes x) (w .net .links .users n l) (by-port w k n p l m j r out leads has)))
-      refl refl refl
-
-  -- and put at the far end
-  there-seen : moving (putThere w n p l (m .0) j)
-      ≡ effect (Arrives (portNo n l) (portNo (m .0) j) x) (effect (Enters (portNo n p) (portNo n l) x) (moving w))
-  unfolding effect
-  there-seen =
-      let room = far-room w k n p l m j r out leads has in
-      filled-seen (freed w n p l) (putThere w n p l (m .0) j) (m .0) j (x ∷ []) (room .port) (filled-one (freed w n p l) (m .0) j x room)
-      ∙ ap (λ (v : Moving). record {
-        queue = push (v .queue) (portNo (m .0) j) x;
-        out = v .out;
-        user = v .user;
-        busy = v .busy;
-        cable = v .cable;
-        line = v .line;
-      }) freed-seen
-      ∙ net-as refl refl refl refl refl (sym (passes (moving w .line) (portNo n l) x refl))
-
-  alike-paid : (s : Cells.Net) → Alike s (considered (paid s n l) n l)
-  unfolding considered
-  alike-paid s = alike refl refl refl refl refl
-
-  pub does-movesOut : Both (Enters (portNo n p) (portNo n l) x) (Arrives (portNo n l) (portNo (m .0) j) x) w (movesOut w n p l)
-  unfolding effect
+  pub does-movesOut : Does (Enters (portNo n p) (portNo n l) x) w (movesOut w n p l)
+  unfolding effect putOn
   does-movesOut =
-      let z = putThere w n p l (m .0) j in
       record {
-        first = (_, first-seen w n p r, out-seen w n p r (Hops.Out l) out, (_, cable-seen));
-        second = ([], alter-same (moving w .line) (portNo n l) (x ∷ []), cable-seen);
+        ok = (_, first-seen w n p r, out-seen w n p r (Hops.Out l) out, (_, view-cable w n l hl ∙ ap farEnd leads));
         is =
-            ap (λ (y : World). moving (crosses y n l x)) (freed-is w n p l)
-            ∙ ap moving (crosses-as (freed w n p l) n l x m j leads)
-            ∙ unseen z (z .net) _ (alike-paid (z .net))
-            ∙ there-seen;
+            ap moving (moves-is w n p l)
+            ∙ net-as (left-queue w k n p r) (left-out w k n p r (Hops.Out l) out)
+            (user-put n (w .net .links .users) l (userIf (closes x) (w .net .links .users n l)) hl
+            ∙ ap (alter (moving w .user) (portNo n l))
+            (user-if n p (closes x) (w .net .links .users n l) (by-port w k n p l m j r out leads has)))
+            refl refl sent-line;
       }

@@ -1,7 +1,7 @@
 -- THE OBSERVER WRITES WHAT THE EVENTS ARE: for each call, what he writes who sees the state before it, the call and its answer, is what the
 -- proof's observer notes of its events. Assumes nothing.
 use Prim.Native.Nat.{ℕ}
-use mathlib.Core.Path.{_≡_, refl, sym, ap, _∙_}
+use mathlib.Core.Path.{_≡_, refl, sym, _∙_}
 use mathlib.Core.Bool.{false}
 use mathlib.Core.List.{List, [], _∷_, _++_}
 use lib.ListN.{take}
@@ -9,7 +9,6 @@ use Rattle.laws.specs.Pick.{pick}
 use Rattle.laws.proofs.Order.{by-test, clash}
 use Rattle.names.specs.Size.{replyPort}
 use Rattle.names.specs.declared.NodeNumber.{NodeNumber}
-use Rattle.names.specs.declared.Slot.{Slot}
 use Rattle.circuits.specs.Circuit.{peerOf}
 use Rattle.circuits.specs.declared.Hop.the-variants as Hops
 use Rattle.tokens.specs.Control.{end}
@@ -25,11 +24,14 @@ use Rattle.answers.specs.declared.Answer.{Answer}
 use Rattle.answers.specs.declared.Answer.the-variants as Answers
 use Rattle.answers.proofs.Refusals.{passed}
 use Rattle.cells.specs.World.{World, farOf, queue}
-use Rattle.cells.specs.declared.link.Far.the-variants.{At}
-use Rattle.acts.specs.Acts.{withNet, widthAt, numberAt, firstAt}
+use Rattle.cells.specs.declared.link.Far.{Far}
+use Rattle.cells.specs.declared.link.Far.the-variants.{Nowhere, At}
+use Rattle.acts.specs.Acts.{widthAt, numberAt, firstAt}
+use Rattle.lines.specs.Load.{isToken}
+use Rattle.travel.specs.Travel.{firstOn, lineEmpty, cameBy, lineCame}
 use Rattle.plans.specs.Plan.{sizeOf}
 use Rattle.plans.specs.declared.Plan as Steps
-use Rattle.plans.specs.declared.Plan.the-variants.{MoveOut, Hear}
+use Rattle.plans.specs.declared.Plan.the-variants.{Hear}
 use Rattle.messages.specs.Register.{fieldsOf, readOf}
 use Rattle.messages.specs.Heard.{messageOf}
 use Rattle.messages.specs.Write.{accepted, written}
@@ -42,25 +44,21 @@ use Rattle.ends.specs.Plan.{targetOf}
 use Rattle.ends.specs.Output.{wordOf, isNarrowPlan, isFullPlan}
 use Rattle.ends.specs.declared.plan.Plan as Sents
 use Rattle.switch.specs.Step.{stepPerformed}
-use Rattle.bench.specs.Calls.{Call, Begin, Wire, Set, Aim, Output, Input, Step, Steps, rows, made, apply}
+use Rattle.bench.specs.Calls.{Call, Begin, Wire, Set, Aim, Output, Input, Step, Line, Steps, cameAnswer, rows, made, apply}
 use Rattle.bench.specs.Writes.{hopClosed}
 use Rattle.kept.specs.Kept.{Kept}
 use Rattle.kept.proofs.Found.{Ours, Going, Found, idle, waits, splits, unrouted, routes, landsChannel, landsUnit, step-found}
 use Rattle.kept.proofs.Found.{moves, hands, hears, drops}
 use Rattle.kept.proofs.Chosen as Chosen
 use Rattle.kept.proofs.Calls.{output-sender, step-there}
-use Rattle.streams.specs.Model.{hd, push, Place, ToChannel, ToUnit, portNo, doorNo, unitDoor, isLink, Cell, Books, Notes}
+use Rattle.streams.specs.Model.{Place, ToChannel, ToUnit, portNo, doorNo, unitDoor, Books, Notes}
 use Rattle.streams.specs.Events.{Opens, Lands, Hands, Ghost, booksOf, note, notes}
 use Rattle.streams.specs.Observer.{putAll, landed, writeThrough, writeWay, writeFirst, writeOutput}
-use Rattle.streams.specs.Observer.{writeReply, writeObeyed, writeStep, write, anew}
-use Rattle.streams.specs.View.{moving}
-use Rattle.streams.proofs.Basics.{alter-same, passes}
-use Rattle.streams.proofs.Inv.{Inv}
-use Rattle.streams.proofs.Machine.{line-tokens, no-cells}
+use Rattle.streams.specs.Observer.{writeReply, writeObeyed, writeStep, writeLine, write, anew}
 use Rattle.streams.proofs.Fronts.{reads}
 use Rattle.streams.proofs.Sends.{putEach}
 use Rattle.streams.proofs.Noted.{AimsNoted}
-use Rattle.streams.proofs.Calls.{replyEvents, obeyEvents, stepEvents, outputEvents, madeEvents, eventsOf}
+use Rattle.streams.proofs.Calls.{replyEvents, obeyEvents, stepEvents, lineEvents, outputEvents, madeEvents, eventsOf}
 use Rattle.streams.proofs.Calls.{done, isList, noEvent, is-event}
 
 -- tokens put one by one
@@ -119,10 +117,10 @@ obey-agrees w n (Wrong g) k write malformed unheard sent = reply-agrees w n k wr
 obey-agrees w n (Read g r) k write malformed unheard sent = reply-agrees w n k write unheard g (Value (readOf (w .net) n r)) sent
 obey-agrees w n (Write g r v) k write malformed unheard sent =
     let xs = fieldsOf r v in
-    reply-agrees (withNet w (written (w .net) n xs)) n k write unheard g (pick (accepted (w .net) n xs) Ack Nack) sent
+    reply-agrees (written w n xs) n k write unheard g (pick (accepted w n xs) Ack Nack) sent
 
 -- STEP
-module _ (w : World) (k : Kept w) (n p : ℕ) (g : Ghost) (iv : Inv isLink (moving w) g) where
+module _ (w : World) (k : Kept w) (n p : ℕ) (g : Ghost) where
   abbrev Agrees : Steps.Plan → Type 0
   Agrees x = writeStep w n p (stepPerformed w n p x .answer) (booksOf g) ≡ booksOf (notes (stepEvents w n p x) g)
 
@@ -135,19 +133,6 @@ module _ (w : World) (k : Kept w) (n p : ℕ) (g : Ghost) (iv : Inv isLink (movi
       rw e (obey-agrees y n (messageOf (y .net .units .hearings n 0) (firstAt w n p)) (note (Hands (portNo n p) ToUnit (firstAt w n p)) g)
       (λ a. writeStep w n p a (booksOf g)) refl refl (rw (z .goes, e))))
       (λ e. rw (e, z .goes, e))
-
-  -- over a cable: the line is empty
-  cross-agrees : (l : ℕ) → Going w n p (Hops.Out l) → (m : Slot) (j : ℕ) → farOf (w .net .links .cables n l) ≡ At m j
-      → Agrees (MoveOut l)
-  unfolding note
-  cross-agrees l z m j leads =
-      let y = hd (g .cells (portNo n p)) in
-      let line = portNo n l in
-      let none : g .on line ≡ [] = no-cells (g .on line) (line-tokens isLink (moving w) g iv line) in
-      let only : push (g .on) line y line ≡ y ∷ [] =
-      alter-same (g .on) line (g .on line ++ (y ∷ [])) ∙ ap (λ (cs : List Cell). cs ++ (y ∷ [])) none in
-      let first : hd (push (g .on) line y line) ≡ y = ap hd only in
-      rw (z .goes, leads) (sym (rw (first, passes (g .on) line y none)))
 
   lands-agrees : Ours w n p → (a : Place)
       → let x = widthAt (w .net) n in
@@ -165,13 +150,28 @@ module _ (w : World) (k : Kept w) (n p : ℕ) (g : Ghost) (iv : Inv isLink (movi
   step-agrees (routes z l hl free on) = refl
   step-agrees (landsChannel z m c t named door there tile claim) = lands-agrees z (ToChannel c)
   step-agrees (landsUnit z m named free empty) = lands-agrees z ToUnit
-  step-agrees (moves l z m j leads credit) = cross-agrees l z m j leads
+  step-agrees (moves l z m j leads credit) = rw (z .goes)
   step-agrees (hands c t z given) = rw (z .goes)
   step-agrees (hears z) = hear-agrees z
   step-agrees (drops x z) = refl
 
+-- A LINE STEP: he sees by the word what it is
+line-agrees : (w : World) (n l : ℕ) (g : Ghost)
+    → writeLine w n l (cameAnswer (lineCame w n l)) (booksOf g)
+    ≡ booksOf (notes (lineEvents w n l (farOf (w .net .links .cables n l))) g)
+unfolding note lineCame
+line-agrees w n l g = by-far (farOf (w .net .links .cables n l)) refl
+  where
+    by-far : (f : Far) → farOf (w .net .links .cables n l) ≡ f
+        → writeLine w n l (cameAnswer (cameBy w n l f)) (booksOf g) ≡ booksOf (notes (lineEvents w n l f) g)
+    by-far Nowhere e = refl
+    by-far (At m j) e =
+        by-test (lineEmpty w n l)
+        (λ none. rw none)
+        (λ some. rw (some, e) (by-test (isToken (firstOn w n l)) (λ t. rw t) (λ t. rw t)))
+
 -- EVERY CALL; a channel-end that is aimed is aimed where the notes say
-module _ (w : World) (k : Kept w) (g : Ghost) (iv : Inv isLink (moving w) g) (o : Notes) (aims : AimsNoted w o) where
+module _ (w : World) (k : Kept w) (g : Ghost) (o : Notes) (aims : AimsNoted w o) where
   made-agrees : (c : Call) → Passes (rows w c) → noEvent c ≡ false
       → write o w c (made w c .answer) (booksOf g) ≡ booksOf (notes (madeEvents w c) g)
   unfolding note
@@ -187,7 +187,8 @@ module _ (w : World) (k : Kept w) (g : Ghost) (iv : Inv isLink (moving w) g) (o 
   made-agrees (Input a c x) p e = refl
   made-agrees (Step a p) q e =
       let there = step-there w (a .0) p (q .1) in
-      step-agrees w k (a .0) p g iv (step-found w k (a .0) p (there .0) (there .1))
+      step-agrees w k (a .0) p g (step-found w k (a .0) p (there .0) (there .1))
+  made-agrees (Line a l) p e = line-agrees w (a .0) l g
   made-agrees (Steps n xs) p e = clash e
 
   refused-agrees : (c : Call) (r : ℕ) → write o w c (Answers.No r) (booksOf g) ≡ booksOf g
@@ -198,6 +199,7 @@ module _ (w : World) (k : Kept w) (g : Ghost) (iv : Inv isLink (moving w) g) (o 
   refused-agrees (Output a c x) r = refl
   refused-agrees (Input a c x) r = refl
   refused-agrees (Step a p) r = refl
+  refused-agrees (Line a l) r = refl
   refused-agrees (Steps n xs) r = refl
 
   pub call-agrees : (c : Call) → isList c ≡ false → anew w c ≡ false

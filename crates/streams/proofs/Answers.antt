@@ -23,7 +23,7 @@ use Rattle.answers.proofs.Refusals.{passed}
 use Rattle.cells.specs.World.{World}
 use Rattle.fresh.specs.Fresh.{startOf}
 use Rattle.fresh.specs.declared.Start.{Start}
-use Rattle.acts.specs.Acts.{withNet, widthAt, firstAt}
+use Rattle.acts.specs.Acts.{widthAt, firstAt}
 use Rattle.plans.specs.declared.Plan.{Plan}
 use Rattle.messages.specs.Register.{fieldsOf, readOf}
 use Rattle.messages.specs.Heard.{messageOf}
@@ -71,7 +71,7 @@ obey-answers w n Malformed z = never (cc)
 obey-answers w n (Wrong g) z = reply-answers w n g Nack z
 obey-answers w n (Read g r) z = reply-answers w n g (Value (readOf (w .net) n r)) z
 obey-answers w n (Write g r v) z =
-    reply-answers (withNet w (written (w .net) n (fieldsOf r v))) n g (pick (accepted (w .net) n (fieldsOf r v)) Ack Nack) z
+    reply-answers (written w n (fieldsOf r v)) n g (pick (accepted w n (fieldsOf r v)) Ack Nack) z
 
 module _ (w : World) (n p : ℕ) (hn : n < w .net .nodes) (hp : p < ports) where
   found-answers : {x : Plan} → Found w n p x → Same (stepPerformed w n p x .answer) w n p

@@ -17,7 +17,7 @@ use Rattle.laws.specs.Pick.{pick}
 use Rattle.laws.proofs.Order.{by-test, never}
 use Rattle.names.specs.declared.NodeNumber.{NodeNumber}
 use Rattle.tokens.specs.Word.{closes}
-use Rattle.streams.specs.Model.{Plain, Via, Nobody, By, Through, Cell, Landed, Here, alter, tl, pop, push, pushAll, cellsOf}
+use Rattle.streams.specs.Model.{Plain, Via, Nobody, By, Through, Cell, Landed, Here, alter, pushAll, cellsOf}
 use Rattle.streams.specs.Events.{Cursor, Idle, At, next, headTo}
 use Rattle.streams.specs.Demand.{tokensOf}
 
@@ -57,15 +57,6 @@ alter-own f i a e =
     fun-ext (λ j. elim (ℕ-discrete j i) [
       | yes d ↦ alter-hit f i a j d ∙ sym e ∙ ap f (sym d)
       | no d ↦ alter-miss f i a j d
-    ])
-
--- what is put at the back of an empty list and taken off its front
-pub passes : {A : Type 0} (f : ℕ → List A) (l : ℕ) (x : A) → f l ≡ [] → pop (push f l x) l ≡ f
-passes f l x e =
-    let q : push f l x l ≡ x ∷ [] = alter-same f l (f l ++ (x ∷ [])) ∙ rw e in
-    fun-ext (λ j. elim (ℕ-discrete j l) [
-      | yes d ↦ alter-hit (push f l x) l (tl (push f l x l)) j d ∙ ap tl q ∙ sym e ∙ ap f (sym d)
-      | no ne ↦ alter-miss (push f l x) l (tl (push f l x l)) j ne ∙ alter-miss f l (f l ++ (x ∷ [])) j ne
     ])
 
 -- what is put at the back of one list of a table

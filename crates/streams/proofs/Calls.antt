@@ -9,9 +9,10 @@ use native.Mathlib.Omega.{arith}
 use lib.Arith.{digits-mod}
 use lib.Dec.{eqb, ltb}
 use lib.ListN.{take}
-use borrow.Author.Tests.{lt-ltb}
+use borrow.Author.Tests.{eqb-false, lt-ltb, not-false}
 use Rattle.laws.specs.Pick.{pick}
 use Rattle.laws.specs.Table as Two
+use Rattle.laws.proofs.All.{also, below}
 use Rattle.laws.proofs.Order.{by-test, clash}
 use Rattle.names.specs.Size.{links, ports, ends, replyPort}
 use Rattle.names.specs.No.{passes}
@@ -26,6 +27,7 @@ use Rattle.tokens.specs.Header.{Carried, headerOf, isNarrow}
 use Rattle.tokens.specs.declared.header.Target.{Target}
 use Rattle.answers.specs.Rows.{refusal, Passes}
 use Rattle.answers.proofs.Refusals.{passed}
+use Rattle.lines.specs.Load.{isHello, creditOf, isToken, tokensOf}
 use Rattle.cells.specs.View as Cells
 use Rattle.cells.specs.World.{World, farOf, queue}
 use Rattle.cells.specs.declared.link.Far.{Far}
@@ -34,6 +36,10 @@ use Rattle.fresh.specs.Fresh.{startOf}
 use Rattle.fresh.specs.declared.Start.{Start}
 use Rattle.acts.specs.Acts.{withNet, widthAt, numberAt, wordAt, firstAt}
 use Rattle.acts.specs.Needs.{Holds}
+use Rattle.travel.specs.Travel.{firstOn, lineEmpty, leftBy, lineStepped}
+use Rattle.travel.proofs.Loads.{line-none}
+use Rattle.travel.proofs.Stepped.{positive}
+use Rattle.travel.proofs.Tokens.{token-is, credit-none, hello-none}
 use Rattle.plans.specs.Plan.{markedWidth, sizeOf, stepPlan}
 use Rattle.plans.proofs.Held.{size-some}
 use Rattle.plans.specs.declared.Plan.{Plan}
@@ -46,10 +52,7 @@ use Rattle.messages.specs.declared.heard.Message.{Message}
 use Rattle.messages.specs.declared.heard.Message.the-variants.{Malformed, Wrong, Read, Write}
 use Rattle.messages.specs.declared.reply.Reply.{Reply}
 use Rattle.messages.specs.declared.reply.Reply.the-variants.{Nack, Ack, Value}
-use Rattle.messages.proofs.Writes.{write-leaves}
 use Rattle.settings.specs.Wire.{cableTo, wired}
-use Rattle.settings.specs.Set.{setMade}
-use Rattle.settings.proofs.Leaves.{Leaves, setting-leaves}
 use Rattle.ends.specs.Aim.{aimMade}
 use Rattle.ends.specs.Input.{inputMade}
 use Rattle.ends.specs.Plan.{targetOf, lowestFree, outputPlan}
@@ -57,7 +60,7 @@ use Rattle.ends.specs.Output.{wordOf, outputPerformed}
 use Rattle.ends.specs.declared.plan.Plan as SentPlans
 use Rattle.ends.specs.declared.plan.Plan.the-variants as Sent
 use Rattle.switch.specs.Step.{stepPerformed}
-use Rattle.bench.specs.Calls.{Call, Begin, Wire, Set, Aim, Output, Input, Step, Steps, rows, made, apply}
+use Rattle.bench.specs.Calls.{Call, Begin, Wire, Set, Aim, Output, Input, Step, Line, Steps, lineRows, rows, made, apply}
 use Rattle.bench.specs.Writes.{hopClosed}
 use Rattle.kept.specs.Kept.{Kept}
 use Rattle.kept.proofs.Opens.{Headed}
@@ -81,29 +84,27 @@ use Rattle.streams.specs.Observer.{anew}
 use Rattle.streams.specs.View.{moving, farEnd}
 use Rattle.streams.proofs.Machine.{Leads, leads-append}
 use Rattle.streams.proofs.View.{net-as, cable-put, view-cable, Alike, alike, unseen}
-use Rattle.streams.proofs.Acts.{Does, Both, does-opensOut, does-refused, does-drops, does-hands, does-listens, does-freed}
+use Rattle.streams.proofs.Acts.{Does, does-opensOut, does-refused, does-drops, does-hands, does-listens, does-freed}
 use Rattle.streams.proofs.Acts.{does-movesOut}
 use Rattle.streams.proofs.Lands.{does-landsChannel, does-landsUnit}
+use Rattle.streams.proofs.Arrivals.{credit-seen, hello-seen, does-arrives}
+use Rattle.streams.proofs.Settings.{set-seen, written-seen}
 use Rattle.streams.proofs.Sends.{putEach}
 use Rattle.streams.proofs.Outputs.{carried, does-opensBy, does-behind, does-starts, does-goesOn, does-reply}
 
--- no event, one, two
+-- no event, one
 pub leads-none : (n : Moving) → Leads isLink [] n n
 leads-none n = record { view = refl; ok = tt }
 
 leads-one : {v : Event} {w z : World} → Does v w z → Leads isLink (v ∷ []) (moving w) (moving z)
 leads-one d = record { view = d .is; ok = (d .ok, tt) }
 
-leads-both : {u v : Event} {w z : World} → Both u v w z → Leads isLink (u ∷ v ∷ []) (moving w) (moving z)
-leads-both d = record { view = d .is; ok = (d .first, (d .second, tt)) }
-
 -- what the view does not see is no event
-leads-unseen : (w : World) (s : Cells.Net) → Alike (w .net) s → Leads isLink [] (moving w) (moving (withNet w s))
-leads-unseen w s a = record { view = unseen w (w .net) s a; ok = tt }
+leads-same : {n n′ : Moving} → n′ ≡ n → Leads isLink [] n n′
+leads-same e = record { view = e; ok = tt }
 
--- no Set is an event
-set-alike : {s z : Cells.Net} → Leaves s z → Alike s z
-set-alike l = alike (l .nodes) (l .ports) (l .users) (l .cables) (ap (λ (t : Cells.EndTables). t .sendings) (l .ends))
+leads-unseen : (w : World) (s : Cells.Net) → Alike (w .net) s → Leads isLink [] (moving w) (moving (withNet w s))
+leads-unseen w s a = leads-same (unseen w (w .net) s a)
 
 -- A REPLY
 abbrev pub replyEvents : World → ℕ → Target → Reply → List Event
@@ -117,7 +118,7 @@ obeyEvents w n Malformed = []
 obeyEvents w n (Wrong g) = replyEvents w n g Nack
 obeyEvents w n (Read g r) = replyEvents w n g (Value (readOf (w .net) n r))
 obeyEvents w n (Write g r v) =
-    replyEvents (withNet w (written (w .net) n (fieldsOf r v))) n g (pick (accepted (w .net) n (fieldsOf r v)) Ack Nack)
+    replyEvents (written w n (fieldsOf r v)) n g (pick (accepted w n (fieldsOf r v)) Ack Nack)
 
 reply-leads : (w : World) → Kept w → (n : ℕ) → Ready w n → (g : Target) → Address g → (x : Reply)
     → Leads isLink (replyEvents w n g x) (moving w) (moving (replySent w n g x .next))
@@ -133,17 +134,13 @@ obey-leads w k n z (Wrong g) a = reply-leads w k n z g a Nack
 obey-leads w k n z (Read g r) a = reply-leads w k n z g a (Value (readOf (w .net) n r))
 obey-leads w k n z (Write g r v) a =
     let xs = fieldsOf r v in
-    let y = withNet w (written (w .net) n xs) in
-    let r = reply-leads y (keep-written w k n xs) n (ready-written w n z xs) g a (pick (accepted (w .net) n xs) Ack Nack) in
-    leads-append isLink [] _ (moving w) (moving y) _ (leads-unseen w (y .net) (set-alike (write-leaves (w .net) n xs))) r
+    let y = written w n xs in
+    let r = reply-leads y (keep-written w k n xs) n (ready-written w n z xs) g a (pick (accepted w n xs) Ack Nack) in
+    leads-append isLink [] _ (moving w) (moving y) _ (leads-same (written-seen w k n xs)) r
 
 -- A STEP, by its plan
 abbrev pub endEvents : World → ℕ → ℕ → List Event
 endEvents w n x = obeyEvents w n (messageOf (w .net .units .hearings n 0) x)
-
-abbrev pub crossEvents : ℕ → ℕ → ℕ → ℕ → Far → List Event
-crossEvents n p l x Nowhere = []
-crossEvents n p l x (At m j) = Enters (portNo n p) (portNo n l) x ∷ Arrives (portNo n l) (portNo (m .0) j) x ∷ []
 
 abbrev pub stepEvents : World → ℕ → ℕ → Plan → List Event
 stepEvents w n p Idle = []
@@ -154,7 +151,7 @@ stepEvents w n p (OpenChannel c t) =
 stepEvents w n p OpenUnit =
     Lands (portNo n p) (widthAt (w .net) n) (take (sizeOf (widthAt (w .net) n)) (queue w n p)) ToUnit (numberAt (w .net) n) ∷ []
 stepEvents w n p (Refuse x) = Refuses (portNo n p) x ∷ []
-stepEvents w n p (MoveOut l) = crossEvents n p l (firstAt w n p) (farOf (w .net .links .cables n l))
+stepEvents w n p (MoveOut l) = Enters (portNo n p) (portNo n l) (firstAt w n p) ∷ []
 stepEvents w n p (Hand c t) = Hands (portNo n p) (ToChannel c) (firstAt w n p) ∷ []
 stepEvents w n p Hear =
     Hands (portNo n p) ToUnit (firstAt w n p) ∷ pick (closes (firstAt w n p)) (endEvents (hopClosed w n p) n (firstAt w n p)) []
@@ -178,9 +175,9 @@ module _ (w : World) (k : Kept w) (n p : ℕ) where
       let free = keep-freed w k n p (g .holds) (g .goes) e in
       let ready = ready-after w k n p (g .holds) (g .goes) e in
       rw e (leads-append isLink (Hands (portNo n p) ToUnit x ∷ []) _ (moving w) (moving y) _
-      (leads-one (does-freed w n p (g .holds) (g .goes) e))
+      (leads-one (does-freed w k n p (g .holds) (g .goes) e))
       (obey-leads y free n ready (messageOf h x) (replied h x))))
-      (λ e. rw e (leads-one (does-listens w n p (g .holds) (g .goes) e)))
+      (λ e. rw e (leads-one (does-listens w k n p (g .holds) (g .goes) e)))
 
   step-leads : {x : Plan} → Found w n p x → StepLeads x
   step-leads (idle none) = leads-none (moving w)
@@ -190,10 +187,47 @@ module _ (w : World) (k : Kept w) (n p : ℕ) where
   step-leads (routes z l hl free on) = leads-one (does-opensOut w n p (headed-holds (z .headed)) l (z .headed .shut) hl free)
   step-leads (landsChannel z m c t named door there tile claim) = leads-one (does-landsChannel w k n p z m c t named)
   step-leads (landsUnit z m named free empty) = leads-one (does-landsUnit w k n p z m named)
-  step-leads (moves l g m j leads credit) = rw leads (leads-both (does-movesOut w k n p l m j (g .holds) (g .goes) leads credit))
-  step-leads (hands c t g given) = leads-one (does-hands w n p (g .holds) c t (g .goes))
+  step-leads (moves l g m j leads credit) = leads-one (does-movesOut w k n p l m j (g .holds) (g .goes) leads credit)
+  step-leads (hands c t g given) = leads-one (does-hands w k n p (g .holds) c t (g .goes))
   step-leads (hears g) = hear-leads g
-  step-leads (drops x g) = leads-one (does-drops w n p (g .holds) x (g .goes))
+  step-leads (drops x g) = leads-one (does-drops w k n p (g .holds) x (g .goes))
+
+-- A LINE STEP: a token arrives, or what the view does not see
+abbrev pub arrivalEvents : ℕ → ℕ → ℕ → ℕ → ℕ → List Event
+arrivalEvents n l m j x = pick (isToken x) (Arrives (portNo n l) (portNo m j) x ∷ []) []
+
+abbrev pub lineEvents : World → ℕ → ℕ → Far → List Event
+lineEvents w n l Nowhere = []
+lineEvents w n l (At m j) = pick (lineEmpty w n l) [] (arrivalEvents n l (m .0) j (firstOn w n l))
+
+-- what holds of no event and of an arrival holds of them
+pub line-case : (P : List Event → Type 0) (w : World) (n l : ℕ) → P [] → ((m j x : ℕ) → P (Arrives (portNo n l) (portNo m j) x ∷ []))
+    → (f : Far)
+    → P (lineEvents w n l f)
+line-case P w n l none one Nowhere = none
+line-case P w n l none one (At m j) =
+    by-test (lineEmpty w n l)
+    (λ e. rw e none)
+    (λ e. rw e (by-test (isToken (firstOn w n l)) (λ t. rw t (one (m .0) j (firstOn w n l))) (λ t. rw t none)))
+
+line-leads : (w : World) → Kept w → (n l : ℕ) → n < w .net .nodes → l < links
+    → Leads isLink (lineEvents w n l (farOf (w .net .links .cables n l))) (moving w) (moving (lineStepped w n l))
+unfolding lineStepped
+line-leads w k n l hn hl = by-far (farOf (w .net .links .cables n l)) refl
+  where
+    by-far : (f : Far) → farOf (w .net .links .cables n l) ≡ f → Leads isLink (lineEvents w n l f) (moving w) (moving (leftBy w n l f))
+    by-far Nowhere e = leads-none (moving w)
+    by-far (At m j) e =
+        let x = firstOn w n l in
+        by-test (lineEmpty w n l)
+        (λ none. rw none (leads-none (moving w)))
+        (λ some.
+        let held = positive (w .net .lines .rings n l .held) (eqb-false _ 0 some) in
+        rw some (by-test (isHello x)
+        (λ said. rw (said, hello-none x said) (leads-same (hello-seen w k n l hn hl m j e held said)))
+        (λ plain. by-test (eqb (creditOf x) 0)
+        (λ token. rw (plain, token, token-is x plain token) (leads-one (does-arrives w k n l hn hl m j e held plain token)))
+        (λ credit. rw (plain, credit, credit-none x plain credit) (leads-same (credit-seen w k n l hn hl m j e held plain credit))))))
 
 -- AN OUTPUT, by its plan; straight to a channel, the first token opens the circuit
 abbrev pub straightEvents : World → ℕ → ℕ → Target → ℕ → ℕ → Peer → List Event
@@ -274,6 +308,7 @@ isStart (Aim a c g v) = false
 isStart (Output a c x) = false
 isStart (Input a c x) = false
 isStart (Step a p) = false
+isStart (Line a l) = false
 isStart (Steps n xs) = false
 
 -- a list of steps, which is its Steps and no event of its own
@@ -285,11 +320,16 @@ isList (Aim a c g v) = false
 isList (Output a c x) = false
 isList (Input a c x) = false
 isList (Step a p) = false
+isList (Line a l) = false
 isList (Steps n xs) = true
 
 -- what is no event: a start opens new books
 abbrev pub noEvent : Call → Bool
 noEvent c = isStart c || isList c
+
+-- the link of a line step
+line-at : (w : World) (n l : ℕ) → Passes (lineRows (w .net) n l) → (n < w .net .nodes) × (l < links)
+line-at w n l p = also (below n (w .net .nodes)) (below l links) .sure (not-false _ (p .0))
 
 abbrev pub madeEvents : World → Call → List Event
 madeEvents w (Begin s n) = []
@@ -301,6 +341,7 @@ madeEvents w (Output a c x) =
     outputEvents w (a .0) c g (wordOf x) (outputPlan (w .net) (a .0) c g (wordOf x))
 madeEvents w (Input a c x) = []
 madeEvents w (Step a p) = stepEvents w (a .0) p (stepPlan w (a .0) p)
+madeEvents w (Line a l) = lineEvents w (a .0) l (farOf (w .net .links .cables (a .0) l))
 madeEvents w (Steps n xs) = []
 
 module _ (w : World) (k : Kept w) where
@@ -309,15 +350,18 @@ module _ (w : World) (k : Kept w) where
   made-leads (Wire a l b j) p e =
       let (x, y, off) = wire-ends w (a .0) l (b .0) j (p .1) in
       wire-leads w k (a .0) l (b .0) j x y off
-  made-leads (Set a x) p e = leads-unseen w (setMade (w .net) (a .0) x) (set-alike (setting-leaves (w .net) (a .0) x))
-  made-leads (Aim a c g v) p e = leads-unseen w (aimMade (w .net) (a .0) c g v) (alike refl refl refl refl refl)
+  made-leads (Set a x) p e = leads-same (set-seen w k (a .0) x (p .1))
+  made-leads (Aim a c g v) p e = leads-unseen w (aimMade (w .net) (a .0) c g v) (alike refl refl refl refl refl refl)
   made-leads (Output a c x) p e =
       let s = output-sender w (a .0) c x (p .1) in
       output-leads w k (a .0) c (wordOf x) s (Chosen.output-found w k (a .0) c (wordOf x) s)
-  made-leads (Input a c x) p e = leads-unseen w (inputMade (w .net) (a .0) c) (alike refl refl refl refl refl)
+  made-leads (Input a c x) p e = leads-unseen w (inputMade (w .net) (a .0) c) (alike refl refl refl refl refl refl)
   made-leads (Step a p) q e =
       let there = step-there w (a .0) p (q .1) in
       step-leads w k (a .0) p (step-found w k (a .0) p (there .0) (there .1))
+  made-leads (Line a l) p e =
+      let there = line-at w (a .0) l (p .1) in
+      line-leads w k (a .0) l (there .0) (there .1)
   made-leads (Steps n xs) p e = clash e
 
 -- EVERY CALL
@@ -334,6 +378,7 @@ anew-done w (Aim a c g v) = refl
 anew-done w (Output a c x) = refl
 anew-done w (Input a c x) = refl
 anew-done w (Step a p) = refl
+anew-done w (Line a l) = refl
 anew-done w (Steps n xs) = refl
 
 pub is-event : (w : World) (c : Call) → isList c ≡ false → done w c ≡ true → anew w c ≡ false → noEvent c ≡ false
@@ -357,6 +402,7 @@ anew-case P h w c e = go c (sym (anew-done w c) ∙ e)
     go (Output a c x) f = clash (sym f)
     go (Input a c x) f = clash (sym f)
     go (Step a p) f = clash (sym f)
+    go (Line a l) f = clash (sym f)
     go (Steps n xs) f = clash (sym f)
 
 pub call-leads : (w : World) → Kept w → (c : Call) → isList c ≡ false → anew w c ≡ false
@@ -376,7 +422,9 @@ unfolding empty
 start-view s n =
     net-as (fun-ext (λ j. nothing-held (startOf s n) (j / ports) (j % ports) refl)) refl
     (fun-ext (λ l. either (ltb (l % ports) links) Nobody)) (fun-ext (λ d. either (ltb (d % doorsEach) ends) Closed))
-    (fun-ext (λ l. either (ltb (l % ports) links) Nobody)) refl
+    (fun-ext (λ l. either (ltb (l % ports) links) Nobody))
+    (fun-ext (λ l. ap (λ (q : List ℕ). pick (ltb (l % ports) links) (tokensOf q) []) (line-none (startOf s n) (l / ports) (l % ports) refl)
+    ∙ either (ltb (l % ports) links) []))
 
 pub start-seen : (w : World) (c : Call) → anew w c ≡ true → moving (apply w c .next) ≡ empty
 start-seen = anew-case (λ z. moving z ≡ empty) start-view

@@ -58,7 +58,7 @@ module _ (s : Start) (n : ℕ) (some : 1 ≤ n) (few : n ≤ nodes) where
         tied-first = tied-start s n;
         tied-anew = λ w c. tied-anew w (c .call);
         tied-call = λ w g c o k t e. tied-call w (k .sane) g (k .inv) o t (c .call) (c .lone) e;
-        agrees = λ w g c o k t e. call-agrees w (k .sane) g (k .inv) o (t .aims) (c .call) (c .lone) e;
+        agrees = λ w g c o k t e. call-agrees w (k .sane) g o (t .aims) (c .call) (c .lone) e;
       }
 
   abbrev reading : Reading isLink machine

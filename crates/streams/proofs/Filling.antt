@@ -18,7 +18,7 @@ use Rattle.tokens.specs.declared.header.Target.{Target}
 use Rattle.tokens.specs.declared.header.Width.{Width}
 use Rattle.tokens.proofs.Words.{header-back}
 use Rattle.cells.specs.World.{World}
-use Rattle.acts.specs.Acts.{withNet, widthAt}
+use Rattle.acts.specs.Acts.{widthAt}
 use Rattle.messages.specs.Register.{fieldsOf, readOf}
 use Rattle.messages.specs.Write.{accepted, written}
 use Rattle.messages.specs.Ended.{byte, said}
@@ -69,7 +69,7 @@ obey-fills w n Malformed = tt
 obey-fills w n (Wrong g) = reply-fills w n g Nack
 obey-fills w n (Read g r) = reply-fills w n g (Value (readOf (w .net) n r))
 obey-fills w n (Write g r v) =
-    reply-fills (withNet w (written (w .net) n (fieldsOf r v))) n g (pick (accepted (w .net) n (fieldsOf r v)) Ack Nack)
+    reply-fills (written w n (fieldsOf r v)) n g (pick (accepted w n (fieldsOf r v)) Ack Nack)
 
 -- WHAT FOLLOWS
 pub fills-mild : {j : ℕ} {v : Event} → Fills j v → Mild v

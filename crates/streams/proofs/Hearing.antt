@@ -27,7 +27,7 @@ use Rattle.tokens.specs.Header.{headerOf, words}
 use Rattle.tokens.specs.declared.header.Target.{Target}
 use Rattle.answers.specs.Rows.{Passes}
 use Rattle.cells.specs.View as Cells
-use Rattle.cells.specs.World.{World, hop}
+use Rattle.cells.specs.World.{World, farOf, hop}
 use Rattle.cells.specs.declared.unit.Hearing.{Hearing}
 use Rattle.clauses.specs.Pairs.{portOf, unitOf}
 use Rattle.clauses.specs.declared.pairs.Named.the-variants as Nameds
@@ -43,7 +43,7 @@ use Rattle.ends.specs.Output.{wordOf, outputPerformed}
 use Rattle.ends.specs.declared.plan.Plan as Sents
 use Rattle.ends.specs.declared.plan.Plan.the-variants as Sent
 use Rattle.switch.specs.Step.{hears, stepPerformed}
-use Rattle.bench.specs.Calls.{Call, Begin, Wire, Set, Aim, Output, Input, Step, Steps, rows, made}
+use Rattle.bench.specs.Calls.{Call, Begin, Wire, Set, Aim, Output, Input, Step, Line, Steps, rows, made}
 use Rattle.bench.specs.Writes.{hopClosed}
 use Rattle.kept.specs.Kept.{Kept}
 use Rattle.kept.proofs.Found.{Going, Found, idle, waits, splits, unrouted, routes, step-found}
@@ -62,9 +62,9 @@ use Rattle.streams.proofs.Handings.{Elsewhere, stays}
 use Rattle.streams.proofs.View.{view-out, view-queue}
 use Rattle.streams.proofs.Acts.{first-seen}
 use Rattle.streams.proofs.Indoors.{Indoors, indoors-all, indoors-then, indoors-pushed, indoors-pushedAll}
-use Rattle.streams.proofs.Indoors.{indoors-took, indoors-stripped, indoors-crosses, indoors-claimed, indoors-opens}
+use Rattle.streams.proofs.Indoors.{indoors-took, indoors-stripped, indoors-sends, indoors-line, indoors-claimed, indoors-opens}
 use Rattle.streams.proofs.Indoors.{indoors-closesChannel, indoors-closesOut, indoors-dropped, indoors-obeyed, heardIn, heard-more}
-use Rattle.streams.proofs.Calls.{straightEvents, stepEvents, outputEvents, noEvent, madeEvents, obeyEvents}
+use Rattle.streams.proofs.Calls.{straightEvents, stepEvents, line-case, outputEvents, noEvent, madeEvents, obeyEvents}
 use Rattle.streams.proofs.Filling.{Fills, obey-fills, fills-elsewhere}
 
 -- what the control unit of node n has heard, by the proof's books
@@ -356,7 +356,7 @@ module _ (w : World) (k : Kept w) (g : Ghost) (iv : Inv isLink (moving w) g) whe
         let y = took w n p in
         alone (MoveOut l)
         (indoors-then (indoors-took w n p) (indoors-then (indoors-closesOut (y .net) n p l x)
-        (indoors-crosses (withNet y (closesOut (y .net) n p l x)) n l x))) (λ m q hq e. rw leads (tt, (tt, tt)))
+        (indoors-sends (withNet y (closesOut (y .net) n p l x)) n l x))) (λ m q hq e. (tt, tt))
     step-heard (Found.hands c t z given) = hands-heard c t z
     step-heard (Found.hears z) =
         by-test (closes (firstAt w n p)) (freed-heard n p z) (λ e. rw e (listens-heard n p z e))
@@ -392,7 +392,7 @@ module _ (w : World) (k : Kept w) (g : Ghost) (iv : Inv isLink (moving w) g) whe
   pub made-heard : (c : Call) → Passes (rows w c) → noEvent c ≡ false → Listening (made w c .next) (madeEvents w c)
   made-heard (Begin s n) p e = clash e
   made-heard (Wire a l b j) p e = all-stay _ _ refl (λ m q hq f. (tt, tt))
-  made-heard (Set a x) p e = all-stay _ [] (setting-leaves (w .net) (a .0) x .units) (λ m q hq f. tt)
+  made-heard (Set a x) p e = all-stay _ [] (setting-leaves w (a .0) x .units) (λ m q hq f. tt)
   made-heard (Aim a c g v) p e = all-stay _ [] refl (λ m q hq f. tt)
   made-heard (Output a c x) p e =
       let h = targetOf (w .net .ends .aims (a .0) c) in
@@ -402,4 +402,7 @@ module _ (w : World) (k : Kept w) (g : Ghost) (iv : Inv isLink (moving w) g) whe
   made-heard (Step a p) q e =
       let there = step-there w (a .0) p (q .1) in
       step-heard (a .0) p (step-found w k (a .0) p (there .0) (there .1))
+  made-heard (Line a l) p e =
+      all-stay _ _ (indoors-line w (a .0) l .units)
+      (λ m q hq f. line-case (Each (Elsewhere (portNo m q))) w (a .0) l tt (λ i j x. (tt, tt)) (farOf (w .net .links .cables (a .0) l)))
   made-heard (Steps n xs) p e = clash e

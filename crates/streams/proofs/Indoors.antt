@@ -32,8 +32,9 @@ use Rattle.settings.proofs.Leaves.{Leaves}
 use Rattle.messages.specs.Heard.{hearsWord}
 use Rattle.messages.specs.Ended.{obeyed}
 use Rattle.messages.specs.declared.heard.Message.{Message}
-use Rattle.moves.specs.Moves.{took, stripped, opensChannel, closesOut, closesChannel, closesDropped, crosses}
-use Rattle.bench.proofs.Untouched.{Untouched, put-leaves, all-leave, took-leaves, strip-leaves, cross-leaves, obeyed-leaves}
+use Rattle.travel.specs.Travel.{sendsOn, lineStepped}
+use Rattle.moves.specs.Moves.{took, stripped, opensChannel, closesOut, closesChannel, closesDropped}
+use Rattle.bench.proofs.Untouched.{Untouched, put-leaves, all-leave, took-leaves, strip-leaves, send-leaves, line-leaves, obeyed-leaves}
 use Rattle.ends.specs.Input.{firstHeld, tookFirst}
 use Rattle.streams.specs.Model.{keeps, ToChannel, doorNo, endAt, sinkDoor}
 
@@ -54,11 +55,12 @@ pub indoors-pick : (b : Bool) {s x y : Net} → Indoors s x → Indoors s y → 
 indoors-pick true h k = h
 indoors-pick false h k = k
 
-pub indoors-set : {s z : Net} → Leaves s z → Indoors s z
+pub indoors-set : {w z : World} → Leaves w z → Indoors (w .net) (z .net)
 indoors-set l =
     record { aims = ap (λ t. t .aims) (l .ends); buffers = ap (λ t. t .buffers) (l .ends); units = l .units }
 
--- TOKENS PUT AND TAKEN, AND A MESSAGE AT ITS END: nothing indoors hangs on what ports hold or on credits, and no Set changes it
+-- TOKENS PUT AND TAKEN, LINES' STEPS AND A MESSAGE AT ITS END: nothing indoors hangs on what ports and lines hold or on credits, and no Set
+-- changes it
 record Inside : Type 0 where
   aims : ℕ → ℕ → Aim
   buffers : ℕ → ℕ → Buffer
@@ -69,7 +71,13 @@ inside s = record { aims = s .ends .aims; buffers = s .ends .buffers; units = s 
 
 inside-untouched : Untouched inside
 inside-untouched =
-    record { counters = λ s n p q. refl; flows = λ s n l k. refl; settings = λ s z v. rw (v .ends, v .units) }
+    record {
+      counters = λ s n p q. refl;
+      flows = λ s n l k. refl;
+      rings = λ s n l c. refl;
+      issued = λ s n l i. refl;
+      settings = λ w z v. rw (v .ends, v .units);
+    }
 
 by-inside : {s z : Net} → inside z ≡ inside s → Indoors s z
 by-inside e = record { aims = ap (λ (i : Inside). i .aims) e; buffers = ap (λ (i : Inside). i .buffers) e; units = ap (λ (i : Inside). i .units) e }
@@ -87,8 +95,11 @@ module _ (w : World) (n p : ℕ) where
   pub indoors-stripped : (x : Width) → Indoors (w .net) (stripped w n p x .net)
   indoors-stripped x = by-inside (strip-leaves inside inside-untouched w n p x)
 
-  pub indoors-crosses : (x : ℕ) → Indoors (w .net) (crosses w n p x .net)
-  indoors-crosses x = by-inside (cross-leaves inside inside-untouched w n p x)
+  pub indoors-sends : (x : ℕ) → Indoors (w .net) (sendsOn w n p x .net)
+  indoors-sends x = by-inside (send-leaves inside inside-untouched w n p x)
+
+  pub indoors-line : Indoors (w .net) (lineStepped w n p .net)
+  indoors-line = by-inside (line-leaves inside inside-untouched w n p)
 
 pub indoors-obeyed : (w : World) (n : ℕ) (m : Message) → Indoors (w .net) (obeyed w n m .next .net)
 indoors-obeyed w n m = by-inside (obeyed-leaves inside inside-untouched w n m)

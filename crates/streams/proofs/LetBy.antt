@@ -18,7 +18,7 @@ use Rattle.answers.specs.declared.Answer.the-variants.{No, Idle}
 use Rattle.cells.specs.World.{World}
 use Rattle.fresh.specs.Fresh.{startOf}
 use Rattle.fresh.specs.declared.Start.{Start}
-use Rattle.bench.specs.Calls.{Call, Begin, Wire, Set, Aim, Output, Input, Step, Steps, apply}
+use Rattle.bench.specs.Calls.{Call, Begin, Wire, Set, Aim, Output, Input, Step, Line, Steps, apply}
 use Rattle.bench.specs.Runs.{flat}
 use Rattle.bench.proofs.Lasts.{call-keeps}
 use Rattle.kept.specs.Kept.{Kept}
@@ -92,7 +92,7 @@ module _ (makes : Call → Bool) (say : Answer) where
                 (λ m. rw m (λ e. tied-call w (k .sane) g (k .inv) o t (c .call) (c .lone) e))
                 (λ m. rw (m, unnoted (c .call) o m) (λ e. t));
             agrees = λ w g c o k t. by-test (makes (c .call))
-                (λ m. rw m (λ e. call-agrees w (k .sane) g (k .inv) o (t .aims) (c .call) (c .lone) e))
+                (λ m. rw m (λ e. call-agrees w (k .sane) g o (t .aims) (c .call) (c .lone) e))
                 (λ m. rw m (λ e. unwritten o w (c .call) _ m));
           }
 
@@ -128,6 +128,7 @@ module _ (x : Start) (n : ℕ) (some : 1 ≤ n) (few : n ≤ nodes) where
       unwritten o w (Output a c x) k e = refl
       unwritten o w (Input a c x) k e = refl
       unwritten o w (Step a p) k e = refl
+      unwritten o w (Line a l) k e = refl
       unwritten o w (Steps m xs) k e = refl
 
       unnoted : (c : Call) (o : Notes) → none c ≡ false → jot c (No (number Unsound)) o ≡ o
@@ -138,9 +139,10 @@ module _ (x : Start) (n : ℕ) (some : 1 ≤ n) (few : n ≤ nodes) where
       unnoted (Output a c x) o e = refl
       unnoted (Input a c x) o e = refl
       unnoted (Step a p) o e = refl
+      unnoted (Line a l) o e = refl
       unnoted (Steps m xs) o e = refl
 
--- ONE THAT SAYS IDLE TO EVERY STEP
+-- ONE THAT SAYS IDLE TO EVERY STEP, a port's or a line's
 abbrev noStep : Call → Bool
 noStep (Begin s m) = true
 noStep (Wire a l b j) = true
@@ -149,6 +151,7 @@ noStep (Aim a c g v) = true
 noStep (Output a c x) = true
 noStep (Input a c x) = true
 noStep (Step a p) = false
+noStep (Line a l) = false
 noStep (Steps m xs) = false
 
 module _ (x : Start) (n : ℕ) (some : 1 ≤ n) (few : n ≤ nodes) where
@@ -163,6 +166,7 @@ module _ (x : Start) (n : ℕ) (some : 1 ≤ n) (few : n ≤ nodes) where
       unwritten o w (Output a c x) k e = clash e
       unwritten o w (Input a c x) k e = clash e
       unwritten o w (Step a p) k e = refl
+      unwritten o w (Line a l) k e = refl
       unwritten o w (Steps m xs) k e = refl
 
       unnoted : (c : Call) (o : Notes) → noStep c ≡ false → jot c Idle o ≡ o
@@ -173,4 +177,5 @@ module _ (x : Start) (n : ℕ) (some : 1 ≤ n) (few : n ≤ nodes) where
       unnoted (Output a c x) o e = clash e
       unnoted (Input a c x) o e = clash e
       unnoted (Step a p) o e = refl
+      unnoted (Line a l) o e = refl
       unnoted (Steps m xs) o e = refl

@@ -19,6 +19,8 @@ pub mod View
 pub mod Acts
 pub mod Fronts
 pub mod Lands
+pub mod Arrivals
+pub mod Settings
 pub mod Sends
 pub mod Outputs
 pub mod Calls

@@ -5,8 +5,8 @@ use mathlib.Core.Path.{_≡_, refl, sym, ap, _∙_}
 use mathlib.Core.Bool.{Bool, true, false}
 use mathlib.Core.List.{List, [], _∷_, _++_}
 use Rattle.laws.specs.Pick.{pick}
-use Rattle.laws.proofs.Order.{by-test, never}
-use Rattle.streams.specs.Model.{Use, Nobody, By, Moving, Cell, Fate, Flying}
+use Rattle.laws.proofs.Order.{by-test}
+use Rattle.streams.specs.Model.{Use, Nobody, By, Moving, Fate, Flying}
 use Rattle.streams.specs.Events.{Event, Ghost, booksOf, effect, note, effects, notes, empty, newGhost, OkAll}
 use Rattle.streams.specs.Demand.{Faithful, tokensOf}
 use Rattle.streams.specs.Watch.{runAll, NoneAnew}
@@ -23,11 +23,6 @@ effects-append (v ∷ vs) ws n = effects-append vs ws (effect v n)
 pub notes-append : (vs ws : List Event) (g : Ghost) → notes (vs ++ ws) g ≡ notes ws (notes vs g)
 notes-append [] ws g = refl
 notes-append (v ∷ vs) ws g = notes-append vs ws (note v g)
-
--- where there are no tokens there are no cells
-pub no-cells : (cs : List Cell) → [] ≡ tokensOf cs → cs ≡ []
-no-cells [] e = refl
-no-cells (x ∷ cs) e = never (cc)
 
 module _ (link : ℕ → Bool) where
   ok-append : (vs ws : List Event) (n : Moving) → OkAll link vs n → OkAll link ws (effects vs n) → OkAll link (vs ++ ws) n

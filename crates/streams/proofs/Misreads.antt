@@ -20,7 +20,7 @@ use Rattle.tokens.specs.Word.{closes}
 use Rattle.tokens.specs.declared.header.Target.{Target}
 use Rattle.answers.specs.Rows.{Passes}
 use Rattle.answers.proofs.Refusals.{passed}
-use Rattle.cells.specs.World.{World, hop}
+use Rattle.cells.specs.World.{World, farOf, hop}
 use Rattle.acts.specs.Acts.{widthAt, wordAt, firstAt}
 use Rattle.plans.specs.Plan.{markedWidth, sizeOf, sameWidth}
 use Rattle.plans.specs.declared.Plan.{Plan}
@@ -31,7 +31,7 @@ use Rattle.ends.specs.Output.{wordOf}
 use Rattle.ends.specs.declared.plan.Plan as Sents
 use Rattle.ends.specs.declared.plan.Plan.the-variants as Sent
 use Rattle.switch.specs.Step.{portAt}
-use Rattle.bench.specs.Calls.{Call, Begin, Wire, Set, Aim, Output, Input, Step, Steps, rows}
+use Rattle.bench.specs.Calls.{Call, Begin, Wire, Set, Aim, Output, Input, Step, Line, Steps, rows}
 use Rattle.bench.specs.Writes.{hopClosed}
 use Rattle.kept.specs.Kept.{Kept}
 use Rattle.kept.proofs.Parts.{kept-sound}
@@ -45,7 +45,7 @@ use Rattle.streams.specs.Observer.{isShut, misread, misreads, portIn}
 use Rattle.streams.proofs.Basics.{each-map}
 use Rattle.streams.proofs.Splits.{Mild, SplitBy}
 use Rattle.streams.proofs.Filling.{Fills, obey-fills, fills-mild}
-use Rattle.streams.proofs.Calls.{obeyEvents, straightEvents, stepEvents, outputEvents, done, madeEvents, eventsOf}
+use Rattle.streams.proofs.Calls.{obeyEvents, straightEvents, stepEvents, line-case, outputEvents, done, madeEvents, eventsOf}
 
 -- what senders do refuses nothing
 mild-straight : (w : World) (n c : ℕ) (g : Target) (d t : ℕ) (x : Peer) → Each Mild (straightEvents w n c g d t x)
@@ -104,7 +104,7 @@ module _ (w : World) (n p : ℕ) where
   split-found hn hp (routes z l hl free on) = mild _ (λ shut whole. z .fits) (tt, tt)
   split-found hn hp (landsChannel z m c t named door there tile claim) = mild _ (λ shut whole. z .legible .fits) (tt, tt)
   split-found hn hp (landsUnit z m named free empty) = mild _ (λ shut whole. z .legible .fits) (tt, tt)
-  split-found hn hp (moves l z m j leads credit) = mild _ (goes-on (z .goes) (λ e. never (cc))) (rw leads (tt, (tt, tt)))
+  split-found hn hp (moves l z m j leads credit) = mild _ (goes-on (z .goes) (λ e. never (cc))) (tt, tt)
   split-found hn hp (hands c t z given) = mild _ (goes-on (z .goes) (λ e. never (cc))) (tt, tt)
   split-found hn hp (hears z) =
       mild _ (goes-on (z .goes) (λ e. never (cc))) (
@@ -132,6 +132,7 @@ module _ (w : World) (k : Kept w) where
   made-splits (Step a p) q =
       let there = step-there w (a .0) p (q .1) in
       split-found w (a .0) p (there .0) (there .1) (step-found w k (a .0) p (there .0) (there .1))
+  made-splits (Line a l) p = line-case (Each Mild) w (a .0) l tt (λ m j x. (tt, tt)) (farOf (w .net .links .cables (a .0) l))
   made-splits (Steps n xs) p = tt
 
   -- a Step that is refused reads nothing
@@ -146,6 +147,7 @@ module _ (w : World) (k : Kept w) where
       by-test (portAt (w .net) (a .0) p)
       (λ t. clash (rw (kept-sound w k .0, t) at e))
       (λ t. rw t tt)
+  refused-splits (Line a l) e = tt
   refused-splits (Steps n xs) e = tt
 
   pub call-splits : (c : Call) → SplitBy (misreads w c) (portIn c) (eventsOf w c)

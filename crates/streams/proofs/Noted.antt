@@ -25,7 +25,7 @@ use Rattle.tokens.proofs.Words.{header-back}
 use Rattle.answers.specs.Rows.{Passes}
 use Rattle.answers.specs.declared.Answer.{Answer}
 use Rattle.cells.specs.View as Cells
-use Rattle.cells.specs.World.{World}
+use Rattle.cells.specs.World.{World, farOf}
 use Rattle.cells.specs.declared.end.Aim as Aims
 use Rattle.cells.specs.declared.end.Buffer.{Buffer}
 use Rattle.acts.specs.Acts.{withNet, widthAt, pushedAll, firstAt, shut, untilClosed, handed}
@@ -49,7 +49,7 @@ use Rattle.ends.specs.declared.aim.Goal.{Goal}
 use Rattle.ends.specs.declared.aim.Goal.the-variants as Goals
 use Rattle.ends.specs.declared.plan.Plan as Sents
 use Rattle.switch.specs.Step.{stepPerformed}
-use Rattle.bench.specs.Calls.{Call, Begin, Wire, Set, Aim, Output, Input, Step, Steps, rows, made}
+use Rattle.bench.specs.Calls.{Call, Begin, Wire, Set, Aim, Output, Input, Step, Line, Steps, rows, made}
 use Rattle.bench.specs.Writes.{hopClosed}
 use Rattle.kept.specs.Kept.{Kept}
 use Rattle.kept.proofs.Found.{Found, idle, waits, splits, unrouted, routes, landsChannel, landsUnit, step-found}
@@ -64,11 +64,11 @@ use Rattle.streams.proofs.Basics.{alter-hit, alter-same, alter-miss, ea
 use Rattle.streams.proofs.Sendings.{putsAt, Unmarked}
 use Rattle.streams.proofs.Handings.{handsAt}
 use Rattle.streams.proofs.Indoors.{Indoors, indoors-all, indoors-then, indoors-set, indoors-pushed, indoors-pushedAll}
-use Rattle.streams.proofs.Indoors.{indoors-took, indoors-stripped, indoors-crosses, indoors-claimed, indoors-opens}
+use Rattle.streams.proofs.Indoors.{indoors-took, indoors-stripped, indoors-sends, indoors-line, indoors-claimed, indoors-opens}
 use Rattle.streams.proofs.Indoors.{indoors-closesChannel, indoors-closesOut, indoors-dropped, indoors-obeyed}
 use Rattle.streams.proofs.Indoors.{heldIn, long-took, held-took}
 use Rattle.streams.proofs.Indoors.{handed-held, handed-long, door-off}
-use Rattle.streams.proofs.Calls.{obeyEvents, stepEvents, outputEvents, noEvent, madeEvents}
+use Rattle.streams.proofs.Calls.{obeyEvents, stepEvents, line-case, outputEvents, noEvent, madeEvents}
 use Rattle.streams.proofs.Filling.{Fills, obey-fills, fills-unmarked, fills-hands, fills-puts}
 
 -- what a channel-end that is aimed is aimed at, by the notes
@@ -225,8 +225,8 @@ module _ (w : World) (n p : ℕ) (o : Notes) where
       let x = firstAt w n p in
       let y = took w n p in
       aside (MoveOut l) (indoors-then (indoors-took w n p) (indoors-then (indoors-closesOut (y .net) n p l x)
-      (indoors-crosses (withNet y (closesOut (y .net) n p l x)) n l x)))
-      (rw leads (tt, (tt, tt))) (λ d. rw leads) (λ d. rw leads)
+      (indoors-sends (withNet y (closesOut (y .net) n p l x)) n l x)))
+      (tt, tt) (λ d. refl) (λ d. refl)
   step-told (Found.hands c t z given) = told-hands (z .holds .port) c t given
   step-told (Found.hears z) = told-hears
   step-told (Found.drops x z) =
@@ -396,10 +396,10 @@ module _ (w : World) (k : Kept w) (o : Notes) where
   made-told (Begin s n) p e = clash e
   made-told (Wire a l b j) p e =
       told-still w _ _ o (record { aims = refl; buffers = refl; units = refl }) (tt, tt) (λ d. refl) (λ d. refl)
-  made-told (Set a x) p e = told-set (setAnswer (w .net) (a .0) x)
+  made-told (Set a x) p e = told-set (setAnswer x)
     where
       told-set : (y : Answer) → Told w (made w (Set a x) .next) [] o (jot (Set a x) y o)
-      told-set y = told-still w _ [] o (indoors-set (setting-leaves (w .net) (a .0) x)) tt (λ d. refl) (λ d. refl)
+      told-set y = told-still w _ [] o (indoors-set (setting-leaves w (a .0) x)) tt (λ d. refl) (λ d. refl)
   made-told (Aim a c g v) p e =
       aim-told w (a .0) c g v o (also (below (a .0) (w .net .nodes)) (below c ends) .sure (not-false _ (p .1 .0)) .1)
   made-told (Output a c x) p e =
@@ -413,4 +413,9 @@ module _ (w : World) (k : Kept w) (o : Notes) where
   made-told (Step a p) q e =
       let there = step-there w (a .0) p (q .1) in
       step-told w (a .0) p o (step-found w k (a .0) p (there .0) (there .1))
+  made-told (Line a l) p e =
+      let f = farOf (w .net .links .cables (a .0) l) in
+      told-still w _ _ o (indoors-line w (a .0) l) (line-case (Each Unmarked) w (a .0) l tt (λ m j x. (tt, tt)) f)
+      (λ d. line-case (λ vs. putsAt vs d ≡ []) w (a .0) l refl (λ m j x. refl) f)
+      (λ d. line-case (λ vs. handsAt vs d ≡ []) w (a .0) l refl (λ m j x. refl) f)
   made-told (Steps n xs) p e = clash e

@@ -4,6 +4,7 @@ use Prim.Native.Nat.{ℕ}
 use mathlib.Core.Path.{_≡_, refl, ap, _∙_}
 use mathlib.Core.Bool.{Bool, true, false}
 use mathlib.Core.List.{List, [], _∷_, _++_, map}
+use lib.ListN.{take}
 use Rattle.laws.specs.Row.{tab}
 use Rattle.circuits.specs.declared.Cause.the-variants.{NoRoute, Split}
 use Rattle.tokens.specs.declared.header.Width.the-variants.{One, Three}
@@ -21,7 +22,7 @@ use Rattle.bench.specs.Runs.{flat}
 use Rattle.bench.proofs.Lasts.{call-keeps}
 use Rattle.bench.proofs.Computed.{applied, sound-row, Script, calls, begun-kept}
 use Rattle.bench.proofs.Runs.{update, halfway, halfwayByLists, by-lists, narrowed, booted, blanked}
-use Rattle.streams.specs.Model.{Info, Given, Fate, Lost, Landed, Here, noBooks, alter, portNo, doorNo, unitDoor, marks}
+use Rattle.streams.specs.Model.{Cell, Info, Given, Fate, Lost, Landed, Here, noBooks, alter, portNo, doorNo, unitDoor, cellsOf, marks}
 use Rattle.streams.specs.Watch.{Seen, unseen, sees, seen}
 use Rattle.streams.specs.Observer.{write, jot, anew, misreads, portIn}
 use Rattle.streams.specs.Statement.{observed}
@@ -173,7 +174,16 @@ pub halfway-books : Shows halfway accounts
 unfolding computes alter noBooks
 halfway-books = shown halfway accounts refl
 
--- .. and by lists of steps the same
+-- what is in port 0 of the hub, and on the line that comes to it
+abbrev pub coming : Seen → List (List Cell)
+coming s = s .books .cells (portNo 0 0) ∷ s .books .on (portNo 1 0) ∷ []
+
+-- .. once the five tokens have gone on the line and two of them have arrived: the others are on it, in order
+pub halfway-on-line : Shows (take 22 halfway) coming (cellsOf 0 0 (0x600 ∷ 0x600 ∷ []) ∷ cellsOf 0 2 (0x605 ∷ 7 ∷ 0x101 ∷ []) ∷ [])
+unfolding computes alter noBooks
+halfway-on-line = shown (take 22 halfway) coming refl
+
+-- the half-done update by lists of steps is the same
 pub by-lists-books : observed Fresh 2 halfwayByLists ≡ observed Fresh 2 (calls halfway)
 by-lists-books = ap (watched apply (startOf Fresh 2) unseen) by-lists
 

@@ -10,7 +10,7 @@ use Rattle.laws.specs.Pick.{pick}
 use Rattle.laws.proofs.Order.{by-test}
 use Rattle.cells.specs.World.{World}
 use Rattle.bench.specs.declared.StepRecord.{StepRecord}
-use Rattle.bench.specs.Calls.{Call, Begin, Wire, Set, Aim, Output, Input, Step, Steps, apply}
+use Rattle.bench.specs.Calls.{Call, Begin, Wire, Set, Aim, Output, Input, Step, Line, Steps, apply}
 use Rattle.bench.specs.Runs.{run, stepOf, stepsOf, singly, flat}
 use Rattle.bench.proofs.Lists.{singly-left}
 use Rattle.streams.specs.Model.{Books, Notes}
@@ -37,6 +37,7 @@ loneOf (Aim a c g v) = only (Aim a c g v) refl
 loneOf (Output a c x) = only (Output a c x) refl
 loneOf (Input a c k) = only (Input a c k) refl
 loneOf (Step a p) = only (Step a p) refl
+loneOf (Line a l) = only (Line a l) refl
 loneOf (Steps n xs) = pick (eqb n (length xs)) (loneSteps xs) []
 
 abbrev pub lones : List Call → List Lone
@@ -63,6 +64,7 @@ singly-lone (Aim a c g v) = refl
 singly-lone (Output a c x) = refl
 singly-lone (Input a c k) = refl
 singly-lone (Step a p) = refl
+singly-lone (Line a l) = refl
 singly-lone (Steps n xs) = by-test (eqb n (length xs)) (λ e. rw e (steps-lone xs)) (λ e. rw e)
 
 pub flat-lone : (cs : List Call) → callsIn (lones cs) ≡ flat cs
@@ -111,6 +113,7 @@ module _ where
   old-one w (Output a c x) e = (e, tt)
   old-one w (Input a c k) e = (e, tt)
   old-one w (Step a p) e = (e, tt)
+  old-one w (Line a l) e = (e, tt)
   old-one w (Steps n xs) e = by-test (eqb n (length xs)) (λ t. rw t (old-steps xs w)) (λ t. rw t tt)
 
   pub run-left : (cs : List Call) (w : World) → run w cs .last ≡ runAll left w cs

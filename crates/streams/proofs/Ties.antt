@@ -8,27 +8,27 @@ use mathlib.Core.List.{List, [], _∷_, _++_}
 use Rattle.laws.specs.All.{Each}
 use Rattle.laws.proofs.Order.{by-test, never}
 use Rattle.names.specs.Size.{ports, ends}
-use Rattle.circuits.specs.declared.Peer.the-variants.{Nobody, Port}
+use Rattle.circuits.specs.declared.Peer.the-variants as Peers
 use Rattle.answers.specs.Rows.{refusal}
 use Rattle.answers.specs.declared.Answer.the-variants as Answers
 use Rattle.answers.proofs.Refusals.{passed}
 use Rattle.cells.specs.World.{World}
 use Rattle.fresh.specs.Fresh.{startOf}
 use Rattle.fresh.specs.declared.Start.{Start}
-use Rattle.bench.specs.Calls.{Call, Begin, Wire, Set, Aim, Output, Input, Step, Steps, rows, made, apply}
+use Rattle.bench.specs.Calls.{Call, Begin, Wire, Set, Aim, Output, Input, Step, Line, Steps, rows, made, apply}
 use Rattle.bench.proofs.Lasts.{call-boards}
 use Rattle.kept.specs.Kept.{Kept}
-use Rattle.streams.specs.Model.{portNo, doorNo, isLink, Cell, Notes, noNotes}
+use Rattle.streams.specs.Model.{portNo, doorNo, isLink, Use, Nobody, By, Moving, Cell, Notes, noNotes}
 use Rattle.streams.specs.Events.{Cursor, Ghost, booksOf, notes, newGhost, next, OkAll}
 use Rattle.streams.specs.Demand.{sentBy, tokensGiven, heldAt, Intact, Ties}
 use Rattle.streams.specs.Observer.{anew, jot}
 use Rattle.streams.specs.View.{moving}
 use Rattle.streams.proofs.Basics.{Chain}
 use Rattle.streams.proofs.Inv.{Inv}
-use Rattle.streams.proofs.Machine.{line-tokens, no-cells}
+use Rattle.streams.proofs.Machine.{line-tokens}
 use Rattle.streams.proofs.Sendings.{putsAt, SendingIn, MarkedIn, keep-sendings, sent-steps, start-sending}
 use Rattle.streams.proofs.Handings.{handsAt, log-steps}
-use Rattle.streams.proofs.View.{view-queue}
+use Rattle.streams.proofs.View.{view-queue, view-line}
 use Rattle.streams.proofs.Calls.{done, isList, noEvent, madeEvents, eventsOf, is-event, anew-case, call-leads}
 use Rattle.streams.proofs.Noted.{AimsNoted, Long, made-told}
 use Rattle.streams.proofs.Hearing.{HeardAt, Wide, made-heard, hears-so}
@@ -56,7 +56,7 @@ tied-start s n =
       heard = λ m hm q served c i front. never-served q served;
     }
   where
-    never-served : {P : Type 0} (q : ℕ) → Nobody ≡ Port q → P
+    never-served : {P : Type 0} (q : ℕ) → Peers.Nobody ≡ Peers.Port q → P
     never-served q e = never (cc)
 
 -- where a start is done
@@ -73,6 +73,7 @@ module _ (w : World) (k : Kept w) (g : Ghost) (iv : Inv isLink (moving w) g) (o 
   refused-jots (Output a c x) r = refl
   refused-jots (Input a c x) r = refl
   refused-jots (Step a p) r = refl
+  refused-jots (Line a l) r = refl
   refused-jots (Steps n xs) r = refl
 
   made-ties : (c : Call) → done w c ≡ true → noEvent c ≡ false → OkAll isLink (madeEvents w c) (moving w)
@@ -123,6 +124,15 @@ intact g marks s e (x ∷ xs) (fits, good, rest) = (
   intact g marks (next x) e xs rest,
 )
 
+-- .. on a line too, which is a cable's; where there is no cable none are
+carried : (n : Moving) (g : Ghost) → Inv isLink n g → ((c : ℕ) → MarkedIn (g .stream c) (g .info c)) → (l : ℕ)
+    → Each (Intact (booksOf g)) (g .on l)
+carried n g iv marks l = go (n .cable l) refl
+  where
+    go : (u : Use) → n .cable l ≡ u → Each (Intact (booksOf g)) (g .on l)
+    go Nobody e = rw (iv .unlined l e .1) tt
+    go (By m) e = intact g marks (g .back m) (g .tail l) (g .on l) (iv .lines l m e .chain)
+
 pub ties-so : (w : World) → Kept w → (g : Ghost) → Inv isLink (moving w) g → (o : Notes) → Tied w g o → Ties w (booksOf g) o
 ties-so w k g iv o t =
     record {
@@ -130,6 +140,7 @@ ties-so w k g iv o t =
       received = t .got;
       heard = λ n p hn e. hears-so w k g iv n p hn e (t .heard n hn);
       held = λ n p hp. sym (view-queue w n p hp) ∙ iv .ports (portNo n p) .tokens;
-      lines = λ l. no-cells (g .on l) (line-tokens isLink (moving w) g iv l);
+      lines = λ n l hl. sym (view-line w n l hl) ∙ line-tokens isLink (moving w) g iv (portNo n l);
       intact = λ p. intact g (t .sending .marks) (g .front p) (g .back p) (g .cells p) (iv .ports p .chain);
+      carried = λ l. carried (moving w) g iv (t .sending .marks) l;
     }

@@ -8,7 +8,7 @@ use lib.Dec.{eqb, ltb}
 use lib.ListN.{length, take, drop, getD}
 use Rattle.laws.specs.All.{Each}
 use Rattle.laws.specs.Pick.{pick}
-use Rattle.names.specs.Size.{ports, ends, unitBuffer}
+use Rattle.names.specs.Size.{links, ports, ends, unitBuffer}
 use Rattle.names.specs.declared.NodeNumber.{NodeNumber}
 use Rattle.circuits.specs.Circuit.{peerOf}
 use Rattle.circuits.specs.declared.Cause.{Cause}
@@ -16,7 +16,8 @@ use Rattle.circuits.specs.declared.Cause.the-variants.{Split}
 use Rattle.circuits.specs.declared.Peer.the-variants.{Port}
 use Rattle.tokens.specs.Word.{isHeader, isThree, wide}
 use Rattle.tokens.specs.Header.{compared}
-use Rattle.cells.specs.World.{World, queue}
+use Rattle.lines.specs.Load as Load
+use Rattle.cells.specs.World.{World, queue, lineFrom}
 use Rattle.plans.specs.Plan.{numberIn}
 use Rattle.streams.specs.Model.{body, placeOf, ToUnit, portNo, doorNo, nodeOfPort, nodeOfDoor, endAt, Cell, Fate, Flying, Lost}
 use Rattle.streams.specs.Model.{Landed, Here, Info, Given, Books, Notes, hd}
@@ -114,7 +115,8 @@ pub record Ties (w : World) (k : Books) (o : Notes) : Type 0 where
   -- receivers: all that a channel-end was handed is what Input took, then what it holds
   pub received : (n e : ℕ) → e < ends → tokensGiven (k .log (doorNo n e)) ≡ o .taken (doorNo n e) ++ heldAt w n e
   pub heard : (n p : ℕ) → n < w .net .nodes → peerOf (w .net .units .serving n 0) ≡ Port p → Hears w k n p
-  -- on the way: each port's tokens are its cells, and nothing is between two ports, since a token crosses at once
+  -- on the way: each port's tokens are its cells, and so are those on each line, between two ports
   pub held : (n p : ℕ) → p < ports → queue w n p ≡ tokensOf (k .cells (portNo n p))
-  pub lines : (l : ℕ) → k .on l ≡ []
+  pub lines : (n l : ℕ) → l < links → Load.tokensOf (lineFrom w n l) ≡ tokensOf (k .on (portNo n l))
   pub intact : (p : ℕ) → Each (Intact k) (k .cells p)
+  pub carried : (l : ℕ) → Each (Intact k) (k .on l)

@@ -1,6 +1,7 @@
 -- THE OBSERVER: what a person beside the bench writes down of each call, who sees the state before it, the call and its answer, and has his
 -- own notes: no plan, no event, nothing that a header says. Document 01 is all that he knows: an Output that is done opens a circuit where
--- the channel-end had none, within the node or through the lowest free port; a Step that answers Moved takes the port's first word.
+-- the channel-end had none, within the node or through the lowest free port; a Step that answers Moved takes the port's first word; a line
+-- step that takes one off takes the first word on the line (document 02, Ask 4).
 -- A list of steps he sees as its Steps, each with the state before it and its result (Statement.antt): of `Steps` itself nothing is
 -- written here.
 use Prim.Native.Nat.{ℕ, suc}
@@ -30,7 +31,9 @@ use Rattle.answers.specs.declared.Answer.the-variants as Answers
 use Rattle.cells.specs.World.{World, farOf, hop}
 use Rattle.cells.specs.declared.link.Far.{Far}
 use Rattle.cells.specs.declared.link.Far.the-variants.{Nowhere, At}
-use Rattle.acts.specs.Acts.{withNet, widthAt, numberAt, wordAt, firstAt}
+use Rattle.acts.specs.Acts.{widthAt, numberAt, wordAt, firstAt}
+use Rattle.lines.specs.Load.{isToken}
+use Rattle.travel.specs.Travel.{firstOn}
 use Rattle.plans.specs.Plan.{markedWidth, sizeOf, sameWidth}
 use Rattle.messages.specs.Register.{fieldsOf, readOf}
 use Rattle.messages.specs.Heard.{messageOf}
@@ -47,7 +50,7 @@ use Rattle.ends.specs.declared.Wanted.the-variants as Wants
 use Rattle.ends.specs.declared.aim.Goal.{Goal}
 use Rattle.ends.specs.declared.aim.Goal.the-variants as Goals
 use Rattle.switch.specs.Step.{portAt}
-use Rattle.bench.specs.Calls.{Call, Begin, Wire, Set, Aim, Output, Input, Step, Steps, apply}
+use Rattle.bench.specs.Calls.{Call, Begin, Wire, Set, Aim, Output, Input, Step, Line, Steps, apply}
 use Rattle.bench.specs.Writes.{hopClosed}
 use Rattle.streams.specs.Model.{keeps, Place, ToChannel, ToUnit, encode, portNo, doorNo, unitDoor, nodeOfPort, nodeOfDoor, endAt}
 use Rattle.streams.specs.Model.{Lost, Landed, Here, Books, Notes, alter, hd, pop, push, pushAll, cellsOf, marks}
@@ -149,12 +152,12 @@ refused p q k =
       log = k .log;
     }
 
--- the token in front of the port goes: to the back of another; to a place of this node, the word x; away
-abbrev pub moved : ℕ → ℕ → Books → Books
-moved p m k =
+-- the token in front of the port goes: on to a link's line; to a place of this node, the word x; away
+abbrev pub entered : ℕ → ℕ → Books → Books
+entered p l k =
     record {
-      cells = push (pop (k .cells) p) m (hd (k .cells p));
-      on = k .on;
+      cells = pop (k .cells) p;
+      on = push (k .on) l (hd (k .cells p));
       stream = k .stream;
       handed = k .handed;
       fate = k .fate;
@@ -184,6 +187,21 @@ dropped p k =
     record {
       cells = pop (k .cells) p;
       on = k .on;
+      stream = k .stream;
+      handed = k .handed;
+      fate = k .fate;
+      info = k .info;
+      mine = k .mine;
+      now = k .now;
+      log = k .log;
+    }
+
+-- the first token of a link's line goes into the port that the cable leads to
+abbrev pub arrived : ℕ → ℕ → Books → Books
+arrived l m k =
+    record {
+      cells = push (k .cells) m (hd (k .on l));
+      on = pop (k .on) l;
       stream = k .stream;
       handed = k .handed;
       fate = k .fate;
@@ -227,7 +245,7 @@ writeObeyed w n Malformed k = k
 writeObeyed w n (Wrong g) k = writeReply w n g Nack k
 writeObeyed w n (Read g r) k = writeReply w n g (Value (readOf (w .net) n r)) k
 writeObeyed w n (Write g r v) k =
-    writeReply (withNet w (written (w .net) n (fieldsOf r v))) n g (pick (accepted (w .net) n (fieldsOf r v)) Ack Nack) k
+    writeReply (written w n (fieldsOf r v)) n g (pick (accepted w n (fieldsOf r v)) Ack Nack) k
 
 -- a message that END has ended and that is replied to, once its hop is closed
 abbrev pub writeEnd : World → ℕ → ℕ → Books → Books
@@ -236,13 +254,9 @@ writeEnd w n p k =
     pick (closes (firstAt w n p)) (writeObeyed y n (messageOf (y .net .units .hearings n 0) (firstAt w n p)) k) k
 
 -- A STEP, by its answer and by where the port's circuit goes
-abbrev pub writeOver : ℕ → ℕ → Far → Books → Books
-writeOver n p Nowhere k = k
-writeOver n p (At m j) k = moved (portNo n p) (portNo (m .0) j) k
-
 abbrev pub writeMoved : World → ℕ → ℕ → Hop → Books → Books
 writeMoved w n p Hops.Shut k = k
-writeMoved w n p (Hops.Out l) k = writeOver n p (farOf (w .net .links .cables n l)) k
+writeMoved w n p (Hops.Out l) k = entered (portNo n p) (portNo n l) k
 writeMoved w n p (Hops.Channel c t) k = handedOn (portNo n p) (ToChannel c) (firstAt w n p) k
 writeMoved w n p Hops.Unit k = writeEnd w n p (handedOn (portNo n p) ToUnit (firstAt w n p) k)
 writeMoved w n p (Hops.Dropped x) k = k
@@ -263,6 +277,29 @@ writeStep w n p (Answers.Dropped x) k = dropped (portNo n p) k
 -- the two end answers: the last token is heard, and there is no reply
 writeStep w n p Answers.Malformed k = handedOn (portNo n p) ToUnit (firstAt w n p) k
 writeStep w n p Answers.Unheard k = handedOn (portNo n p) ToUnit (firstAt w n p) k
+writeStep w n p (Answers.Arrived x) k = k
+
+-- A LINE STEP that takes one off: a token arrives; of a credit or a HELLO nothing is written
+abbrev pub writeArrival : ℕ → ℕ → ℕ → Far → Books → Books
+writeArrival n l x Nowhere k = k
+writeArrival n l x (At m j) k = pick (isToken x) (arrived (portNo n l) (portNo (m .0) j) k) k
+
+abbrev pub writeLine : World → ℕ → ℕ → Answer → Books → Books
+writeLine w n l (Answers.No x) k = k
+writeLine w n l Answers.Done k = k
+writeLine w n l (Answers.Granted x) k = k
+writeLine w n l (Answers.Token x) k = k
+writeLine w n l Answers.Idle k = k
+writeLine w n l Answers.Waiting k = k
+writeLine w n l Answers.Moved k = k
+writeLine w n l (Answers.OpenedLink x) k = k
+writeLine w n l Answers.OpenedChannel k = k
+writeLine w n l Answers.OpenedUnit k = k
+writeLine w n l (Answers.Refused x) k = k
+writeLine w n l (Answers.Dropped x) k = k
+writeLine w n l Answers.Malformed k = k
+writeLine w n l Answers.Unheard k = k
+writeLine w n l (Answers.Arrived x) k = writeArrival n l (firstOn w n l) (farOf (w .net .links .cables n l)) k
 
 -- where a call is done
 abbrev pub whenDone : {A : Type 0} → Answer → A → A → A
@@ -280,6 +317,7 @@ whenDone (Answers.Refused x) k old = old
 whenDone (Answers.Dropped x) k old = old
 whenDone Answers.Malformed k old = old
 whenDone Answers.Unheard k old = old
+whenDone (Answers.Arrived x) k old = old
 
 -- THE BOOKS AFTER A CALL. A circuit's destination is what the channel-end's latest Aim gave, by the notes (o). A start that is done opens
 -- new books (Watch.antt)
@@ -292,6 +330,7 @@ write o w (Output a c t) x k =
     whenDone x (writeOutput w (a .0) c (o .aimed (doorNo (a .0) c)) (wordOf t) (peerOf (w .net .ends .sendings (a .0) c)) k) k
 write o w (Input a c y) x k = k
 write o w (Step a p) x k = writeStep w (a .0) p x k
+write o w (Line a l) x k = writeLine w (a .0) l x k
 write o w (Steps n xs) x k = k
 
 -- THE NOTES AFTER A CALL: of the call and its answer alone
@@ -328,6 +367,7 @@ jotInput e y (Answers.Refused x) k = k
 jotInput e y (Answers.Dropped x) k = k
 jotInput e y Answers.Malformed k = k
 jotInput e y Answers.Unheard k = k
+jotInput e y (Answers.Arrived x) k = k
 
 abbrev pub jot : Call → Answer → Notes → Notes
 jot (Begin s n) x k = k
@@ -337,6 +377,7 @@ jot (Aim a c g v) x k = whenDone x (jotAimed (doorNo (a .0) c) (given g) k) k
 jot (Output a c t) x k = whenDone x (jotPut (doorNo (a .0) c) (wordOf t) k) k
 jot (Input a c y) x k = jotInput (doorNo (a .0) c) y x k
 jot (Step a p) x k = k
+jot (Line a l) x k = k
 jot (Steps n xs) x k = k
 
 -- NEW BOOKS: after a start that is done; one that is refused changes none
@@ -348,6 +389,7 @@ renews (Aim a c g v) x = false
 renews (Output a c t) x = false
 renews (Input a c y) x = false
 renews (Step a p) x = false
+renews (Line a l) x = false
 renews (Steps n xs) x = false
 
 abbrev pub anew : World → Call → Bool
@@ -377,6 +419,7 @@ misreads w (Aim a c g v) = false
 misreads w (Output a c x) = false
 misreads w (Input a c x) = false
 misreads w (Step a p) = misread w (a .0) p
+misreads w (Line a l) = false
 misreads w (Steps n xs) = false
 
 -- the port that a Step is of
@@ -388,4 +431,5 @@ portIn (Aim a c g v) = 0
 portIn (Output a c x) = 0
 portIn (Input a c x) = 0
 portIn (Step a p) = portNo (a .0) p
+portIn (Line a l) = 0
 portIn (Steps n xs) = 0

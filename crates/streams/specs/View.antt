@@ -1,5 +1,4 @@
--- The real state seen as the moving parts that demand 3 speaks of: ports and links by their numbers, rings as lists, and no line but an
--- empty one, since a token crosses a cable at once.
+-- The real state seen as the moving parts that demand 3 speaks of: ports and links by their numbers, rings as lists, of a line its tokens.
 use Prim.Native.Nat.{ℕ, _+_, _*_, _/_, _%_}
 use mathlib.Core.List.{List, []}
 use lib.Dec.{ltb}
@@ -11,7 +10,8 @@ use Rattle.circuits.specs.declared.Hop.{Hop}
 use Rattle.circuits.specs.declared.Hop.the-variants as Hops
 use Rattle.circuits.specs.declared.Peer.{Peer}
 use Rattle.circuits.specs.declared.Peer.the-variants as Peers
-use Rattle.cells.specs.World.{World, farOf, queue}
+use Rattle.lines.specs.Load.{tokensOf}
+use Rattle.cells.specs.World.{World, farOf, queue, lineFrom}
 use Rattle.cells.specs.declared.link.Cable.{Cable}
 use Rattle.cells.specs.declared.link.Far.{Far}
 use Rattle.cells.specs.declared.link.Far.the-variants as Fars
@@ -51,7 +51,7 @@ abbrev pub farEnd : Far → Use
 farEnd Fars.Nowhere = Nobody
 farEnd (Fars.At m k) = By (portNo (m .0) k)
 
--- a port that no cable can come to has no user and no cable, and a door that is no channel-end has no circuit between calls
+-- a port that no cable can come to has no user, no cable and no line, and a door that is no channel-end has no circuit between calls
 abbrev pub useOf : ℕ → ℕ → Circuit → Use
 useOf n l c = pick (ltb l links) (useBy n (peerOf c)) Nobody
 
@@ -77,6 +77,10 @@ cablesOf cables = flat ports (λ n l. cableOf l (cables n l))
 abbrev pub queues : World → ℕ → List ℕ
 queues w = flat ports (queue w)
 
+-- credits and HELLOs are no tokens
+abbrev pub linesOf : World → ℕ → List ℕ
+linesOf w = flat ports (λ n l. pick (ltb l links) (tokensOf (lineFrom w n l)) [])
+
 abbrev pub moving : World → Moving
 moving w =
     record {
@@ -85,5 +89,5 @@ moving w =
       user = usersOf (w .net .links .users);
       busy = busyOf (w .net .ends .sendings);
       cable = cablesOf (w .net .links .cables);
-      line = λ l. [];
+      line = linesOf w;
     }

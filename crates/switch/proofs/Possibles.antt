@@ -26,9 +26,7 @@ use Rattle.routing.specs.declared.way.Way.{Way}
 use Rattle.routing.specs.declared.way.Way.the-variants.{ThisNode, OtherNode}
 use Rattle.ports.specs.Queue.{capacity}
 use Rattle.ports.specs.Memory.{place}
-use Rattle.cells.specs.World.{World, farOf, hop}
-use Rattle.cells.specs.declared.link.Far.{Far}
-use Rattle.cells.specs.declared.link.Far.the-variants.{Nowhere, At}
+use Rattle.cells.specs.World.{World, hop}
 use Rattle.clauses.specs.declared.pairs.Role.the-variants.{PortLink, PortTile, PortUnit, PortClaim}
 use Rattle.clauses.specs.declared.pairs.Named.the-variants.{Nothing, One}
 use Rattle.clauses.specs.Pairs.{portOf}
@@ -37,13 +35,14 @@ use Rattle.acts.specs.Needs.{Holds, Door}
 use Rattle.acts.proofs.Doors.{given-room}
 use Rattle.messages.specs.Needs.{Ready}
 use Rattle.sound.specs.Sound.{sound}
-use Rattle.sound.proofs.Facts.{fair, reaches, cable-facts, room-facts, pair-facts, silent-facts}
+use Rattle.sound.proofs.Facts.{fair, reaches, pair-facts, silent-facts}
 use Rattle.plans.specs.Plan.{markedWidth, sizeOf, sameWidth, targetAt, networkAt, candidate, lowestLink, routePlan, lowestTile, tileFree}
 use Rattle.plans.specs.Plan.{channelPlan, unitPlan, herePlan, numberIn, stepByWay, wayPlan, headerPlan, outPlan, handPlan, byHop, stepPlan}
-use Rattle.moves.specs.Needs.{Takes, FarRoom}
+use Rattle.moves.specs.Needs.{Takes}
 use Rattle.switch.specs.Needs.{StepPossible}
 use Rattle.switch.proofs.Legal.{LegalDoor, legal-target}
-use Rattle.switch.proofs.Cabled.{cabled}
+use Rattle.switch.proofs.Cabled.{grants, settled}
+use Rattle.switch.proofs.Passes.{passes}
 
 same-size : (a b : Width) → sameWidth a b ≡ true → a ≡ b
 same-size Widths.One Widths.One e = refl
@@ -56,7 +55,7 @@ module _ (w : World) (s : sound w ≡ true) (n p : ℕ) (hn : n < w .net .nodes)
   holds k h = record { node = hn; port = hp; fair = fair w s n hn p hp; held = h; reaches = reaches w s n hn p hp }
 
   takes : (k : ℕ) → k ≤ w .net .ports .counters n p .held → Takes w n p k
-  takes k h = record { holds = holds k h; up = λ l. cabled w s n p hn l }
+  takes k h = record { holds = holds k h; up = λ l. grants w s n p hn l }
 
   route-possible : (d v : ℕ) → StepPossible w n p (routePlan (w .net) n d v)
   route-possible d v =
@@ -103,29 +102,12 @@ module _ (w : World) (s : sound w ≡ true) (n p : ℕ) (hn : n < w .net .nodes)
           (takes (sizeOf (widthAt (w .net) n)) (rw (← q) h))
 
   -- outward
-  far-room : (l : ℕ) (f : Far) → farOf (w .net .links .cables n l) ≡ f → l < links → (w .net .links .flows n l .credit ≡ 0 → ⊥)
-      → FarRoom w f
-  far-room l Nowhere e h c = tt
-  far-room l (At m k) e h c =
-      let j = cable-facts w s n hn l h m k e in
-      let r = room-facts w s n hn l h m k e in
-      record {
-        node = j .node;
-        port = omega (arith, j .link);
-        fair = fair w s (m .0) (j .node) k (omega (arith, j .link));
-        room = some (w .net .links .flows n l .credit) (w .net .ports .counters (m .0) k .held) c r;
-        reaches = reaches w s (m .0) (j .node) k (omega (arith, j .link));
-      }
-    where
-      some : (a b : ℕ) → (a ≡ 0 → ⊥) → a + b ≤ capacity → b + 1 ≤ capacity
-      some a b ne h = omega arith
-
   out-possible : (l : ℕ) → 1 ≤ w .net .ports .counters n p .held → hop (w .net) n p ≡ Hops.Out l → StepPossible w n p (outPlan (w .net) n l)
   out-possible l h e =
       let there = pair-facts w s n hn PortLink p hp l (rw e) .0 in
       by-test (eqb (w .net .links .flows n l .credit) 0)
       (λ f. rw f tt)
-      (λ f. rw f (there, takes 1 h, far-room l (farOf (w .net .links .cables n l)) refl there (eqb-false _ _ f)))
+      (λ f. rw f (there, takes 1 h, passes w s n l hn there (eqb-false _ _ f) p))
 
   -- to a channel
   oldest : w .net .ports .counters n p .head < capacity → wordAt w n p 0 ≡ firstAt w n p
@@ -165,7 +147,7 @@ module _ (w : World) (s : sound w ≡ true) (n p : ℕ) (hn : n < w .net .nodes)
               room = rw (no-reply e) (lit≤ tt);
               reaches = reaches w s n hn replyPort (lit≤ tt);
             };
-        cabled = cabled w s;
+        settled = settled w s;
       }
 
   hop-possible : (h : Hop) → hop (w .net) n p ≡ h → 1 ≤ w .net .ports .counters n p .held → StepPossible w n p (byHop w n p h)

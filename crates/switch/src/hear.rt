@@ -8,20 +8,21 @@ use names::Slot;
 use tokens::word::closes;
 ghost use mathlib.Core.Path.{_≡_};
 ghost use Rattle.answers.specs.Out.{out};
-ghost use Rattle.cells.specs.World.{world};
+ghost use Rattle.cells.specs.World.{lent};
 ghost use Rattle.messages.specs.Needs.{Ready};
 ghost use Rattle.moves.specs.Needs.{Takes};
 ghost use Rattle.switch.specs.Step.{hears};
 
 // "To the control unit: Moved", or what becomes of a message at its end, the hop being closed first.
-pub fn hear(st: &mut [u32], mem: &mut [u16], slot: Slot, p: usize) -> Answer
-    requires { ⌜ Takes (world (now st) (now mem)) (slot .0) p 1 × Ready (world (now st) (now mem)) (slot .0) ⌝ }
-    ensures { λ r. ⌜ out r (world (now (st .exit)) (now (mem .exit))) ≡ hears (world (now (st .entry)) (now (mem .entry))) (slot .0) p ⌝ }
+pub fn hear(st: &mut [u32], mem: &mut [u16], ls: &mut [u16], slot: Slot, p: usize) -> Answer
+    requires { ⌜ Takes (lent (now st) (now mem) (now ls)) (slot .0) p 1 × Ready (lent (now st) (now mem) (now ls)) (slot .0) ⌝ }
+    ensures { λ r. ⌜ out r (lent (now (st .exit)) (now (mem .exit)) (now (ls .exit)))
+        ≡ hears (lent (now (st .entry)) (now (mem .entry)) (now (ls .entry))) (slot .0) p ⌝ }
 {
-    let word = take(st, mem, slot, p);
+    let word = take(st, mem, ls, slot, p);
     if closes(word) {
         close_unit(st, slot, p);
-        return end_message(st, mem, slot, word);
+        return end_message(st, mem, ls, slot, word);
     }
     listen(st, slot, word);
     Answer::Moved

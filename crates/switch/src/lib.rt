@@ -14,7 +14,7 @@ ghost use mathlib.Core.Path.{_≡_};
 ghost use mathlib.Core.Bool.{true};
 ghost use Rattle.answers.specs.Out.{out};
 ghost use Rattle.cells.specs.View.{view};
-ghost use Rattle.cells.specs.World.{world};
+ghost use Rattle.cells.specs.World.{lent};
 ghost use Rattle.sound.specs.Sound.{sound};
 ghost use Rattle.switch.specs.Step.{portAt, step};
 
@@ -26,13 +26,14 @@ fn port_at(st: &[u32], slot: Slot, p: usize) -> bool
 }
 
 // Step, whole: refused by its number with nothing changed, or what its plan does.
-pub fn step(st: &mut [u32], mem: &mut [u16], slot: Slot, p: usize) -> Answer
-    requires { ⌜ sound (world (now st) (now mem)) ≡ true ⌝ }
-    ensures { λ r. ⌜ out r (world (now (st .exit)) (now (mem .exit))) ≡ step (world (now (st .entry)) (now (mem .entry))) (slot .0) p ⌝ }
+pub fn step(st: &mut [u32], mem: &mut [u16], ls: &mut [u16], slot: Slot, p: usize) -> Answer
+    requires { ⌜ sound (lent (now st) (now mem) (now ls)) ≡ true ⌝ }
+    ensures { λ r. ⌜ out r (lent (now (st .exit)) (now (mem .exit)) (now (ls .exit)))
+        ≡ step (lent (now (st .entry)) (now (mem .entry)) (now (ls .entry))) (slot .0) p ⌝ }
 {
     if !port_at(st, slot, p) {
         return Answer::No(NO_SUCH);
     }
     let plan = plan_of(st, mem, slot, p);
-    perform(st, mem, slot, p, plan)
+    perform(st, mem, ls, slot, p, plan)
 }

@@ -16,14 +16,21 @@ ghost use Prim.Native.Nat.{_<_};
 ghost use Rattle.names.specs.Size.{ports};
 ghost use Rattle.answers.specs.Out.{out};
 ghost use Rattle.cells.specs.View.{view};
-ghost use Rattle.cells.specs.World.{world};
+ghost use Rattle.cells.specs.World.{lent};
 ghost use Rattle.switch.specs.Step.{stepPerformed};
 ghost use Rattle.switch.specs.Needs.{StepPossible};
 
-pub fn perform(st: &mut [u32], mem: &mut [u16], slot: Slot, p: usize, plan: Plan) -> Answer
-    requires { ⌜ (slot .0 < view (now st) .nodes) × (p < ports) × StepPossible (world (now st) (now mem)) (slot .0) p plan ⌝ }
-    ensures { λ r. ⌜ out r (world (now (st .exit)) (now (mem .exit)))
-        ≡ stepPerformed (world (now (st .entry)) (now (mem .entry))) (slot .0) p plan ⌝ }
+pub fn perform(
+    st: &mut [u32],
+    mem: &mut [u16],
+    ls: &mut [u16],
+    slot: Slot,
+    p: usize,
+    plan: Plan,
+) -> Answer
+    requires { ⌜ (slot .0 < view (now st) .nodes) × (p < ports) × StepPossible (lent (now st) (now mem) (now ls)) (slot .0) p plan ⌝ }
+    ensures { λ r. ⌜ out r (lent (now (st .exit)) (now (mem .exit)) (now (ls .exit)))
+        ≡ stepPerformed (lent (now (st .entry)) (now (mem .entry)) (now (ls .entry))) (slot .0) p plan ⌝ }
 {
     match plan {
         Plan::Idle => Answer::Idle,
@@ -33,11 +40,11 @@ pub fn perform(st: &mut [u32], mem: &mut [u16], slot: Slot, p: usize, plan: Plan
             Answer::OpenedLink(l as u32)
         }
         Plan::OpenChannel(c, t) => {
-            land_channel(st, mem, slot, p, c, t);
+            land_channel(st, mem, ls, slot, p, c, t);
             Answer::OpenedChannel
         }
         Plan::OpenUnit => {
-            land_unit(st, mem, slot, p);
+            land_unit(st, mem, ls, slot, p);
             Answer::OpenedUnit
         }
         Plan::Refuse(x) => {
@@ -45,16 +52,16 @@ pub fn perform(st: &mut [u32], mem: &mut [u16], slot: Slot, p: usize, plan: Plan
             Answer::Refused(x)
         }
         Plan::MoveOut(l) => {
-            move_out(st, mem, slot, p, l);
+            move_out(st, mem, ls, slot, p, l);
             Answer::Moved
         }
         Plan::Hand(c, t) => {
-            hand(st, mem, slot, p, c, t);
+            hand(st, mem, ls, slot, p, c, t);
             Answer::Moved
         }
-        Plan::Hear => hear(st, mem, slot, p),
+        Plan::Hear => hear(st, mem, ls, slot, p),
         Plan::Drop(x) => {
-            drop_one(st, mem, slot, p);
+            drop_one(st, mem, ls, slot, p);
             Answer::Dropped(x)
         }
     }

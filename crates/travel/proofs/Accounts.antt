@@ -211,24 +211,20 @@ module _ {a b : End} (g : ℕ) (z : Cable a b) (up : a .greeted ≡ 1) (none : a
   pub room-grant : things (b .load) < lineCapacity
   room-grant = let r = z .back in omega (arith, no-credit, r .room, r .few .1)
 
--- A TOKEN IS TAKEN, whatever becomes of it
-pub keep-taken : {a b : End} (h : ℕ) → h ≤ b .held → Cable a b → Cable a (heldTo b h)
-keep-taken h less z =
-    let s = z .there in
+-- A TOKEN IS TAKEN, whatever becomes of it: the ports hold no more than they did
+pub keep-taken : {a b : End} (g h : ℕ) → h ≤ b .held → Side a b → Side (heldTo a g) (heldTo b h)
+keep-taken g h less s =
     record {
-      there = record {
-        flag = s .flag;
-        limit = s .limit;
-        earned = s .earned;
-        few = s .few;
-        worth = s .worth;
-        behind = s .behind;
-        room = omega (arith, s .room);
-        count = s .count;
-        towards = s .towards;
-        last = s .last;
-      };
-      back = aside (z .back) (refl, refl, refl) (refl, refl, refl, refl);
+      flag = s .flag;
+      limit = s .limit;
+      earned = s .earned;
+      few = s .few;
+      worth = s .worth;
+      behind = s .behind;
+      room = omega (arith, s .room);
+      count = s .count;
+      towards = s .towards;
+      last = s .last;
     }
 
 -- HELLO IS SENT, while no credit and no HELLO is on either line: its sender's credit is 0
@@ -256,7 +252,7 @@ module _ {a b : End} (z : Cable a b) (clear : (a .load .credits ≡ 0) × (a .lo
   room-hello = omega (arith, z .there .room, clear .0, clear .1)
 
 -- NOTHING IS OWED: two ends as they are joined by a cable, or disabled
-clean-side : {a b : End} → Clean a → Clean b → Side a b
+pub clean-side : {a b : End} → Clean a → Clean b → Side a b
 clean-side {a} {b} p q =
     rw (p .load, q .load) at-rest
   where

@@ -3,14 +3,11 @@
 use Prim.Native.Nat.{ℕ, _+_, _-_, _<_, _≤_}
 use mathlib.Core.Path.{_≡_, refl, sym, ap, _∙_, subst}
 use mathlib.Core.Bool.{true, false}
-use mathlib.Core.Logic.{⊎-elim}
 use native.Mathlib.Omega.{arith}
-use lib.Dec.{eqb, ltb}
-use borrow.Author.Tests.{eqb-false, ltb-true}
+use lib.Dec.{eqb}
+use borrow.Author.Tests.{eqb-false}
 use Rattle.laws.specs.Table.{Off}
-use Rattle.laws.specs.Pick.{pick}
-use Rattle.laws.proofs.All.{also, equal}
-use Rattle.laws.proofs.Order.{by-test, order}
+use Rattle.laws.proofs.Order.{by-test}
 use Rattle.names.specs.Size.{links}
 use Rattle.names.specs.declared.Slot.{Slot}
 use Rattle.ports.specs.Queue.{capacity}
@@ -23,10 +20,10 @@ use Rattle.cells.specs.World.{World, farOf, lineFrom}
 use Rattle.cells.specs.declared.link.Far.the-variants.{At}
 use Rattle.acts.specs.Acts.{withNet, pushed}
 use Rattle.cells.specs.View.{withFlow}
-use Rattle.credits.specs.Grant.{grantOf, Granted}
-use Rattle.credits.proofs.Grants.{granted, grant-within, enough}
+use Rattle.credits.specs.Grant.{Granted}
+use Rattle.credits.proofs.Grants.{granted, grant-within}
 use Rattle.travel.specs.Travel.{loadFrom, putOn, takenOff, firstOn, paidOne, sendsOn, creditLost, tokenIn, creditIn, greets}
-use Rattle.travel.specs.Travel.{mayGrant, byCount, grantTo, grantDue, issuedMore, issues, grantsBack}
+use Rattle.travel.specs.Travel.{grantDue, issuedMore, issues, grantsBack}
 use Rattle.travel.specs.Needs.{LineThere}
 use Rattle.travel.specs.Accounts.{End, Cable, endAt, InOrder}
 use Rattle.travel.proofs.Accounts.{lineAs, issuedTo, heldTo, keep-sent, room-sent, keep-token, keep-credit, keep-hello}
@@ -36,7 +33,7 @@ use Rattle.travel.proofs.Changed.{flowAs, flow-here, flow-away, issued-
 use Rattle.travel.proofs.Changed.{put-here, put-away, off-here, off-away}
 use Rattle.travel.proofs.Loads.{load-held, put-load, off-load}
 use Rattle.travel.proofs.There.{there-net}
-use Rattle.travel.proofs.Due.{word-is}
+use Rattle.travel.proofs.Due.{due-room, due-count, due-low, due-may, word-is}
 
 -- a cable from link l of node n to link k of node m
 module _ (w : World) (back : Backs (w .net .nodes) (w .net .links .cables)) (z : InOrder w) (n l : ℕ) (m : Slot) (k : ℕ)
@@ -166,10 +163,6 @@ module _ (w : World) (back : Backs (w .net .nodes) (w .net .links .cables)) (z :
         (keep-hello (endAt w n l) left (led _ (rw said)))
 
   -- A GRANT, if one is due, at link k of node m
-  due-is : grantDue w (m .0) k ≡ pick (mayGrant w n l) (byCount w (m .0) k) 0
-  unfolding grantDue
-  due-is = ap (grantTo w (m .0) k) (home .2)
-
   -- what there is to a grant that is made
   record Made (g : ℕ) : Type 0 where
     greeted : w .net .links .flows n l .greeted ≡ 1
@@ -181,29 +174,20 @@ module _ (w : World) (back : Backs (w .net .nodes) (w .net .links .cables)) (z :
 
   made : (grantDue w (m .0) k ≡ 0 → ⊥) → Made (grantDue w (m .0) k)
   made some =
-      by-test (mayGrant w n l)
-      (λ may. by-test (ltb (w .net .lines .rings (m .0) k .held) lineCapacity)
-      (λ free. given may free (due-is ∙ rw (may, free)))
-      (λ full. absurd (some (due-is ∙ rw (may, full)))))
-      (λ may. absurd (some (due-is ∙ rw may)))
-    where
-      given : mayGrant w n l ≡ true → ltb (w .net .lines .rings (m .0) k .held) lineCapacity ≡ true
-          → grantDue w (m .0) k ≡ grantOf (w .net .lines .issued (m .0) k) (w .net .ports .counters (m .0) k .held)
-          → Made (grantDue w (m .0) k)
-      given may free is =
-          let i = w .net .lines .issued (m .0) k in
-          let h = w .net .ports .counters (m .0) k .held in
-          let z = also (equal (w .net .links .flows n l .greeted) 1) (equal (loadFrom w n l .hellos) 0) .sure may in
-          let s = both-ends .there in
-          let held : i + h ≤ capacity = omega (arith, s .count (z .1), s .room) in
-          record {
-            greeted = z .0;
-            none = z .1;
-            room = ltb-true (w .net .lines .rings (m .0) k .held) lineCapacity free;
-            low = ⊎-elim (λ b. b) (λ b. absurd (some (is ∙ enough i h b))) (order i 8);
-            size = rw is (granted i h);
-            fits = omega (arith, is, grant-within i h held);
-          }
+      let i = w .net .lines .issued (m .0) k in
+      let h = w .net .ports .counters (m .0) k .held in
+      let s = both-ends .there in
+      let may = due-may w (m .0) k (record { 0 = n }) l (home .2) some in
+      let held : i + h ≤ capacity = omega (arith, s .count (may .1), s .room) in
+      let is = due-count w (m .0) k some in
+      record {
+        greeted = may .0;
+        none = may .1;
+        room = due-room w (m .0) k _ refl some;
+        low = due-low w (m .0) k some;
+        size = rw is (granted i h);
+        fits = omega (arith, is, grant-within i h held);
+      }
 
   pub grant-in-order : LineThere w (m .0) k → InOrder (grantsBack w (m .0) k)
   unfolding grantsBack putOn

@@ -8,9 +8,10 @@ use Rattle.cells.specs.World.{World, farOf}
 use Rattle.cells.specs.declared.link.Far.{Far}
 use Rattle.cells.specs.declared.link.Far.the-variants.{Nowhere, At}
 use Rattle.acts.specs.Acts.{pushed}
-use Rattle.acts.specs.Needs.{Room}
-use Rattle.travel.specs.Travel.{putOn, takenOff, grantTo, grantDue, grantsBack, tokenIn}
-use Rattle.travel.specs.Needs.{LineThere, FarLine, Grants}
+use Rattle.acts.specs.Needs.{Room, Holds}
+use Rattle.travel.specs.Travel.{putOn, takenOff, grantTo, grantDue, grantsBack, tokenIn, sendsOn}
+use Rattle.travel.specs.Needs.{LineThere, Grants}
+use Rattle.travel.proofs.There.{there-kept, grants-kept}
 
 -- another token memory, and other lines
 abbrev pub withMemory : World → List ℕ → World
@@ -38,20 +39,15 @@ module _ (w : World) (m : List ℕ) where
   back-lent j k =
       rw (due-lent j k) (by-test (eqb (grantDue w j k) 0) (λ e. rw e) (λ e. rw e))
 
+  pub send-lent : (n l x : ℕ) → sendsOn (withMemory w m) n l x ≡ withMemory (sendsOn w n l x) m
+  unfolding putOn
+  send-lent n l x = refl
+
   pub there-lent : (n l : ℕ) → LineThere (withMemory w m) n l → LineThere w n l
-  there-lent n l z = record { node = z .node; link = z .link; fair = z .fair; reaches = z .reaches }
+  there-lent n l z = there-kept refl refl refl z
 
   pub grants-lent : (j k : ℕ) → Grants (withMemory w m) j k → Grants w j k
-  grants-lent j k z =
-      record {
-        here = there-lent j k (z .here);
-        far = at-far (farOf (w .net .links .cables j k)) (z .far);
-        fits = z .fits;
-      }
-    where
-      at-far : (f : Far) → FarLine (withMemory w m) f → FarLine w f
-      at-far Nowhere h = tt
-      at-far (At n l) h = there-lent (n .0) l h
+  grants-lent j k z = grants-kept refl refl refl refl z
 
 -- .. what a function did that is lent no port
 pub taken-lent : (w z : World) (m : List ℕ) (n l : ℕ) → z ≡ takenOff w n l → withMemory z m ≡ takenOff (withMemory w m) n l
@@ -70,6 +66,9 @@ module _ (w : World) (ls : List ℕ) where
 
   pub room-lent : (m k i : ℕ) → Room (withLineMemory w ls) m k i → Room w m k i
   room-lent m k i z = record { node = z .node; port = z .port; fair = z .fair; room = z .room; reaches = z .reaches }
+
+  pub holds-lent : (n p i : ℕ) → Holds (withLineMemory w ls) n p i → Holds w n p i
+  holds-lent n p i z = record { node = z .node; port = z .port; fair = z .fair; held = z .held; reaches = z .reaches }
 
 -- .. what a function did that is lent no line
 pub came-lent : (w z : World) (ls : List ℕ) (m k x : ℕ) → z ≡ tokenIn w m k x → withLineMemory z ls ≡ tokenIn (withLineMemory w ls) m k x

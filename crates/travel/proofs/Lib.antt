@@ -6,6 +6,10 @@ pub mod Arrivals
 pub mod Accounts
 pub mod Cables
 pub mod Loads
+pub mod Tokens
 pub mod Changed
 pub mod Keeps
+pub mod Granted
+pub mod Again
+pub mod Owes
 pub mod Stepped

@@ -1,4 +1,4 @@
--- How much is on each line after one thing is put on a line or taken off it. Assumes nothing.
+-- What is on each line, and how much, after one thing is put on a line or taken off it. Assumes nothing.
 use Prim.Native.Nat.{ℕ, _+_, _%_, _<_}
 use mathlib.Core.Path.{_≡_, sym, ap, _∙_}
 use mathlib.Core.List.{List, [], _∷_, _++_}
@@ -8,7 +8,7 @@ use lib.ListN.{set}
 use Rattle.laws.specs.Table.{upd, Off}
 use Rattle.laws.proofs.Table.{upd-same, upd-miss}
 use Rattle.names.specs.Size.{links}
-use Rattle.ports.specs.Ring.{putCounters, stretch}
+use Rattle.ports.specs.Ring.{putCounters, stretch, ring}
 use Rattle.ports.specs.declared.Counters.{Counters}
 use Rattle.lines.specs.Line.{lineCapacity, offCounters, linePlace, onMemory, offMemory, onLine}
 use Rattle.lines.specs.Load.{before, loadOf}
@@ -32,6 +32,11 @@ line-away rings n l c m i v a j hl hj hi o =
     ap (λ (k : Counters). onLine k (set m (linePlace n l + i) v) (linePlace a j)) (upd-miss rings n l c a j o)
     ∙ other-line (rings a j) m n l a j i v hl hj hi o
 
+-- nothing is on a line where its counters say so
+pub line-none : (w : World) (n l : ℕ) → w .net .lines .rings n l .held ≡ 0 → lineFrom w n l ≡ []
+unfolding ring
+line-none w n l e = rw e
+
 module _ (w : World) (n l : ℕ) (z : LineThere w n l) where
   abbrev counters : Counters
   counters = w .net .lines .rings n l
@@ -42,35 +47,40 @@ module _ (w : World) (n l : ℕ) (z : LineThere w n l) where
       sym (ring-long lineCapacity (stretch lineCapacity (w .lineMemory) (linePlace n l)) (counters .head) (counters .held))
       ∙ how-many (lineFrom w n l)
 
-  -- PUT ON
-  pub put-load : (x : ℕ) → counters .held < lineCapacity → loadFrom (putOn w n l x) n l ≡ loadOf (lineFrom w n l ++ (x ∷ []))
+  -- PUT ON: behind what is on it; the other lines are as they were
+  pub put-line : (x : ℕ) → counters .held < lineCapacity → lineFrom (putOn w n l x) n l ≡ lineFrom w n l ++ (x ∷ [])
   unfolding putOn
-  put-load x h =
-      ap loadOf
-      (line-here (w .net .lines .rings) n l (putCounters counters) (onMemory counters (w .lineMemory) (linePlace n l) x)
-      ∙ put-last counters (w .lineMemory) (linePlace n l) x (z .reaches) h)
+  put-line x h =
+      line-here (w .net .lines .rings) n l (putCounters counters) (onMemory counters (w .lineMemory) (linePlace n l) x)
+      ∙ put-last counters (w .lineMemory) (linePlace n l) x (z .reaches) h
+
+  pub put-line-away : (x a j : ℕ) → j < links → Off n l a j → lineFrom (putOn w n l x) a j ≡ lineFrom w a j
+  unfolding putOn
+  put-line-away x a j hj o =
+      line-away (w .net .lines .rings) n l (putCounters counters) (w .lineMemory) ((counters .head + counters .held) % lineCapacity) x a j
+      (z .link) hj (mod-lt (counters .head + counters .held) (omega arith)) o
+
+  pub put-load : (x : ℕ) → counters .held < lineCapacity → loadFrom (putOn w n l x) n l ≡ loadOf (lineFrom w n l ++ (x ∷ []))
+  put-load x h = ap loadOf (put-line x h)
 
   pub put-load-away : (x a j : ℕ) → j < links → Off n l a j → loadFrom (putOn w n l x) a j ≡ loadFrom w a j
-  unfolding putOn
-  put-load-away x a j hj o =
-      ap loadOf
-      (line-away (w .net .lines .rings) n l (putCounters counters) (w .lineMemory) ((counters .head + counters .held) % lineCapacity) x a j
-      (z .link) hj (mod-lt (counters .head + counters .held) (omega arith)) o)
+  put-load-away x a j hj o = ap loadOf (put-line-away x a j hj o)
 
-  -- TAKEN OFF
-  pub off-load : 0 < counters .held → loadFrom w n l ≡ before (firstOn w n l) (loadFrom (takenOff w n l) n l)
+  -- TAKEN OFF: its first
+  pub off-line : 0 < counters .held → lineFrom w n l ≡ firstOn w n l ∷ lineFrom (takenOff w n l) n l
   unfolding takenOff
-  off-load h =
-      ap loadOf (off-first counters (w .lineMemory) (linePlace n l) (z .fair) h)
-      ∙ ap (λ (q : List ℕ). before (firstOn w n l) (loadOf q)) left
-    where
-      left : onLine (offCounters counters) (offMemory counters (w .lineMemory) (linePlace n l)) (linePlace n l)
-          ≡ lineFrom (takenOff w n l) n l
-      left = sym
-          (line-here (w .net .lines .rings) n l (offCounters counters) (offMemory counters (w .lineMemory) (linePlace n l)))
+  off-line h =
+      off-first counters (w .lineMemory) (linePlace n l) (z .fair) h
+      ∙ ap (λ (q : List ℕ). firstOn w n l ∷ q)
+      (sym (line-here (w .net .lines .rings) n l (offCounters counters) (offMemory counters (w .lineMemory) (linePlace n l))))
+
+  pub off-line-away : (a j : ℕ) → j < links → Off n l a j → lineFrom (takenOff w n l) a j ≡ lineFrom w a j
+  unfolding takenOff
+  off-line-away a j hj o =
+      line-away (w .net .lines .rings) n l (offCounters counters) (w .lineMemory) (counters .head) 0 a j (z .link) hj (z .fair .head-in) o
+
+  pub off-load : 0 < counters .held → loadFrom w n l ≡ before (firstOn w n l) (loadFrom (takenOff w n l) n l)
+  off-load h = ap loadOf (off-line h)
 
   pub off-load-away : (a j : ℕ) → j < links → Off n l a j → loadFrom (takenOff w n l) a j ≡ loadFrom w a j
-  unfolding takenOff
-  off-load-away a j hj o =
-      ap loadOf
-      (line-away (w .net .lines .rings) n l (offCounters counters) (w .lineMemory) (counters .head) 0 a j (z .link) hj (z .fair .head-in) o)
+  off-load-away a j hj o = ap loadOf (off-line-away a j hj o)

@@ -24,7 +24,7 @@ use Rattle.travel.specs.Accounts.{InOrder}
 use Rattle.travel.proofs.Cables.{Backs}
 use Rattle.travel.proofs.Keeps.{token-in-order, credit-in-order, hello-arrives-in-order, grant-in-order}
 
-positive : (h : ℕ) → (h ≡ 0 → ⊥) → 0 < h
+pub positive : (h : ℕ) → (h ≡ 0 → ⊥) → 0 < h
 positive h some = ⊎-elim (λ b. b) (λ b. absurd (some (omega arith))) (order 0 h)
 
 -- what is left of a line can be read

@@ -1,4 +1,5 @@
--- What these ask of the state that they are made on. A sound and tight state has it once Sound has lines.
+-- What these ask of the state that they are made on. A sound state has it: `line-there` and `grants` in switch/proofs/Cabled.antt,
+-- `line-possible` in switch/proofs/Arrivals.antt.
 use Prim.{Unit}
 use Prim.Native.Nat.{ℕ, _+_, _^_, _<_, _≤_}
 use mathlib.Core.Path.{_≡_}
@@ -8,11 +9,21 @@ use lib.ListN.{length}
 use Rattle.names.specs.Size.{links}
 use Rattle.lines.specs.Line.{lineCapacity, LineFair, linePlace}
 use Rattle.lines.specs.Load.{isHello, creditOf}
+use Rattle.cells.specs.View.{Net}
 use Rattle.cells.specs.World.{World, farOf}
 use Rattle.cells.specs.declared.link.Far.{Far}
 use Rattle.cells.specs.declared.link.Far.the-variants.{Nowhere, At}
 use Rattle.acts.specs.Needs.{Room}
 use Rattle.travel.specs.Travel.{takenOff, firstOn, tokenIn, greets}
+
+-- among so many nodes, a cable leads nowhere or to a link that is there
+abbrev pub Leads : ℕ → Far → Type 0
+Leads nodes Nowhere = Unit
+Leads nodes (At m j) = (m .0 < nodes) × (j < links)
+
+-- .. at link l of node n
+abbrev pub Cabled : Net → ℕ → ℕ → Type 0
+Cabled s n l = Leads (s .nodes) (farOf (s .links .cables n l))
 
 -- the line that starts at link l of node n can be read
 pub record LineThere (w : World) (n l : ℕ) : Type 0 where

@@ -1,5 +1,5 @@
 -- What travels on the lines of cables, on the state (document 02, Ask 4): what is put on a line and comes off it, grants by the count,
--- HELLO, and a line's step. No call makes these yet: tokens still cross at once.
+-- HELLO, a link disabled, and a line's step.
 use Prim.Native.Nat.{ℕ, _+_, _-_}
 use mathlib.Core.Bool.{Bool, _&&_}
 use lib.Dec.{eqb, ltb}
@@ -9,9 +9,10 @@ use Rattle.lines.specs.Line.{lineCapacity, offCounters, linePlace, onMemory, of
 use Rattle.lines.specs.Load.{helloWord, creditWord, isHello, creditOf, loadOf}
 use Rattle.lines.specs.declared.load.Load.{Load}
 use Rattle.credits.specs.Grant.{grantOf}
-use Rattle.cells.specs.View.{Net, withFlow, withRing, withIssued}
+use Rattle.cells.specs.View.{Net, withFlow, withSetup, withRing, withIssued}
 use Rattle.cells.specs.World.{World, farOf, lineFrom}
-use Rattle.cells.specs.Changes.{creditAs, greetedAs}
+use Rattle.cells.specs.Changes.{creditAs, greetedAs, enabledAs}
+use Rattle.cells.specs.declared.link.Flow.{Flow}
 use Rattle.cells.specs.declared.link.Far.{Far}
 use Rattle.cells.specs.declared.link.Far.the-variants.{Nowhere, At}
 use Rattle.clauses.specs.Cables.{farEnabled}
@@ -86,6 +87,22 @@ unfoldable pub saysHello : World → ℕ → ℕ → World
 saysHello w n l =
     let z = withNet w (creditLost (w .net) n l) in
     pick (farEnabled (w .net) (w .net .links .cables n l)) (putOn z n l helloWord) z
+
+-- DISABLING. "Disabling zeroes and un-greets both ends" (document 01, "Credits"), their counts too: "which an arriving HELLO and a disabling
+-- set to 0"; the far end stays enabled
+abbrev pub silenced : Flow
+silenced = record { greeted = 0; credit = 0 }
+
+abbrev pub zeroed : Net → ℕ → ℕ → Net
+zeroed s n l = withIssued (withFlow s n l silenced) n l 0
+
+abbrev pub farZeroed : Net → Far → Net
+farZeroed s Nowhere = s
+farZeroed s (At m k) = zeroed s (m .0) k
+
+unfoldable pub disabled : Net → ℕ → ℕ → Net
+disabled s n l =
+    farZeroed (withSetup (zeroed s n l) n l (enabledAs (s .links .setups n l) 0)) (farOf (s .links .cables n l))
 
 -- A TOKEN SENT: "Each token moved over a link, header included, costs one credit", and goes on the line
 abbrev pub paidOne : Net → ℕ → ℕ → Net

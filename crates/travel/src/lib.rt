@@ -1,5 +1,5 @@
 // What travels on the lines of cables (document 02, Ask 4): things put on a line and taken off it, grants by the count, HELLO, a token
-// sent, and a line's step. No call makes these yet: tokens still cross at once.
+// sent, a link disabled, and a line's step.
 pub mod arrive;
 pub mod grant;
 pub mod line;

@@ -15,6 +15,8 @@ pub enum Answer {
     /// The value of the token that Input took.
     Token(u8),
     Step(Stepped),
+    /// A line step took one off, and it brought this grant: 0, 8, 16 or 64.
+    Arrived(u32),
 }
 
 /// What came of a Step.
@@ -64,6 +66,7 @@ impl Answer {
     /// assert_eq!(Answer::from_crossed(4 << 32), Some(Answer::Step(Stepped::Idle)));
     /// assert_eq!(Answer::from_crossed(12 << 32), Some(Answer::Step(Stepped::Malformed)));
     /// assert_eq!(Answer::from_crossed(13 << 32), Some(Answer::Step(Stepped::Unheard)));
+    /// assert_eq!(Answer::from_crossed(14 << 32 | 8), Some(Answer::Arrived(8)));
     /// assert_eq!(Answer::from_crossed(0), None);
     /// ```
     pub fn from_crossed(crossed: u64) -> Option<Answer> {
@@ -72,6 +75,7 @@ impl Answer {
             (1, 0) => Some(Answer::Done),
             (2, credit) => Some(Answer::Granted(credit)),
             (3, value) => u8::try_from(value).ok().map(Answer::Token),
+            (14, credit) => Some(Answer::Arrived(credit)),
             (case, value) => Stepped::from_parts(case, value).map(Answer::Step),
         }
     }

@@ -1,4 +1,4 @@
-//! The clauses of document 01's list "Sound".
+//! The clauses of document 01's list "Sound", and what document 02 adds to it.
 
 use std::error::Error;
 use std::fmt;
@@ -14,23 +14,26 @@ use std::fmt;
 pub struct Clause(usize);
 
 /// What each asks, in the paper's words where it has them.
-const TEXTS: [&str; 12] = [
-    "both memories have the lengths of 1 to 16 nodes",
+const TEXTS: [&str; 15] = [
+    "the memories have the lengths of 1 to 16 nodes",
     "counts within their limits",
     "credit only where greeted",
     "greeted only where wired with both ends enabled",
-    "credit plus tokens held at the far end at most 64",
+    "credit plus tokens held at the far end at most 64, with what is on the lines between",
     "cables agree at both ends",
-    "tokens and headers in ports are legal and stand where they may",
+    "tokens and headers in ports, with the lines to them, are legal and stand where they may",
     "tokens in channel-ends and control units are legal",
     "a port's output names that port back and no other",
     "each claim names one circuit that exists",
     "each open channel-end names one circuit that exists",
     "port 12 is empty while the control unit serves a circuit",
+    "one credit and one HELLO at most on a line",
+    "what a link has issued is credit or tokens that are on their way",
+    "an end without a cable has nothing on its line and nothing issued",
 ];
 
 impl Clause {
-    /// The clause of that number, 1..12.
+    /// The clause of that number, 1..15.
     pub fn from_number(number: u32) -> Option<Clause> {
         let number = number as usize;
         (1..=TEXTS.len())

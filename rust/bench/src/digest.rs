@@ -86,6 +86,15 @@ impl Digest {
         self.port_or_none(looks.control_unit(slot).serves);
     }
 
+    /// Behind all nodes, of each: what its links have issued, and what is on the lines from them.
+    fn lines(&mut self, looks: Looks, slot: usize) {
+        for link in 0..LINKS {
+            let line = looks.line(slot, link);
+            self.items([line.issued, line.held]);
+            self.tokens(looks.line_tokens(slot, link));
+        }
+    }
+
     fn link(&mut self, link: Link) {
         match link.far() {
             Some((slot, far)) => self.items([1, slot, far]),
@@ -131,6 +140,9 @@ pub(crate) fn digest(looks: Looks) -> u64 {
     digest.byte(u8::try_from(looks.nodes()).unwrap_or(255));
     for slot in 0..looks.nodes() {
         digest.node(looks, slot);
+    }
+    for slot in 0..looks.nodes() {
+        digest.lines(looks, slot);
     }
     digest.0
 }

@@ -1,10 +1,11 @@
 //! The proved bench of document 01, called from Rust: a network of 1 to 16 XS1-L nodes, their
-//! links, circuits, credits and switch messages.
+//! links, circuits, credits and switch messages. A token that leaves a node is on the line of a cable
+//! until a line step takes it off.
 //!
 //! What is called is the static library that the Rattle toolchain has proved and compiled from
 //! `crates/host`; this crate adds names, enums and ownership, and no rule of the bench. Its parts:
 //!
-//! * [`Bench`]: a network that owns its two memories, with a method for each call;
+//! * [`Bench`]: a network that owns its memories, with a method for each call;
 //! * [`StepRecord`]: one of a list of Steps that are made at once, and [`StepResult`], what it
 //!   answered;
 //! * [`Looks`]: the state of a network, read through the proved looks alone, with its
@@ -17,6 +18,7 @@
 mod answer;
 mod clause;
 mod digest;
+mod freight;
 mod list;
 mod looks;
 mod network;
@@ -30,6 +32,7 @@ mod token;
 
 pub use answer::{Answer, Opening, Stepped};
 pub use clause::Clause;
+pub use freight::Freight;
 pub use list::{StepRecord, StepResult};
 pub use looks::Looks;
 pub use network::{Bench, LinkEnd, Setting};

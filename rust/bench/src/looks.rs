@@ -5,14 +5,14 @@ use crate::digest;
 use crate::raw;
 use crate::records::{ChannelEnd, ControlUnit, Line, Link, Node, Port, Record, TileLink};
 
-/// A view of two lent memories, which may be of any length and hold anything.
+/// A view of the lent memories, which may be of any length and hold anything.
 ///
 /// Each look has an answer: a place that is not there shows a record of zeros, or no token.
 ///
 /// ```
 /// use bench::Looks;
 ///
-/// let looks = Looks::over(&[], &[]);
+/// let looks = Looks::over(&[], &[], &[]);
 /// assert_eq!(looks.nodes(), 0);
 /// assert_eq!(looks.failing_clause().map(|clause| clause.number()), Some(1));
 /// assert_eq!(looks.link(3, 0), bench::Link::default());
@@ -21,6 +21,7 @@ use crate::records::{ChannelEnd, ControlUnit, Line, Link, Node, Port, Record, Ti
 pub struct Looks<'a> {
     state: &'a [u32],
     memory: &'a [u16],
+    lines: &'a [u16],
 }
 
 /// Shows a record by a look that fills a buffer of its very size.
@@ -33,8 +34,12 @@ fn record<const N: usize, R: Record<N>>(look: impl FnOnce(&mut [u32]) -> bool) -
 
 impl<'a> Looks<'a> {
     /// Looks at these words.
-    pub fn over(state: &'a [u32], memory: &'a [u16]) -> Looks<'a> {
-        Looks { state, memory }
+    pub fn over(state: &'a [u32], memory: &'a [u16], lines: &'a [u16]) -> Looks<'a> {
+        Looks {
+            state,
+            memory,
+            lines,
+        }
     }
 
     /// How many nodes there are: what the state's length says.
@@ -47,24 +52,29 @@ impl<'a> Looks<'a> {
         self.memory.len()
     }
 
-    /// Whether both lengths are those of whole nodes, and the list "Sound" holds.
+    /// The length of the lines' memory.
+    pub fn line_words(self) -> usize {
+        self.lines.len()
+    }
+
+    /// Whether the lengths are those of whole nodes, and the list "Sound" holds.
     pub fn is_sound(self) -> bool {
-        raw::is_sound(self.state, self.memory)
+        raw::is_sound(self.state, self.memory, self.lines)
     }
 
     /// The first clause that an unsound memory fails.
     pub fn failing_clause(self) -> Option<Clause> {
-        Clause::from_number(raw::unsound_clause(self.state, self.memory))
+        Clause::from_number(raw::unsound_clause(self.state, self.memory, self.lines))
     }
 
     /// Whether the ties hold that calls keep beside the list.
     pub fn is_tight(self) -> bool {
-        raw::is_tight(self.state, self.memory)
+        raw::is_tight(self.state, self.memory, self.lines)
     }
 
-    /// Whether there is no token, no claim and no open circuit anywhere.
+    /// Whether there is no token, no claim and no open circuit anywhere, and nothing on a line.
     pub fn is_quiet(self) -> bool {
-        raw::is_quiet(self.state, self.memory)
+        raw::is_quiet(self.state, self.memory, self.lines)
     }
 
     pub fn node(self, slot: usize) -> Node {
@@ -105,6 +115,13 @@ impl<'a> Looks<'a> {
     /// [`Token::from_word`](crate::Token::from_word) reads them.
     pub fn port_tokens(self, slot: usize, port: usize) -> impl Iterator<Item = u32> + use<'a> {
         (0..).map_while(move |place| raw::port_token(self.state, self.memory, slot, port, place))
+    }
+
+    /// The words of what is on the line that starts at a link, the first to arrive first: tokens,
+    /// and credits and HELLO as control words; [`Freight::from_word`](crate::Freight::from_word)
+    /// reads them.
+    pub fn line_tokens(self, slot: usize, link: usize) -> impl Iterator<Item = u32> + use<'a> {
+        (0..).map_while(move |place| raw::line_token(self.state, self.lines, slot, link, place))
     }
 
     /// The words of the tokens that a channel-end holds, oldest first.

@@ -1,4 +1,4 @@
-//! A network that owns its two memories.
+//! A network that owns its memories.
 
 use crate::answer::{Answer, Stepped};
 use crate::list::{StepRecord, StepResult};
@@ -50,7 +50,10 @@ pub enum Setting {
 /// // Link E is enabled from the start, link A is not.
 /// assert_eq!(bench.hello(0, 0), Err(Refusal::Busy));
 /// bench.set(0, Setting::Enable { link: 0, value: 1 })?;
-/// assert_eq!(bench.hello(0, 0)?, 64);
+/// bench.hello(0, 0)?;
+/// // The HELLO is on its way; when it arrives the far end grants, and the credit travels back.
+/// assert_eq!(bench.line(0, 0)?, Some(64));
+/// assert_eq!(bench.line(1, 4)?, Some(0));
 /// assert_eq!(bench.looks().link(0, 0).credit, 64);
 /// # Ok(())
 /// # }
@@ -59,6 +62,7 @@ pub enum Setting {
 pub struct Bench {
     state: Vec<u32>,
     memory: Vec<u16>,
+    lines: Vec<u16>,
 }
 
 /// An answer that says only whether the call was refused.
@@ -110,15 +114,17 @@ impl Bench {
     /// A network of its own memories, by one of the two starts.
     fn started(
         nodes: usize,
-        start: fn(&mut [u32], &mut [u16], usize) -> Answer,
+        start: fn(&mut [u32], &mut [u16], &mut [u16], usize) -> Answer,
     ) -> Result<Bench, Refusal> {
         // A count that is refused is refused at any length of the memories.
         let lent = if nodes <= MOST_NODES { nodes } else { 0 };
         let mut bench = Bench {
             state: vec![0; lent * raw::state_words()],
             memory: vec![0; lent * raw::memory_words()],
+            lines: vec![0; lent * raw::line_words()],
         };
-        done(start(&mut bench.state, &mut bench.memory, nodes))?;
+        let (memory, lines) = (&mut bench.memory, &mut bench.lines);
+        done(start(&mut bench.state, memory, lines, nodes))?;
         Ok(bench)
     }
 
@@ -128,25 +134,29 @@ impl Bench {
     /// ```
     /// use bench::{raw, Bench, Refusal, Setting};
     ///
-    /// let mut bench = Bench::over(vec![0; raw::state_words()], Vec::new());
+    /// let mut bench = Bench::over(vec![0; raw::state_words()], Vec::new(), Vec::new());
     /// assert_eq!(bench.set(0, Setting::Number(1)), Err(Refusal::Unsound));
     /// ```
-    pub fn over(state: Vec<u32>, memory: Vec<u16>) -> Bench {
-        Bench { state, memory }
+    pub fn over(state: Vec<u32>, memory: Vec<u16>, lines: Vec<u16>) -> Bench {
+        Bench {
+            state,
+            memory,
+            lines,
+        }
     }
 
-    /// The two memories back, state and token memory, as the calls have left them.
+    /// The memories back, state, token memory and lines, as the calls have left them.
     ///
     /// ```
     /// use bench::{raw, Bench};
     ///
-    /// let (state, memory) = Bench::fresh(2).unwrap().into_parts();
+    /// let (state, memory, lines) = Bench::fresh(2).unwrap().into_parts();
     /// assert_eq!(raw::node_count(&state), 2);
-    /// let same = Bench::over(state, memory);
+    /// let same = Bench::over(state, memory, lines);
     /// assert!(same.looks().is_sound());
     /// ```
-    pub fn into_parts(self) -> (Vec<u32>, Vec<u16>) {
-        (self.state, self.memory)
+    pub fn into_parts(self) -> (Vec<u32>, Vec<u16>, Vec<u16>) {
+        (self.state, self.memory, self.lines)
     }
 
     /// Wire: join two different link ends, both unwired. Enabled or not, in use or not, does not
@@ -164,9 +174,9 @@ impl Bench {
     /// assert_eq!(bench.wire(e, a), Err(Refusal::Busy));
     /// ```
     pub fn wire(&mut self, one: LinkEnd, other: LinkEnd) -> Result<(), Refusal> {
-        let (state, memory) = (&mut self.state, &self.memory);
+        let (state, memory, lines) = (&mut self.state, &self.memory, &self.lines);
         done(raw::wire(
-            state, memory, one.slot, one.link, other.slot, other.link,
+            state, memory, lines, one.slot, one.link, other.slot, other.link,
         ))
     }
 
@@ -182,22 +192,28 @@ impl Bench {
     /// assert_eq!(bench.set(3, Setting::Width(1)), Err(Refusal::NoSuch));
     /// ```
     pub fn set(&mut self, slot: usize, setting: Setting) -> Result<(), Refusal> {
-        let (state, memory) = (&mut self.state, &self.memory);
+        let (state, memory, lines) = (&mut self.state, &self.memory, &mut self.lines);
         done(match setting {
-            Setting::Number(value) => raw::set_number(state, memory, slot, value),
-            Setting::Width(value) => raw::set_width(state, memory, slot, value),
+            Setting::Number(value) => raw::set_number(state, memory, lines, slot, value),
+            Setting::Width(value) => raw::set_width(state, memory, lines, slot, value),
             Setting::Direction { bit, value } => {
-                raw::set_direction(state, memory, slot, bit, value)
+                raw::set_direction(state, memory, lines, slot, bit, value)
             }
             Setting::LinkDirection { link, value } => {
-                raw::set_link_direction(state, memory, slot, link, value)
+                raw::set_link_direction(state, memory, lines, slot, link, value)
             }
-            Setting::Network { link, value } => raw::set_network(state, memory, slot, link, value),
-            Setting::Enable { link, value } => raw::set_enable(state, memory, slot, link, value),
+            Setting::Network { link, value } => {
+                raw::set_network(state, memory, lines, slot, link, value)
+            }
+            Setting::Enable { link, value } => {
+                raw::set_enable(state, memory, lines, slot, link, value)
+            }
         })
     }
 
-    /// HELLO on a link. The answer gives the grant: 0, 8, 16 or 64.
+    /// HELLO on a link: it goes on the line, and the grant comes when it has arrived, so that the
+    /// answer is 0. Sent to an end that is absent or disabled it is lost. Busy while a credit or a
+    /// HELLO is on a line of the cable.
     ///
     /// ```
     /// use bench::{Bench, Refusal};
@@ -208,7 +224,7 @@ impl Bench {
     /// assert_eq!(bench.hello(0, 8), Err(Refusal::NoSuch));
     /// ```
     pub fn hello(&mut self, slot: usize, link: usize) -> Result<u32, Refusal> {
-        match raw::hello(&mut self.state, &self.memory, slot, link) {
+        match raw::hello(&mut self.state, &self.memory, &mut self.lines, slot, link) {
             Answer::No(refusal) => Err(refusal),
             Answer::Granted(credit) => Ok(credit),
             other => unreachable!("HELLO answers with a grant, not {other:?}"),
@@ -237,13 +253,20 @@ impl Bench {
         destination: Destination,
         network: u32,
     ) -> Result<(), Refusal> {
-        let (state, memory) = (&mut self.state, &self.memory);
+        let (state, memory, lines) = (&mut self.state, &self.memory, &self.lines);
         done(match destination {
-            Destination::Channel { number, channel } => {
-                raw::aim_channel(state, memory, slot, channel_end, number, channel, network)
-            }
+            Destination::Channel { number, channel } => raw::aim_channel(
+                state,
+                memory,
+                lines,
+                slot,
+                channel_end,
+                number,
+                channel,
+                network,
+            ),
             Destination::Control { number } => {
-                raw::aim_unit(state, memory, slot, channel_end, number, network)
+                raw::aim_unit(state, memory, lines, slot, channel_end, number, network)
             }
         })
     }
@@ -270,10 +293,10 @@ impl Bench {
         kind: Kind,
         value: u8,
     ) -> Result<(), Refusal> {
-        let (state, memory) = (&mut self.state, &mut self.memory);
+        let (state, memory, lines) = (&mut self.state, &mut self.memory, &self.lines);
         done(match kind {
-            Kind::Data => raw::output_data(state, memory, slot, channel_end, value),
-            Kind::Control => raw::output_control(state, memory, slot, channel_end, value),
+            Kind::Data => raw::output_data(state, memory, lines, slot, channel_end, value),
+            Kind::Control => raw::output_control(state, memory, lines, slot, channel_end, value),
         })
     }
 
@@ -291,10 +314,10 @@ impl Bench {
     /// assert_eq!(bench.input(0, 7, Kind::Data), Ok(9));
     /// ```
     pub fn input(&mut self, slot: usize, channel_end: usize, kind: Kind) -> Result<u8, Refusal> {
-        let (state, memory) = (&mut self.state, &self.memory);
+        let (state, memory, lines) = (&mut self.state, &self.memory, &self.lines);
         let answer = match kind {
-            Kind::Data => raw::input_data(state, memory, slot, channel_end),
-            Kind::Control => raw::input_control(state, memory, slot, channel_end),
+            Kind::Data => raw::input_data(state, memory, lines, slot, channel_end),
+            Kind::Control => raw::input_control(state, memory, lines, slot, channel_end),
         };
         match answer {
             Answer::No(refusal) => Err(refusal),
@@ -303,7 +326,9 @@ impl Bench {
         }
     }
 
-    /// One Step of a port: its circuit is opened, refused or made to wait, or one token passes.
+    /// One Step of a port: its circuit is opened, refused or made to wait, or one token passes. A
+    /// token that leaves by a link goes on the line that starts there; it is in the far port when
+    /// [`line`](Bench::line) has taken it off.
     ///
     /// The Step that takes the END of a switch message has the control unit obey it: the write is
     /// made, whole or not at all, and the reply is put into port 12.
@@ -349,10 +374,54 @@ impl Bench {
     /// assert_eq!(bench.input(0, 7, Kind::Control), Ok(0x03)); // ACK
     /// ```
     pub fn step(&mut self, slot: usize, port: usize) -> Result<Stepped, Refusal> {
-        match raw::step(&mut self.state, &mut self.memory, slot, port) {
+        match raw::step(
+            &mut self.state,
+            &mut self.memory,
+            &mut self.lines,
+            slot,
+            port,
+        ) {
             Answer::No(refusal) => Err(refusal),
             Answer::Step(stepped) => Ok(stepped),
             other => unreachable!("Step answers what came of it, not {other:?}"),
+        }
+    }
+
+    /// A line step: one off the far end of the line that starts at a link. A token comes to the far
+    /// port, a credit or a HELLO to the far link. The answer is the grant that the arrival brought,
+    /// 0, 8, 16 or 64, and none where nothing was on the line or no cable is there.
+    ///
+    /// ```
+    /// use bench::{Bench, Destination, Kind, LinkEnd, Refusal, Setting, Stepped};
+    ///
+    /// let mut bench = Bench::fresh(2).unwrap();
+    /// bench.wire(LinkEnd { slot: 0, link: 4 }, LinkEnd { slot: 1, link: 4 }).unwrap();
+    /// assert_eq!(bench.line(0, 4), Ok(None));
+    /// bench.hello(0, 4).unwrap();
+    /// assert_eq!(bench.hello(0, 4), Err(Refusal::Busy)); // one is on its way
+    /// assert_eq!(bench.line(0, 4), Ok(Some(64)));
+    /// assert_eq!(bench.looks().link(0, 4).credit, 0);
+    /// assert_eq!(bench.line(1, 4), Ok(Some(0))); // the credit
+    /// assert_eq!(bench.looks().link(0, 4).credit, 64);
+    /// assert_eq!(bench.line(0, 8), Err(Refusal::NoSuch));
+    ///
+    /// // A token that a Step sends out is in the far port when the line has brought it there.
+    /// bench.set(1, Setting::Number(1)).unwrap();
+    /// bench.aim(0, 2, Destination::Channel { number: 1, channel: 7 }, 0).unwrap();
+    /// bench.output(0, 2, Kind::Data, 9).unwrap();
+    /// bench.step(0, 8).unwrap(); // opened by link E
+    /// assert_eq!(bench.step(0, 8), Ok(Stepped::Moved));
+    /// assert_eq!((bench.looks().line(0, 4).held, bench.looks().port(1, 4).held), (1, 0));
+    /// assert_eq!(bench.line(0, 4), Ok(Some(0)));
+    /// assert_eq!((bench.looks().line(0, 4).held, bench.looks().port(1, 4).held), (0, 1));
+    /// ```
+    pub fn line(&mut self, slot: usize, link: usize) -> Result<Option<u32>, Refusal> {
+        let (memory, lines) = (&mut self.memory, &mut self.lines);
+        match raw::line_step(&mut self.state, memory, lines, slot, link) {
+            Answer::No(refusal) => Err(refusal),
+            Answer::Step(Stepped::Idle) => Ok(None),
+            Answer::Arrived(granted) => Ok(Some(granted)),
+            other => unreachable!("a line step answers Idle or a grant, not {other:?}"),
         }
     }
 
@@ -408,8 +477,14 @@ impl Bench {
         list: &[StepRecord],
         results: &mut [StepResult],
     ) -> Result<(), Refusal> {
-        let (state, memory) = (&mut self.state, &mut self.memory);
-        done(raw::steps(state, memory, list, raw::numbers(results)))
+        let (state, memory, lines) = (&mut self.state, &mut self.memory, &mut self.lines);
+        done(raw::steps(
+            state,
+            memory,
+            lines,
+            list,
+            raw::numbers(results),
+        ))
     }
 
     /// The state, to be looked at.
@@ -420,6 +495,6 @@ impl Bench {
     /// assert_eq!(bench.looks().node(0).width, 3);
     /// ```
     pub fn looks(&self) -> Looks<'_> {
-        Looks::over(&self.state, &self.memory)
+        Looks::over(&self.state, &self.memory, &self.lines)
     }
 }

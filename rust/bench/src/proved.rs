@@ -9,6 +9,8 @@ extern "C" {
         words: usize,
         memory: *mut u16,
         tokens: usize,
+        lines: *mut u16,
+        things: usize,
         nodes: usize,
     ) -> u64;
     pub fn tarvelgyo_blank(
@@ -16,6 +18,8 @@ extern "C" {
         words: usize,
         memory: *mut u16,
         tokens: usize,
+        lines: *mut u16,
+        things: usize,
         nodes: usize,
     ) -> u64;
     pub fn tarvelgyo_wire(
@@ -23,6 +27,8 @@ extern "C" {
         words: usize,
         memory: *const u16,
         tokens: usize,
+        lines: *const u16,
+        things: usize,
         slot: usize,
         link: usize,
         far_slot: usize,
@@ -33,6 +39,8 @@ extern "C" {
         words: usize,
         memory: *const u16,
         tokens: usize,
+        lines: *mut u16,
+        things: usize,
         slot: usize,
         value: u32,
     ) -> u64;
@@ -41,6 +49,8 @@ extern "C" {
         words: usize,
         memory: *const u16,
         tokens: usize,
+        lines: *mut u16,
+        things: usize,
         slot: usize,
         value: u32,
     ) -> u64;
@@ -49,6 +59,8 @@ extern "C" {
         words: usize,
         memory: *const u16,
         tokens: usize,
+        lines: *mut u16,
+        things: usize,
         slot: usize,
         bit: u32,
         value: u32,
@@ -58,6 +70,8 @@ extern "C" {
         words: usize,
         memory: *const u16,
         tokens: usize,
+        lines: *mut u16,
+        things: usize,
         slot: usize,
         link: usize,
         value: u32,
@@ -67,6 +81,8 @@ extern "C" {
         words: usize,
         memory: *const u16,
         tokens: usize,
+        lines: *mut u16,
+        things: usize,
         slot: usize,
         link: usize,
         value: u32,
@@ -76,6 +92,8 @@ extern "C" {
         words: usize,
         memory: *const u16,
         tokens: usize,
+        lines: *mut u16,
+        things: usize,
         slot: usize,
         link: usize,
         value: u32,
@@ -85,6 +103,8 @@ extern "C" {
         words: usize,
         memory: *const u16,
         tokens: usize,
+        lines: *mut u16,
+        things: usize,
         slot: usize,
         link: usize,
     ) -> u64;
@@ -93,6 +113,8 @@ extern "C" {
         words: usize,
         memory: *const u16,
         tokens: usize,
+        lines: *const u16,
+        things: usize,
         slot: usize,
         channel_end: usize,
         number: u32,
@@ -104,6 +126,8 @@ extern "C" {
         words: usize,
         memory: *const u16,
         tokens: usize,
+        lines: *const u16,
+        things: usize,
         slot: usize,
         channel_end: usize,
         number: u32,
@@ -114,6 +138,8 @@ extern "C" {
         words: usize,
         memory: *mut u16,
         tokens: usize,
+        lines: *const u16,
+        things: usize,
         slot: usize,
         channel_end: usize,
         value: u8,
@@ -123,6 +149,8 @@ extern "C" {
         words: usize,
         memory: *mut u16,
         tokens: usize,
+        lines: *const u16,
+        things: usize,
         slot: usize,
         channel_end: usize,
         value: u8,
@@ -132,6 +160,8 @@ extern "C" {
         words: usize,
         memory: *mut u16,
         tokens: usize,
+        lines: *mut u16,
+        things: usize,
         slot: usize,
         port: usize,
     ) -> u64;
@@ -140,6 +170,8 @@ extern "C" {
         words: usize,
         memory: *mut u16,
         tokens: usize,
+        lines: *mut u16,
+        things: usize,
         list: *const StepRecord,
         records: usize,
         results: *mut u64,
@@ -150,6 +182,8 @@ extern "C" {
         words: usize,
         memory: *const u16,
         tokens: usize,
+        lines: *const u16,
+        things: usize,
         slot: usize,
         channel_end: usize,
     ) -> u64;
@@ -158,8 +192,30 @@ extern "C" {
         words: usize,
         memory: *const u16,
         tokens: usize,
+        lines: *const u16,
+        things: usize,
         slot: usize,
         channel_end: usize,
+    ) -> u64;
+    pub fn tarvelgyo_line_step(
+        state: *mut u32,
+        words: usize,
+        memory: *mut u16,
+        tokens: usize,
+        lines: *mut u16,
+        things: usize,
+        slot: usize,
+        link: usize,
+    ) -> u64;
+    pub fn tarvelgyo_line_words() -> usize;
+    pub fn tarvelgyo_line_token(
+        state: *const u32,
+        words: usize,
+        lines: *const u16,
+        things: usize,
+        slot: usize,
+        link: usize,
+        place: u32,
     ) -> u64;
     pub fn tarvelgyo_state_words() -> usize;
     pub fn tarvelgyo_memory_words() -> usize;
@@ -169,24 +225,32 @@ extern "C" {
         words: usize,
         memory: *const u16,
         tokens: usize,
+        lines: *const u16,
+        things: usize,
     ) -> bool;
     pub fn tarvelgyo_is_tight(
         state: *const u32,
         words: usize,
         memory: *const u16,
         tokens: usize,
+        lines: *const u16,
+        things: usize,
     ) -> bool;
     pub fn tarvelgyo_is_quiet(
         state: *const u32,
         words: usize,
         memory: *const u16,
         tokens: usize,
+        lines: *const u16,
+        things: usize,
     ) -> bool;
     pub fn tarvelgyo_unsound_clause(
         state: *const u32,
         words: usize,
         memory: *const u16,
         tokens: usize,
+        lines: *const u16,
+        things: usize,
     ) -> u32;
     pub fn tarvelgyo_node(
         state: *const u32,

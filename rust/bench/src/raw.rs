@@ -5,28 +5,31 @@
 //! which. So each is safe to call. All of this crate's `unsafe` is in this file; it hands a slice
 //! over as C does, as a pointer and a length.
 //!
-//! A network is two memories that the caller lends: `state`, [`state_words`] words of 32 bits for
-//! each node, and `memory`, [`memory_words`] words of 16 bits for each.
+//! A network is three memories that the caller lends: `state`, [`state_words`] words of 32 bits for
+//! each node, `memory`, [`memory_words`] words of 16 bits for each, what ports hold, and `lines`,
+//! [`line_words`] words of 16 bits for each, what is on its way between ports.
 //!
 //! ```
 //! use bench::{raw, Answer, Refusal};
 //!
 //! // Words that are no network at all have their answers too, and are left as they are.
-//! let (mut state, mut memory) = ([7; 1000], [7; 3]);
-//! assert_eq!(raw::unsound_clause(&state, &memory), 1);
+//! let (mut state, mut memory, mut lines) = ([7; 1000], [7; 3], [7; 5]);
+//! assert_eq!(raw::unsound_clause(&state, &memory, &lines), 1);
 //! assert_eq!(raw::node_count(&state), 1);
-//! assert_eq!(raw::hello(&mut state, &memory, 0, 0), Answer::No(Refusal::Unsound));
-//! assert_eq!(raw::fresh(&mut state, &mut memory, 1), Answer::No(Refusal::Unsound));
-//! assert_eq!((state, memory), ([7; 1000], [7; 3]));
+//! assert_eq!(raw::hello(&mut state, &memory, &mut lines, 0, 0), Answer::No(Refusal::Unsound));
+//! assert_eq!(raw::fresh(&mut state, &mut memory, &mut lines, 1), Answer::No(Refusal::Unsound));
+//! assert_eq!((state, memory, lines), ([7; 1000], [7; 3], [7; 5]));
 //!
-//! // Two memories of the right lengths become a network of one node, in place.
-//! let (mut state, mut memory) = (vec![7; raw::state_words()], vec![7; raw::memory_words()]);
-//! assert_eq!(raw::fresh(&mut state, &mut memory, 1), Answer::Done);
-//! assert!(raw::is_sound(&state, &memory));
+//! // Memories of the right lengths become a network of one node, in place.
+//! let mut state = vec![7; raw::state_words()];
+//! let mut memory = vec![7; raw::memory_words()];
+//! let mut lines = vec![7; raw::line_words()];
+//! assert_eq!(raw::fresh(&mut state, &mut memory, &mut lines, 1), Answer::Done);
+//! assert!(raw::is_sound(&state, &memory, &lines));
 //! ```
 //!
 //! A network begins with [`fresh`] or with [`blank`]. Both ask the same: NoSuch where the nodes are
-//! not 1 to 16, whatever the lengths, then Unsound where either memory has another length than that
+//! not 1 to 16, whatever the lengths, then Unsound where a memory has another length than that
 //! of so many nodes. Either makes a network of so many nodes, whatever the memories held, with every
 //! token word 0. They differ in the links that are enabled; [`Bench::fresh`](crate::Bench::fresh) and
 //! [`Bench::blank`](crate::Bench::blank) say which to use.
@@ -41,7 +44,7 @@ use crate::proved;
 // beyond.
 
 /// Fresh: a network of so many nodes as the boot ROM leaves them, links E..H enabled.
-pub fn fresh(state: &mut [u32], memory: &mut [u16], nodes: usize) -> Answer {
+pub fn fresh(state: &mut [u32], memory: &mut [u16], lines: &mut [u16], nodes: usize) -> Answer {
     // SAFETY: as said above.
     answered(unsafe {
         proved::tarvelgyo_fresh(
@@ -49,13 +52,15 @@ pub fn fresh(state: &mut [u32], memory: &mut [u16], nodes: usize) -> Answer {
             state.len(),
             memory.as_mut_ptr(),
             memory.len(),
+            lines.as_mut_ptr(),
+            lines.len(),
             nodes,
         )
     })
 }
 
 /// Blank: a network of so many nodes with every link disabled.
-pub fn blank(state: &mut [u32], memory: &mut [u16], nodes: usize) -> Answer {
+pub fn blank(state: &mut [u32], memory: &mut [u16], lines: &mut [u16], nodes: usize) -> Answer {
     // SAFETY: as said above.
     answered(unsafe {
         proved::tarvelgyo_blank(
@@ -63,6 +68,8 @@ pub fn blank(state: &mut [u32], memory: &mut [u16], nodes: usize) -> Answer {
             state.len(),
             memory.as_mut_ptr(),
             memory.len(),
+            lines.as_mut_ptr(),
+            lines.len(),
             nodes,
         )
     })
@@ -72,6 +79,7 @@ pub fn blank(state: &mut [u32], memory: &mut [u16], nodes: usize) -> Answer {
 pub fn wire(
     state: &mut [u32],
     memory: &[u16],
+    lines: &[u16],
     slot: usize,
     link: usize,
     far_slot: usize,
@@ -84,6 +92,8 @@ pub fn wire(
             state.len(),
             memory.as_ptr(),
             memory.len(),
+            lines.as_ptr(),
+            lines.len(),
             slot,
             link,
             far_slot,
@@ -93,7 +103,13 @@ pub fn wire(
 }
 
 /// Set: a node's number.
-pub fn set_number(state: &mut [u32], memory: &[u16], slot: usize, value: u32) -> Answer {
+pub fn set_number(
+    state: &mut [u32],
+    memory: &[u16],
+    lines: &mut [u16],
+    slot: usize,
+    value: u32,
+) -> Answer {
     // SAFETY: as said above.
     answered(unsafe {
         proved::tarvelgyo_set_number(
@@ -101,6 +117,8 @@ pub fn set_number(state: &mut [u32], memory: &[u16], slot: usize, value: u32) ->
             state.len(),
             memory.as_ptr(),
             memory.len(),
+            lines.as_mut_ptr(),
+            lines.len(),
             slot,
             value,
         )
@@ -108,7 +126,13 @@ pub fn set_number(state: &mut [u32], memory: &[u16], slot: usize, value: u32) ->
 }
 
 /// Set: a node's width, 1 or 3.
-pub fn set_width(state: &mut [u32], memory: &[u16], slot: usize, value: u32) -> Answer {
+pub fn set_width(
+    state: &mut [u32],
+    memory: &[u16],
+    lines: &mut [u16],
+    slot: usize,
+    value: u32,
+) -> Answer {
     // SAFETY: as said above.
     answered(unsafe {
         proved::tarvelgyo_set_width(
@@ -116,6 +140,8 @@ pub fn set_width(state: &mut [u32], memory: &[u16], slot: usize, value: u32) -> 
             state.len(),
             memory.as_ptr(),
             memory.len(),
+            lines.as_mut_ptr(),
+            lines.len(),
             slot,
             value,
         )
@@ -126,6 +152,7 @@ pub fn set_width(state: &mut [u32], memory: &[u16], slot: usize, value: u32) -> 
 pub fn set_direction(
     state: &mut [u32],
     memory: &[u16],
+    lines: &mut [u16],
     slot: usize,
     bit: u32,
     value: u32,
@@ -137,6 +164,8 @@ pub fn set_direction(
             state.len(),
             memory.as_ptr(),
             memory.len(),
+            lines.as_mut_ptr(),
+            lines.len(),
             slot,
             bit,
             value,
@@ -148,6 +177,7 @@ pub fn set_direction(
 pub fn set_link_direction(
     state: &mut [u32],
     memory: &[u16],
+    lines: &mut [u16],
     slot: usize,
     link: usize,
     value: u32,
@@ -159,6 +189,8 @@ pub fn set_link_direction(
             state.len(),
             memory.as_ptr(),
             memory.len(),
+            lines.as_mut_ptr(),
+            lines.len(),
             slot,
             link,
             value,
@@ -170,6 +202,7 @@ pub fn set_link_direction(
 pub fn set_network(
     state: &mut [u32],
     memory: &[u16],
+    lines: &mut [u16],
     slot: usize,
     link: usize,
     value: u32,
@@ -181,6 +214,8 @@ pub fn set_network(
             state.len(),
             memory.as_ptr(),
             memory.len(),
+            lines.as_mut_ptr(),
+            lines.len(),
             slot,
             link,
             value,
@@ -192,6 +227,7 @@ pub fn set_network(
 pub fn set_enable(
     state: &mut [u32],
     memory: &[u16],
+    lines: &mut [u16],
     slot: usize,
     link: usize,
     value: u32,
@@ -203,6 +239,8 @@ pub fn set_enable(
             state.len(),
             memory.as_ptr(),
             memory.len(),
+            lines.as_mut_ptr(),
+            lines.len(),
             slot,
             link,
             value,
@@ -210,8 +248,15 @@ pub fn set_enable(
     })
 }
 
-/// Set: HELLO on a link.
-pub fn hello(state: &mut [u32], memory: &[u16], slot: usize, link: usize) -> Answer {
+/// Set: HELLO on a link. It goes on the line, so that the answer grants 0; sent to an absent or
+/// disabled end it is lost.
+pub fn hello(
+    state: &mut [u32],
+    memory: &[u16],
+    lines: &mut [u16],
+    slot: usize,
+    link: usize,
+) -> Answer {
     // SAFETY: as said above.
     answered(unsafe {
         proved::tarvelgyo_hello(
@@ -219,6 +264,8 @@ pub fn hello(state: &mut [u32], memory: &[u16], slot: usize, link: usize) -> Ans
             state.len(),
             memory.as_ptr(),
             memory.len(),
+            lines.as_mut_ptr(),
+            lines.len(),
             slot,
             link,
         )
@@ -226,9 +273,11 @@ pub fn hello(state: &mut [u32], memory: &[u16], slot: usize, link: usize) -> Ans
 }
 
 /// Aim: a channel-end at a channel, 0..31 or 255, of the nodes of a number.
+#[allow(clippy::too_many_arguments)] // the memories, and what document 01 has an Aim name
 pub fn aim_channel(
     state: &mut [u32],
     memory: &[u16],
+    lines: &[u16],
     slot: usize,
     channel_end: usize,
     number: u32,
@@ -242,6 +291,8 @@ pub fn aim_channel(
             state.len(),
             memory.as_ptr(),
             memory.len(),
+            lines.as_ptr(),
+            lines.len(),
             slot,
             channel_end,
             number,
@@ -255,6 +306,7 @@ pub fn aim_channel(
 pub fn aim_unit(
     state: &mut [u32],
     memory: &[u16],
+    lines: &[u16],
     slot: usize,
     channel_end: usize,
     number: u32,
@@ -267,6 +319,8 @@ pub fn aim_unit(
             state.len(),
             memory.as_ptr(),
             memory.len(),
+            lines.as_ptr(),
+            lines.len(),
             slot,
             channel_end,
             number,
@@ -279,6 +333,7 @@ pub fn aim_unit(
 pub fn output_data(
     state: &mut [u32],
     memory: &mut [u16],
+    lines: &[u16],
     slot: usize,
     channel_end: usize,
     value: u8,
@@ -290,6 +345,8 @@ pub fn output_data(
             state.len(),
             memory.as_mut_ptr(),
             memory.len(),
+            lines.as_ptr(),
+            lines.len(),
             slot,
             channel_end,
             value,
@@ -301,6 +358,7 @@ pub fn output_data(
 pub fn output_control(
     state: &mut [u32],
     memory: &mut [u16],
+    lines: &[u16],
     slot: usize,
     channel_end: usize,
     value: u8,
@@ -312,6 +370,8 @@ pub fn output_control(
             state.len(),
             memory.as_mut_ptr(),
             memory.len(),
+            lines.as_ptr(),
+            lines.len(),
             slot,
             channel_end,
             value,
@@ -319,8 +379,15 @@ pub fn output_control(
     })
 }
 
-/// Step: one of a port. The Step that takes the end of a switch message has it obeyed.
-pub fn step(state: &mut [u32], memory: &mut [u16], slot: usize, port: usize) -> Answer {
+/// Step: one of a port. A token that leaves by a link goes on the line that starts there, which
+/// [`line_step`] takes it off. The Step that takes the end of a switch message has it obeyed.
+pub fn step(
+    state: &mut [u32],
+    memory: &mut [u16],
+    lines: &mut [u16],
+    slot: usize,
+    port: usize,
+) -> Answer {
     // SAFETY: as said above.
     answered(unsafe {
         proved::tarvelgyo_step(
@@ -328,6 +395,8 @@ pub fn step(state: &mut [u32], memory: &mut [u16], slot: usize, port: usize) -> 
             state.len(),
             memory.as_mut_ptr(),
             memory.len(),
+            lines.as_mut_ptr(),
+            lines.len(),
             slot,
             port,
         )
@@ -346,21 +415,24 @@ pub fn step(state: &mut [u32], memory: &mut [u16], slot: usize, port: usize) -> 
 /// use bench::{raw, Answer, Refusal, StepRecord, Stepped};
 ///
 /// let (mut state, mut memory) = (vec![0; raw::state_words()], vec![0; raw::memory_words()]);
-/// raw::fresh(&mut state, &mut memory, 1);
+/// let mut lines = vec![0; raw::line_words()];
+/// raw::fresh(&mut state, &mut memory, &mut lines, 1);
 /// let list = [StepRecord { slot: 7, port: 0 }, StepRecord { slot: 0, port: 8 }];
 /// let mut results = [0; 2];
-/// assert_eq!(raw::steps(&mut state, &mut memory, &list, &mut results), Answer::Done);
+/// let answer = raw::steps(&mut state, &mut memory, &mut lines, &list, &mut results);
+/// assert_eq!(answer, Answer::Done);
 /// let answers = results.map(Answer::from_crossed);
 /// assert_eq!(answers[0], Some(Answer::No(Refusal::NoSuch)));
 /// assert_eq!(answers[1], Some(Answer::Step(Stepped::Idle)));
 ///
 /// let mut short = [9];
-/// let answer = raw::steps(&mut state, &mut memory, &list, &mut short);
+/// let answer = raw::steps(&mut state, &mut memory, &mut lines, &list, &mut short);
 /// assert_eq!((answer, short), (Answer::No(Refusal::NoSuch), [9]));
 /// ```
 pub fn steps(
     state: &mut [u32],
     memory: &mut [u16],
+    lines: &mut [u16],
     list: &[StepRecord],
     results: &mut [u64],
 ) -> Answer {
@@ -371,6 +443,8 @@ pub fn steps(
             state.len(),
             memory.as_mut_ptr(),
             memory.len(),
+            lines.as_mut_ptr(),
+            lines.len(),
             list.as_ptr(),
             list.len(),
             results.as_mut_ptr(),
@@ -387,8 +461,38 @@ pub(crate) fn numbers(results: &mut [StepResult]) -> &mut [u64] {
     unsafe { std::slice::from_raw_parts_mut(first, many) }
 }
 
+/// A line step: one off the far end of the line that starts at a link. A token comes to the far port,
+/// a credit or a HELLO to the far link. Idle where nothing is on the line.
+pub fn line_step(
+    state: &mut [u32],
+    memory: &mut [u16],
+    lines: &mut [u16],
+    slot: usize,
+    link: usize,
+) -> Answer {
+    // SAFETY: as said above.
+    answered(unsafe {
+        proved::tarvelgyo_line_step(
+            state.as_mut_ptr(),
+            state.len(),
+            memory.as_mut_ptr(),
+            memory.len(),
+            lines.as_mut_ptr(),
+            lines.len(),
+            slot,
+            link,
+        )
+    })
+}
+
 /// Input: the next token, as data.
-pub fn input_data(state: &mut [u32], memory: &[u16], slot: usize, channel_end: usize) -> Answer {
+pub fn input_data(
+    state: &mut [u32],
+    memory: &[u16],
+    lines: &[u16],
+    slot: usize,
+    channel_end: usize,
+) -> Answer {
     // SAFETY: as said above.
     answered(unsafe {
         proved::tarvelgyo_input_data(
@@ -396,6 +500,8 @@ pub fn input_data(state: &mut [u32], memory: &[u16], slot: usize, channel_end: u
             state.len(),
             memory.as_ptr(),
             memory.len(),
+            lines.as_ptr(),
+            lines.len(),
             slot,
             channel_end,
         )
@@ -403,7 +509,13 @@ pub fn input_data(state: &mut [u32], memory: &[u16], slot: usize, channel_end: u
 }
 
 /// Input: the next token, as control.
-pub fn input_control(state: &mut [u32], memory: &[u16], slot: usize, channel_end: usize) -> Answer {
+pub fn input_control(
+    state: &mut [u32],
+    memory: &[u16],
+    lines: &[u16],
+    slot: usize,
+    channel_end: usize,
+) -> Answer {
     // SAFETY: as said above.
     answered(unsafe {
         proved::tarvelgyo_input_control(
@@ -411,6 +523,8 @@ pub fn input_control(state: &mut [u32], memory: &[u16], slot: usize, channel_end
             state.len(),
             memory.as_ptr(),
             memory.len(),
+            lines.as_ptr(),
+            lines.len(),
             slot,
             channel_end,
         )
@@ -429,41 +543,75 @@ pub fn memory_words() -> usize {
     unsafe { proved::tarvelgyo_memory_words() }
 }
 
+/// How many words of the lines' memory to lend for each node: 8 lines of 66.
+pub fn line_words() -> usize {
+    // SAFETY: as said above.
+    unsafe { proved::tarvelgyo_line_words() }
+}
+
 /// How many whole nodes the state has room for: what its length says.
 pub fn node_count(state: &[u32]) -> usize {
     // SAFETY: as said above.
     unsafe { proved::tarvelgyo_node_count(state.as_ptr(), state.len()) }
 }
 
-/// Whether the list "Sound" of document 01 holds, and both lengths are right.
-pub fn is_sound(state: &[u32], memory: &[u16]) -> bool {
+/// Whether the list "Sound" of documents 01 and 02 holds, and all lengths are right.
+pub fn is_sound(state: &[u32], memory: &[u16], lines: &[u16]) -> bool {
     // SAFETY: as said above.
     unsafe {
-        proved::tarvelgyo_is_sound(state.as_ptr(), state.len(), memory.as_ptr(), memory.len())
+        proved::tarvelgyo_is_sound(
+            state.as_ptr(),
+            state.len(),
+            memory.as_ptr(),
+            memory.len(),
+            lines.as_ptr(),
+            lines.len(),
+        )
     }
 }
 
 /// Whether the ties hold that calls keep beside the list "Sound".
-pub fn is_tight(state: &[u32], memory: &[u16]) -> bool {
+pub fn is_tight(state: &[u32], memory: &[u16], lines: &[u16]) -> bool {
     // SAFETY: as said above.
     unsafe {
-        proved::tarvelgyo_is_tight(state.as_ptr(), state.len(), memory.as_ptr(), memory.len())
+        proved::tarvelgyo_is_tight(
+            state.as_ptr(),
+            state.len(),
+            memory.as_ptr(),
+            memory.len(),
+            lines.as_ptr(),
+            lines.len(),
+        )
     }
 }
 
-/// Whether there is no token, no claim and no open circuit anywhere.
-pub fn is_quiet(state: &[u32], memory: &[u16]) -> bool {
+/// Whether there is no token, no claim and no open circuit anywhere, and nothing on a line.
+pub fn is_quiet(state: &[u32], memory: &[u16], lines: &[u16]) -> bool {
     // SAFETY: as said above.
     unsafe {
-        proved::tarvelgyo_is_quiet(state.as_ptr(), state.len(), memory.as_ptr(), memory.len())
+        proved::tarvelgyo_is_quiet(
+            state.as_ptr(),
+            state.len(),
+            memory.as_ptr(),
+            memory.len(),
+            lines.as_ptr(),
+            lines.len(),
+        )
     }
 }
 
 /// The number of the first clause of "Sound" that fails, 0 where none does; see [`crate::Clause`].
-pub fn unsound_clause(state: &[u32], memory: &[u16]) -> u32 {
+pub fn unsound_clause(state: &[u32], memory: &[u16], lines: &[u16]) -> u32 {
     // SAFETY: as said above.
     unsafe {
-        proved::tarvelgyo_unsound_clause(state.as_ptr(), state.len(), memory.as_ptr(), memory.len())
+        proved::tarvelgyo_unsound_clause(
+            state.as_ptr(),
+            state.len(),
+            memory.as_ptr(),
+            memory.len(),
+            lines.as_ptr(),
+            lines.len(),
+        )
     }
 }
 
@@ -600,6 +748,29 @@ pub fn port_token(
             memory.len(),
             slot,
             port,
+            place,
+        )
+    })
+}
+
+/// What is at a place of the line that starts at a link, the first to arrive at 0, as its word: a
+/// credit or a HELLO is a control token that no port holds.
+pub fn line_token(
+    state: &[u32],
+    lines: &[u16],
+    slot: usize,
+    link: usize,
+    place: u32,
+) -> Option<u32> {
+    // SAFETY: as said above.
+    seen(unsafe {
+        proved::tarvelgyo_line_token(
+            state.as_ptr(),
+            state.len(),
+            lines.as_ptr(),
+            lines.len(),
+            slot,
+            link,
             place,
         )
     })

@@ -174,7 +174,7 @@ pub struct ControlUnit {
 pub struct Line {
     /// Where in the line's ring the first to arrive lies.
     pub head: u32,
-    /// How much is on it: nothing, as long as tokens cross at once.
+    /// How much is on it.
     pub held: u32,
     /// What the link has issued to the far end and not yet received.
     pub issued: u32,

@@ -20,6 +20,8 @@ pub const CHANNEL_ENDS: usize = 32;
 pub const CHANNELS: usize = 32;
 /// Tokens that a port holds, at most.
 pub const PORT_BUFFER: usize = 64;
+/// Tokens, credits and HELLOs on a line, at most.
+pub const LINE_BUFFER: usize = 66;
 /// Tokens that a channel-end holds, at most.
 pub const END_BUFFER: usize = 8;
 /// Tokens of a message that a control unit keeps, at most.

@@ -148,19 +148,19 @@ fn the_types_are_those_that_cross_as_they_are() {
 const EXPORTED_LIST: &str =
     "#[repr(C)] pub struct StepRecord { pub slot: usize, pub port: usize } \
     #[no_mangle] pub extern \"C\" fn tarvelgyo_steps( st: &mut [u32], mem: &mut [u16], \
-    list: &[StepRecord], results: &mut [u64], ) -> u64 ensures { true } { 0 }";
+    ls: &mut [u16], list: &[StepRecord], results: &mut [u64], ) -> u64 ensures { true } { 0 }";
 
 /// And here.
 const DECLARED_LIST: &str = "pub fn tarvelgyo_steps( state: *mut u32, words: usize, \
-    memory: *mut u16, tokens: usize, list: *const StepRecord, records: usize, results: *mut u64, \
-    room: usize, ) -> u64;";
+    memory: *mut u16, tokens: usize, lines: *mut u16, things: usize, list: *const StepRecord, \
+    records: usize, results: *mut u64, room: usize, ) -> u64;";
 
 #[test]
 fn a_list_of_records_crosses_as_pointer_and_length() {
     let found = exported(EXPORTED_LIST);
     assert_eq!(declared(DECLARED_LIST), found);
     let types = &found["tarvelgyo_steps"];
-    assert_eq!(types[4..6], ["*const StepRecord", "usize"]);
+    assert_eq!(types[6..8], ["*const StepRecord", "usize"]);
     for (from, to) in [("&[StepRecord]", "&mut [StepRecord]"), ("[u64]", "[u32]")] {
         let changed = exported(&EXPORTED_LIST.replace(from, to));
         assert_ne!(changed, found, "{from}");

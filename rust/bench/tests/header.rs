@@ -8,7 +8,7 @@ use std::io::Write;
 use std::path::{Path, PathBuf};
 use std::process::Command;
 
-use bench::{raw, sizes, Answer, Refusal, Token};
+use bench::{raw, sizes, Answer, Bench, Refusal, Token};
 
 /// Each function with the names and types of its parameters; its result last, without a name.
 type Functions = BTreeMap<String, Vec<(String, String)>>;
@@ -151,7 +151,9 @@ fn a_change_of_the_header_is_seen() {
 }
 
 /// What the head of the file says of these holds everywhere.
-const EVERYWHERE: [&str; 5] = ["state", "words", "memory", "tokens", "slot"];
+const EVERYWHERE: [&str; 7] = [
+    "state", "words", "memory", "tokens", "lines", "things", "slot",
+];
 
 /// Before each function stands a comment, and it names each of the parameters that are its own.
 #[test]
@@ -212,6 +214,7 @@ fn upper(name: &str) -> String {
 fn expected_sizes() -> Vec<(&'static str, usize)> {
     vec![
         ("STATE_WORDS", raw::state_words()), ("MEMORY_WORDS", raw::memory_words()),
+        ("LINE_MEMORY_WORDS", raw::line_words()), ("LINE_BUFFER", sizes::LINE_BUFFER),
         ("MOST_NODES", sizes::MOST_NODES), ("LINKS", sizes::LINKS), ("TILE_LINKS", sizes::TILE_LINKS),
         ("FIRST_TILE_PORT", sizes::TILE_PORTS.start), ("REPLY_PORT", sizes::REPLY_PORT),
         ("PORTS", sizes::PORTS), ("CHANNEL_ENDS", sizes::CHANNEL_ENDS), ("CHANNELS", sizes::CHANNELS),
@@ -224,8 +227,9 @@ fn expected_sizes() -> Vec<(&'static str, usize)> {
 /// What document 01 gives numbers to: the sink, control tokens, and the marks of a token's word, which
 /// `Token::from_word` reads; and the answers of the probe that the papers give no number.
 #[rustfmt::skip]
-const GIVEN: [(&str, u64); 16] = [
+const GIVEN: [(&str, u64); 20] = [
     ("SINK", 255), ("END", 1), ("PAUSE", 2), ("ACK", 3), ("NACK", 4), ("WRITEC", 0xC0), ("READC", 0xC1),
+    ("CREDIT8", 0xE0), ("CREDIT16", 0xE4), ("CREDIT64", 0xE1), ("HELLO", 0xE6),
     ("SEEN_NOTHING", 0), ("SEEN_TOKEN", 1), ("PROBE_FILLED", 0), ("PROBE_BAD", 14), ("PROBE_CUT", 15),
     ("TOKEN_VALUE", 0xFF), ("TOKEN_CONTROL", 0x100), ("TOKEN_HEADER", 0x200), ("TOKEN_THREE", 0x400),
 ];
@@ -314,10 +318,9 @@ fn the_numbers_are_those_of_the_rust_side() {
 #[test]
 fn records_have_the_words_that_the_header_says() {
     let numbers = numbers(&header());
-    let (mut state, mut memory) = (vec![0; raw::state_words()], vec![0; raw::memory_words()]);
-    assert_eq!(raw::fresh(&mut state, &mut memory, 1), Answer::Done);
+    let (state, ..) = Bench::fresh(1).expect("a board").into_parts();
     type Look = fn(&[u32], &mut [u32]) -> bool;
-    let looks: [(&str, Look); 6] = [
+    let looks: [(&str, Look); 7] = [
         ("NODE", |state, out| raw::node(state, 0, out)),
         ("LINK", |state, out| raw::link(state, 0, 0, out)),
         ("PORT", |state, out| raw::port(state, 0, 0, out)),
@@ -328,6 +331,7 @@ fn records_have_the_words_that_the_header_says() {
         ("CONTROL_UNIT", |state, out| {
             raw::control_unit(state, 0, out)
         }),
+        ("LINE", |state, out| raw::line(state, 0, 0, out)),
     ];
     for (name, look) in looks {
         let count = numbers[&format!("{name}_WORDS")] as usize;
@@ -351,21 +355,36 @@ fresh: done
 number of board 1: done
 wire: done
 enable link A of board 1: done
-HELLO of board 0: granted 64
-HELLO of board 1: granted 64
+HELLO of board 0: granted
+  HELLO's line: arrived 64
+  HELLO's line: idle
+  the credit's line: arrived
+  the credit's line: idle
+HELLO of board 1: granted
+  HELLO's line: arrived 64
+  HELLO's line: idle
+  the credit's line: arrived
+  the credit's line: idle
 aim: done
 output 9: done
 output END: done
-steps: done
-  board 0: opened link 4
-  board 0: moved
-  board 0: moved
-  board 0: moved
-  board 0: moved
-  board 0: moved
-  board 1: opened channel
-  board 1: moved
-  board 1: moved
+steps of board 0: done
+  step: opened link 4
+  step: moved
+  step: moved
+  step: moved
+  step: moved
+  step: moved
+the line from board 0: arrived
+the line from board 0: arrived
+the line from board 0: arrived
+the line from board 0: arrived
+the line from board 0: arrived
+the line from board 0: idle
+steps of board 1: done
+  step: opened channel
+  step: moved
+  step: moved
 input: token 9
 input of END: token 1
 credit of link E: 59

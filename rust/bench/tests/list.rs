@@ -3,11 +3,29 @@
 use bench::{raw, Answer, Bench, Destination, Kind, LinkEnd, Setting};
 use bench::{Cause, Opening, Refusal, StepRecord, StepResult, Stepped};
 
-/// Both memories of a network.
+/// The memories of a network.
 #[derive(Clone, Debug, PartialEq, Eq)]
 struct Lent {
     state: Vec<u32>,
     memory: Vec<u16>,
+    lines: Vec<u16>,
+}
+
+impl Lent {
+    /// A network that owns them.
+    fn bench(self) -> Bench {
+        Bench::over(self.state, self.memory, self.lines)
+    }
+
+    /// The memories of a network.
+    fn of(bench: Bench) -> Lent {
+        let (state, memory, lines) = bench.into_parts();
+        Lent {
+            state,
+            memory,
+            lines,
+        }
+    }
 }
 
 /// The number of an Unsound.
@@ -16,29 +34,39 @@ const UNSOUND: u64 = 1;
 const UNTOUCHED: u64 = 0xDEAD;
 
 fn steps(lent: &mut Lent, list: &[StepRecord], results: &mut [u64]) -> Answer {
-    raw::steps(&mut lent.state, &mut lent.memory, list, results)
+    let (memory, lines) = (&mut lent.memory, &mut lent.lines);
+    raw::steps(&mut lent.state, memory, lines, list, results)
 }
 
 /// The same Steps one by one, with what they answer.
 fn singles(lent: &mut Lent, list: &[StepRecord]) -> Vec<Answer> {
     let step = |record: &StepRecord| {
-        let (state, memory) = (&mut lent.state, &mut lent.memory);
-        raw::step(state, memory, record.slot, record.port)
+        let (memory, lines) = (&mut lent.memory, &mut lent.lines);
+        raw::step(&mut lent.state, memory, lines, record.slot, record.port)
     };
     list.iter().map(step).collect()
 }
 
 fn aim(lent: &mut Lent, slot: usize, end: usize, number: u32, channel: u32) {
-    let Lent { state, memory } = lent;
-    let answer = raw::aim_channel(state, memory, slot, end, number, channel, 0);
+    let (memory, lines) = (&lent.memory, &lent.lines);
+    let answer = raw::aim_channel(
+        &mut lent.state,
+        memory,
+        lines,
+        slot,
+        end,
+        number,
+        channel,
+        0,
+    );
     assert_eq!(answer, Answer::Done);
 }
 
 fn output(lent: &mut Lent, slot: usize, end: usize, kind: Kind, value: u8) {
-    let Lent { state, memory } = lent;
+    let (state, memory, lines) = (&mut lent.state, &mut lent.memory, &lent.lines);
     let answer = match kind {
-        Kind::Data => raw::output_data(state, memory, slot, end, value),
-        Kind::Control => raw::output_control(state, memory, slot, end, value),
+        Kind::Data => raw::output_data(state, memory, lines, slot, end, value),
+        Kind::Control => raw::output_control(state, memory, lines, slot, end, value),
     };
     assert_eq!(answer, Answer::Done);
 }
@@ -54,22 +82,22 @@ fn send(lent: &mut Lent, slot: usize, end: usize, number: u32, channel: u32) {
 /// Boards 0 and 1 of numbers 0 and 1, a cable between their links A, which are the only ones enabled.
 /// Bit 8 leads nowhere on board 0.
 fn cabled() -> Lent {
-    let nodes = 2;
-    let mut lent = Lent {
-        state: vec![0; nodes * raw::state_words()],
-        memory: vec![0; nodes * raw::memory_words()],
-    };
-    let Lent { state, memory } = &mut lent;
-    let mut calls = vec![raw::blank(state, memory, nodes)];
-    calls.push(raw::set_number(state, memory, 1, 1));
-    calls.push(raw::wire(state, memory, 0, 0, 1, 0));
-    calls.push(raw::set_direction(state, memory, 0, 8, 5));
-    calls.extend([0, 1].map(|slot| raw::set_enable(state, memory, slot, 0, 1)));
-    assert_eq!(calls, [Answer::Done; 6]);
-    for slot in [0, 1] {
-        assert_eq!(raw::hello(state, memory, slot, 0), Answer::Granted(64));
+    let mut bench = Bench::blank(2).expect("two boards");
+    let enable = Setting::Enable { link: 0, value: 1 };
+    let calls = [
+        bench.set(1, Setting::Number(1)),
+        bench.wire(LinkEnd { slot: 0, link: 0 }, LinkEnd { slot: 1, link: 0 }),
+        bench.set(0, Setting::Direction { bit: 8, value: 5 }),
+        bench.set(0, enable),
+        bench.set(1, enable),
+    ];
+    assert_eq!(calls, [Ok(()); 5]);
+    for (slot, far) in [(0, 1), (1, 0)] {
+        assert_eq!(bench.hello(slot, 0), Ok(0));
+        assert_eq!(bench.line(slot, 0), Ok(Some(64)));
+        assert_eq!(bench.line(far, 0), Ok(Some(0)));
     }
-    lent
+    Lent::of(bench)
 }
 
 /// Messages there and back, one to a channel that is soon full, one that has no way.
@@ -82,6 +110,21 @@ fn busy() -> Lent {
     }
     send(&mut lent, 0, 3, 0x0100, 7);
     lent
+}
+
+/// The same with all three messages of each board on the lines and in the far ports: lists do not step
+/// lines.
+fn arrived() -> Lent {
+    let mut bench = busy().bench();
+    for _ in 0..60 {
+        for slot in [0, 1] {
+            for port in 8..11 {
+                bench.step(slot, port).expect("a port that is there");
+            }
+            bench.line(slot, 0).expect("a link that is there");
+        }
+    }
+    Lent::of(bench)
 }
 
 /// A list of so many records, the same each time: most of them of ports that hold something, one in
@@ -108,7 +151,7 @@ fn mixed(many: usize) -> Vec<StepRecord> {
 /// Memories that no call takes: of no words, of wrong lengths, of words that are no network.
 fn unsound() -> Vec<Lent> {
     let good = busy();
-    let mut odd = vec![good.clone(); 6];
+    let mut odd = vec![good.clone(); 8];
     odd[0].state.clear();
     odd[0].memory.clear();
     odd[1].memory.pop();
@@ -117,8 +160,10 @@ fn unsound() -> Vec<Lent> {
     odd[4].state.fill(7);
     // A width that no switch has.
     odd[5].state[1] = 2;
+    odd[6].lines.pop();
+    odd[7].lines.push(0);
     for lent in &odd {
-        assert!(!raw::is_sound(&lent.state, &lent.memory));
+        assert!(!raw::is_sound(&lent.state, &lent.memory, &lent.lines));
     }
     odd
 }
@@ -168,7 +213,7 @@ fn on_unsound_memory_each_step_is_refused_and_no_word_changes() {
 /// A record of no slot and one of no port between those that carry a header over the cable.
 #[test]
 fn a_refused_record_stops_nothing() {
-    let mut bench = Bench::over(busy().state, busy().memory);
+    let mut bench = busy().bench();
     let places = [(0, 8), (2, 8), (0, 8), (0, 13), (usize::MAX, 0), (0, 8)];
     let list = places.map(|(slot, port)| StepRecord { slot, port });
     let answers = bench.steps(&list);
@@ -176,16 +221,17 @@ fn a_refused_record_stops_nothing() {
     let (moved, refused) = (Ok(Stepped::Moved), Err(Refusal::NoSuch));
     assert_eq!(answers[0], Ok(opened));
     assert_eq!(answers[1..], [refused, moved, refused, refused, moved]);
-    assert_eq!(bench.looks().port(1, 0).held, 2);
+    assert_eq!(bench.looks().line(0, 0).held, 2);
 }
 
 /// Answers and every word behind them, for lists of every small length and some long ones.
 #[test]
 fn a_list_is_its_steps_one_by_one() {
     let mut seen = Vec::new();
-    for many in (0..40).chain([257, 1000, 5000]) {
+    let lengths = (0..40).chain([257, 1000, 5000]);
+    for (many, before) in lengths.flat_map(|many| [(many, busy()), (many, arrived())]) {
         let list = mixed(many);
-        let (mut lent, mut one_by_one) = (busy(), busy());
+        let (mut lent, mut one_by_one) = (before.clone(), before);
         let mut results = vec![UNTOUCHED; many];
         assert_eq!(steps(&mut lent, &list, &mut results), Answer::Done);
         let expected = singles(&mut one_by_one, &list);
@@ -210,17 +256,20 @@ fn a_list_is_its_steps_one_by_one() {
 fn untight() -> Lent {
     let mut lent = cabled();
     send(&mut lent, 0, 0, 1, 7);
-    let Lent { state, memory } = &mut lent;
-    let answer = raw::step(state, memory, 0, 8);
-    assert_eq!(answer, Answer::Step(Stepped::Opened(Opening::Link(0))));
+    let opened = singles(&mut lent, &[StepRecord { slot: 0, port: 8 }]);
+    assert_eq!(opened, [Answer::Step(Stepped::Opened(Opening::Link(0)))]);
+    let (state, memory, lines) = (&mut lent.state, &mut lent.memory, &lent.lines);
     let first = raw::port_token(state, memory, 0, 8, 0).expect("a header");
     // Port 0 of board 1 holds one token, and link A of board 0 has credit for the others.
     let board = raw::state_words();
     let (port, credit) = (board + 4 + 8 * 10, 4 + 7);
     state[port + 1] = 1;
     state[credit] = 63;
+    // Its count is what link A of board 1 has issued.
+    let issued = board + 4 + 8 * 10 + 13 * 8 + 4 * 2 + 32 * 17 + 14 + 2;
+    state[issued] = 63;
     memory[raw::memory_words()] = first as u16;
-    assert!(raw::is_sound(state, memory) && !raw::is_tight(state, memory));
+    assert!(raw::is_sound(state, memory, lines) && !raw::is_tight(state, memory, lines));
     lent
 }
 
@@ -282,7 +331,7 @@ fn a_message_is_obeyed_where_its_end_stands() {
 #[test]
 fn into_a_buffer_and_into_a_new_one() {
     let list = mixed(30);
-    let mut bench = Bench::over(busy().state, busy().memory);
+    let mut bench = busy().bench();
     let mut other = bench.clone();
     let mut results = [StepResult::default(); 31];
     assert_eq!(
@@ -302,7 +351,7 @@ fn into_a_buffer_and_into_a_new_one() {
 /// A network that was never made: each Step is Unsound, and the call is done.
 #[test]
 fn a_bench_over_no_memory_says_so_for_each_record() {
-    let mut bench = Bench::over(Vec::new(), Vec::new());
+    let mut bench = Bench::over(Vec::new(), Vec::new(), Vec::new());
     assert_eq!(bench.steps(&mixed(3)), [Err(Refusal::Unsound); 3]);
     let end = LinkEnd { slot: 0, link: 0 };
     assert_eq!(bench.wire(end, end), Err(Refusal::Unsound));

@@ -76,13 +76,16 @@ fn a_place_that_is_not_there_is_all_zeros() {
 fn every_beginning_of_a_state_has_its_answers() {
     let state = counted(1);
     let memory = vec![0xFFFF; raw::memory_words()];
+    let lines = vec![0xFFFF; raw::line_words()];
     for begins in 0..40 {
         for ends in (begins..state.len()).step_by(97) {
             let (state, memory) = (&state[begins..ends], &memory[begins..]);
+            let lines = &lines[begins..];
             assert_eq!(raw::node_count(state), 0);
-            assert_eq!(raw::unsound_clause(state, memory), 1);
-            assert!(!raw::is_sound(state, memory));
+            assert_eq!(raw::unsound_clause(state, memory, lines), 1);
+            assert!(!raw::is_sound(state, memory, lines));
             assert_eq!(raw::port_token(state, memory, 0, 0, 0), None);
+            assert_eq!(raw::line_token(state, lines, 0, 0, 0), None);
             assert_eq!(raw::end_token(state, 0, 0, 0), None);
             assert_eq!(raw::direction(state, 0, 3), 0);
         }
@@ -104,6 +107,20 @@ fn tokens_are_shown_as_far_as_they_are_held() {
     );
     assert_eq!([shown(3), shown(64), shown(u32::MAX)], [None; 3]);
     assert_eq!(raw::port_token(&state, &memory[..831], 0, 2, 0), None);
+}
+
+#[test]
+fn what_is_on_a_line_is_shown_as_far_as_it_is_held() {
+    let mut state = vec![0; raw::state_words()];
+    let lines: Vec<u16> = (0..raw::line_words() as u16).collect();
+    // The ring of the line that starts at link C begins at its place 65 and holds two.
+    let line = 4 + 8 * 10 + 13 * 8 + 4 * 2 + 32 * 17 + 14 + 2 * 3;
+    state[line] = 65;
+    state[line + 1] = 2;
+    let shown = |place| raw::line_token(&state, &lines, 0, 2, place);
+    assert_eq!([shown(0), shown(1)], [Some(197), Some(132)]);
+    assert_eq!([shown(2), shown(66), shown(u32::MAX)], [None; 3]);
+    assert_eq!(raw::line_token(&state, &lines[..527], 0, 2, 0), None);
 }
 
 #[test]

@@ -5,7 +5,7 @@ use bench::{raw, Answer, Bench, Destination, Hop, Kind, LinkEnd, Looks, Opening}
 use bench::{Cause, Refusal, Setting, Stepped};
 
 /// A start, on lent memories.
-type Start = fn(&mut [u32], &mut [u16], usize) -> Answer;
+type Start = fn(&mut [u32], &mut [u16], &mut [u16], usize) -> Answer;
 
 /// Each start with the first of the links that it enables; those behind it are enabled too.
 const STARTS: [(Start, usize); 2] = [(raw::fresh, E), (raw::blank, 8)];
@@ -13,35 +13,53 @@ const STARTS: [(Start, usize); 2] = [(raw::fresh, E), (raw::blank, 8)];
 /// The first link that the boot ROM leaves enabled.
 const E: usize = 4;
 
+/// The lengths of the three memories: state, tokens, lines.
+type Lengths = [usize; 3];
+
+/// Those of so many nodes.
+fn lengths_of(nodes: usize) -> Lengths {
+    [raw::state_words(), raw::memory_words(), raw::line_words()].map(|words| nodes * words)
+}
+
 /// A start on memories of these lengths, full of rubbish, which it leaves where it refuses.
-fn start_on(start: Start, nodes: usize, words: usize, tokens: usize) -> Answer {
-    let (mut state, mut memory) = (vec![9; words], vec![9; tokens]);
-    let answer = start(&mut state, &mut memory, nodes);
+fn start_on(start: Start, nodes: usize, [words, tokens, things]: Lengths) -> Answer {
+    let (mut state, mut memory, mut lines) = (vec![9; words], vec![9; tokens], vec![9; things]);
+    let answer = start(&mut state, &mut memory, &mut lines, nodes);
     if answer != Answer::Done {
-        assert!(state.iter().all(|word| *word == 9) && memory.iter().all(|word| *word == 9));
+        assert!(state.iter().all(|word| *word == 9));
+        assert!(memory.iter().chain(&lines).all(|word| *word == 9));
     }
     answer
 }
 
+/// Lengths of which one is another than these.
+fn other_lengths(right: Lengths) -> Vec<Lengths> {
+    let one_other = |memory: usize, length: usize| {
+        let mut lengths = right;
+        lengths[memory] = length;
+        lengths
+    };
+    let of_memory = |memory: usize| {
+        let right = right[memory];
+        [right - 1, right + 1, 0].map(|length| one_other(memory, length))
+    };
+    (0..3).flat_map(of_memory).collect()
+}
+
 #[test]
-fn each_start_asks_for_a_count_and_then_for_both_lengths() {
-    let (words, tokens) = (raw::state_words(), raw::memory_words());
+fn each_start_asks_for_a_count_and_then_for_all_lengths() {
     for (start, _) in STARTS {
         for nodes in [0, 17, usize::MAX] {
             for lent in [0, 1, 16, 17] {
-                let answer = start_on(start, nodes, lent * words, lent * tokens);
+                let answer = start_on(start, nodes, lengths_of(lent));
                 assert_eq!(answer, Answer::No(Refusal::NoSuch));
             }
         }
         for nodes in 1..=16 {
-            let (words, tokens) = (nodes * words, nodes * tokens);
-            assert_eq!(start_on(start, nodes, words, tokens), Answer::Done);
-            for words in [words - 1, words + 1, 0] {
-                let answer = start_on(start, nodes, words, tokens);
-                assert_eq!(answer, Answer::No(Refusal::Unsound));
-            }
-            for tokens in [tokens - 1, tokens + 1, 0] {
-                let answer = start_on(start, nodes, words, tokens);
+            let right = lengths_of(nodes);
+            assert_eq!(start_on(start, nodes, right), Answer::Done);
+            for other in other_lengths(right) {
+                let answer = start_on(start, nodes, other);
                 assert_eq!(answer, Answer::No(Refusal::Unsound));
             }
         }
@@ -55,15 +73,17 @@ fn each_start_leaves_these_words_and_no_others() {
         for nodes in [1, 2, 16] {
             let mut state = vec![9; nodes * raw::state_words()];
             let mut memory = vec![9; nodes * raw::memory_words()];
-            assert_eq!(start(&mut state, &mut memory, nodes), Answer::Done);
-            assert!(memory.iter().all(|word| *word == 0));
+            let mut lines = vec![9; nodes * raw::line_words()];
+            let answer = start(&mut state, &mut memory, &mut lines, nodes);
+            assert_eq!(answer, Answer::Done);
+            assert!(memory.iter().chain(&lines).all(|word| *word == 0));
             for (place, word) in state.iter().enumerate() {
                 let of_node = place % raw::state_words();
                 let flag = (enabled..8).any(|link| of_node == 4 + 10 * link + 3);
                 let expected = if of_node == 1 { 3 } else { u32::from(flag) };
                 assert_eq!(*word, expected, "word {of_node}");
             }
-            let looks = Looks::over(&state, &memory);
+            let looks = Looks::over(&state, &memory, &lines);
             assert!(looks.is_sound() && looks.is_tight() && looks.is_quiet());
         }
     }
@@ -83,6 +103,12 @@ fn sent(mut bench: Bench) -> Bench {
     ];
     assert_eq!(calls, [Ok(()); 3]);
     bench
+}
+
+/// Takes all off the line that starts at a link, and says what grants that brought.
+fn emptied(bench: &mut Bench, slot: usize, link: usize) -> Vec<u32> {
+    let arrival = || bench.line(slot, link).expect("a link that is there");
+    std::iter::from_fn(arrival).collect()
 }
 
 /// What came of so many Steps of a port.
@@ -119,8 +145,14 @@ fn a_message_sent_too_early_arrives_by_the_cable_that_comes() {
         (Some((1, 4)), 0, 0)
     );
     assert_eq!(bench.step(0, 8), Ok(Stepped::Waiting));
-    assert_eq!(bench.hello(0, E), Ok(64));
+    assert_eq!(bench.hello(0, E), Ok(0));
+    assert_eq!(bench.step(0, 8), Ok(Stepped::Waiting));
+    assert_eq!(emptied(&mut bench, 0, E), [64]);
+    assert_eq!(bench.step(0, 8), Ok(Stepped::Waiting));
+    assert_eq!(emptied(&mut bench, 1, E), [0]);
     assert_eq!(steps(&mut bench, 0, 8, 4), [Stepped::Moved; 4]);
+    assert_eq!(bench.step(1, E), Ok(Stepped::Idle));
+    assert_eq!(emptied(&mut bench, 0, E), [0; 4]);
     let arrives = [Stepped::Opened(Opening::Channel), Stepped::Moved];
     assert_eq!(steps(&mut bench, 1, E, 2), arrives);
     assert_eq!(bench.input(1, 7, Kind::Data), Ok(40));

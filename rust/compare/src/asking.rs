@@ -5,7 +5,7 @@
 mod boards;
 
 use model::calls::Call;
-use model::network::{Network, Node, Start};
+use model::network::{LinkEnd, Network, Node, Start};
 use model::random::Random;
 use model::set::Setting;
 use model::sizes::{CHANNELS, TILE_PORTS};
@@ -13,7 +13,7 @@ use model::speech;
 use model::tokens::{Destination, Kind, Token, END, SINK};
 use model::{Answer, No};
 
-use crate::choice::{busy_ports, list_of, plug};
+use crate::choice::{busy_ports, lines_in_use, list_of, plug};
 use boards::{NODES, OWN, OWN_BIT, OWN_START};
 
 /// A run of that many calls on two boards. The same seed gives the same run.
@@ -63,6 +63,8 @@ struct Asking {
     calls: Vec<Call>,
     /// Are lists of Steps made, too?
     lists: bool,
+    /// Behind how many Steps of a hundred all lines are emptied.
+    carried: usize,
 }
 
 impl Asking {
@@ -73,6 +75,7 @@ impl Asking {
             network: None,
             calls: Vec::new(),
             lists,
+            carried: 100,
         };
         asking.start_anew();
         asking
@@ -90,11 +93,13 @@ impl Asking {
     }
 
     fn scene(&mut self) {
+        self.carried = self.random.pick(&[100, 100, 100, 90, 50]).unwrap_or(100);
         match self.random.below(40) {
             0 => self.start_anew(),
             1..=8 => self.ask_while_it_changes(),
             9..=11 => self.greet_over_own_cable(),
             12..=15 => self.ask_to_disable_a_link_in_use(),
+            16..=17 => self.ask_while_hello_is_on_its_way(),
             _ => self.ask_at_once(),
         }
         if self.random.chance(20) {
@@ -126,11 +131,13 @@ impl Asking {
         }
     }
 
-    /// Makes the settings again that are not as they are meant to be.
+    /// Makes the settings again that are not as they are meant to be. HELLO is refused while a credit
+    /// or another HELLO is on its way, so lines are emptied behind each of them, mostly.
     fn mend(&mut self) {
         for call in self.settings.clone() {
             if boards::is_undone(&self.network, &call) {
                 self.make(call);
+                self.carry_mostly();
             }
         }
     }
@@ -191,7 +198,8 @@ impl Asking {
     }
 
     /// A message that leaves by a board's own cable, is the board's own once its number has changed,
-    /// and says HELLO on the link that it left by, with tokens of another circuit behind it.
+    /// and says HELLO on the link that it left by, with tokens of other circuits before and behind it, so
+    /// that the taking of its END brings a grant now and then, and is in its own way.
     fn greet_over_own_cable(&mut self) {
         self.take_replies();
         self.settle();
@@ -199,18 +207,46 @@ impl Asking {
         let slot = self.random.below(NODES);
         let (from, behind) = (End { slot, end: 0 }, End { slot, end: 1 });
         let number = self.number(slot) ^ OWN_BIT;
+        let channel = SINK;
+        let ahead = self.random.below(9);
+        let mut before = vec![Token::data(3); ahead];
+        before.push(Token::control(END));
+        let sink = Destination::Channel { number, channel };
+        self.send_all(End { slot, end: 2 }, sink, before);
         let tokens = speech::write(number, from.end, OWN_START, ENABLE | HELLO);
         self.send_all(from, Destination::Control { number }, tokens);
-        let channel = SINK;
         let held = 40 + self.random.below(17);
         let filling = vec![Token::data(7); held];
-        self.send_all(behind, Destination::Channel { number, channel }, filling);
+        self.send_all(behind, sink, filling);
         self.set(slot, Setting::Number { value: number });
-        for _ in 0..16 {
-            self.make(Call::Step { slot, port: OWN[1] });
+        for _ in 0..18 + ahead {
+            self.step((slot, OWN[1]));
             self.send_on(behind);
         }
         self.say(behind, Token::control(END));
+        self.settle();
+    }
+
+    /// A write to a board's own unit that says HELLO on a link, or disables it, while a HELLO is on the
+    /// link's line.
+    fn ask_while_hello_is_on_its_way(&mut self) {
+        self.take_replies();
+        self.settle();
+        self.mend();
+        self.settle();
+        let from = self.asker();
+        let (number, link) = (self.number(from.slot), self.random.below(2));
+        let data = self.random.pick(&[0, ENABLE | HELLO]).unwrap_or(0);
+        let tokens = speech::write(number, from.end, 0x82 + link as u32, data);
+        self.carried = 0;
+        if self.aim(from, Destination::Control { number }) {
+            for token in tokens {
+                self.say(from, token);
+            }
+            self.set(from.slot, Setting::Hello { link });
+            self.send_on(from);
+        }
+        self.carried = 100;
         self.settle();
     }
 
@@ -329,7 +365,7 @@ impl Asking {
         }
     }
 
-    /// Steps ports that hold a token until all of them wait.
+    /// Steps ports that hold a token until all of them wait and nothing is on a line.
     fn settle(&mut self) {
         while self.lists && self.random.chance(60) {
             self.make_list(LIST);
@@ -339,7 +375,11 @@ impl Asking {
             let mut busy = self.busy_ports();
             busy.retain(|place| !waiting.contains(place));
             let Some(place) = self.random.pick(&busy) else {
-                return;
+                if !self.carry() {
+                    return;
+                }
+                waiting.clear();
+                continue;
             };
             match self.step(place) {
                 Answer::Waiting => waiting.push(place),
@@ -352,6 +392,28 @@ impl Asking {
         let count = self.random.below(most + 1);
         let call = list_of(&mut self.random, self.network.as_ref(), count);
         self.make(call);
+        self.carry_mostly();
+    }
+
+    /// Steps lines until nothing is on any of them; false where nothing was.
+    fn carry(&mut self) -> bool {
+        let mut carried = false;
+        while let Some(LinkEnd { slot, link }) = self.line_in_use() {
+            self.make(Call::Line { slot, link });
+            carried = true;
+        }
+        carried
+    }
+
+    fn carry_mostly(&mut self) {
+        if self.random.chance(self.carried) {
+            self.carry();
+        }
+    }
+
+    fn line_in_use(&mut self) -> Option<LinkEnd> {
+        let used = self.network.as_ref().map(lines_in_use).unwrap_or_default();
+        self.random.pick(&used)
     }
 
     fn step_any(&mut self) {
@@ -365,7 +427,9 @@ impl Asking {
     }
 
     fn step(&mut self, (slot, port): (usize, usize)) -> Answer {
-        self.make(Call::Step { slot, port })
+        let answer = self.make(Call::Step { slot, port });
+        self.carry_mostly();
+        answer
     }
 
     fn busy_ports(&self) -> Vec<(usize, usize)> {

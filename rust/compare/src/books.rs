@@ -4,8 +4,9 @@
 //! circuit, towards where and at which width; what was put out on it; what it handed, and at which
 //! door. [`note`] writes them, from the call, its answer and what the looks show; nobody reads a
 //! header to find out where a token belongs, and nothing of the bench or of the model reads the
-//! books.
+//! books. Credits and HELLO are of no circuit, and are not in them.
 
+mod line;
 mod note;
 mod step;
 pub mod words;
@@ -25,6 +26,13 @@ use words::is_pause;
 pub struct Port {
     pub slot: usize,
     pub port: usize,
+}
+
+/// The line that starts at a link of the node in a slot.
+#[derive(Clone, Copy, Debug, PartialEq, Eq, PartialOrd, Ord)]
+pub struct Line {
+    pub slot: usize,
+    pub link: usize,
 }
 
 /// A channel-end of the node in a slot.
@@ -60,6 +68,12 @@ impl Door {
 impl fmt::Display for Port {
     fn fmt(&self, f: &mut fmt::Formatter<'_>) -> fmt::Result {
         write!(f, "port {} of slot {}", self.port, self.slot)
+    }
+}
+
+impl fmt::Display for Line {
+    fn fmt(&self, f: &mut fmt::Formatter<'_>) -> fmt::Result {
+        write!(f, "the line from link {} of slot {}", self.link, self.slot)
     }
 }
 
@@ -185,7 +199,7 @@ impl Circuit {
     }
 }
 
-/// A token in a port: which circuit it is of, and which of its stream.
+/// A token in a port or on a line: which circuit it is of, and which of its stream.
 #[derive(Clone, Copy, Debug, PartialEq, Eq)]
 pub struct Cell {
     pub token: Token,
@@ -222,6 +236,8 @@ pub struct Books {
     pub circuits: Vec<Circuit>,
     /// What each port holds, oldest first.
     pub cells: BTreeMap<Port, VecDeque<Cell>>,
+    /// The tokens on each line, the first to arrive first.
+    pub lines: BTreeMap<Line, VecDeque<Cell>>,
     /// What was handed at each door, with the circuit that handed it, in the order of the run.
     pub logs: BTreeMap<Door, Vec<(Token, usize)>>,
     pub ends: BTreeMap<End, EndBook>,
@@ -332,10 +348,17 @@ pub enum Happening {
     Joined {
         circuit: usize,
     },
-    /// A token crossed a cable.
+    /// A token went on to a line.
     Carried {
         circuit: usize,
     },
+    /// A token came off a line, into the port at its end.
+    Arrived {
+        circuit: usize,
+    },
+    /// A credit came off a line, or a HELLO.
+    Credited,
+    Greeted,
     /// A circuit goes back by the link that it came by.
     TurnedBack {
         circuit: usize,
@@ -362,6 +385,7 @@ pub enum Happening {
 pub struct Touched {
     pub circuits: Vec<usize>,
     pub ports: Vec<Port>,
+    pub lines: Vec<Line>,
     pub ends: Vec<End>,
     pub units: Vec<usize>,
     /// The circuit whose whole header a Step read with a switch of the other width.

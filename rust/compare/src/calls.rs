@@ -1,9 +1,10 @@
 //! The same call made on both sides, and what came of it compared.
 
-use bench::raw;
+use bench::{raw, Looks};
 use model::answers::{Cause, Opening};
-use model::calls::Call;
-use model::network::{LinkEnd, Network};
+use model::calls::{Beginning, Call};
+use model::lines::Crossing;
+use model::network::{LinkEnd, Network, Start};
 use model::random::Random;
 use model::set::Setting;
 use model::tokens::{Destination, Kind};
@@ -18,15 +19,39 @@ use crate::reading::read;
 #[derive(Clone, Debug, Default, PartialEq, Eq)]
 pub struct Lent {
     pub state: Vec<u32>,
+    /// What ports hold.
     pub memory: Vec<u16>,
+    /// What is on its way between ports.
+    pub lines: Vec<u16>,
 }
 
 impl Lent {
     /// The words of a model's state; none where there is no network.
     pub fn of(network: Option<&Network>, random: &mut Random) -> Lent {
         let words = network.map(|network| layout::write(network, random));
-        words.map_or_else(Lent::default, |(state, memory)| Lent { state, memory })
+        words.unwrap_or_default()
     }
+
+    pub fn looks(&self) -> Looks<'_> {
+        Looks::over(&self.state, &self.memory, &self.lines)
+    }
+}
+
+/// The call that begins a network so, lent memories of the right lengths.
+pub fn beginning(start: Start, nodes: usize) -> Call {
+    Call::from(Beginning {
+        start,
+        nodes,
+        memory_words: nodes * layout::NODE_TOKENS,
+        line_words: Some(nodes * layout::NODE_LINES),
+    })
+}
+
+/// A network of so many nodes by line, as a start leaves it.
+pub fn begun(start: Start, nodes: usize) -> Network {
+    let line_words = nodes * layout::NODE_LINES;
+    let crossing = Crossing::ByLine { line_words };
+    Network::crossed(start, nodes, nodes * layout::NODE_TOKENS, crossing)
 }
 
 /// How the model makes a call: [`model::apply`], or another where it is to be wrong on purpose.
@@ -35,14 +60,7 @@ pub type Apply = fn(&mut Option<Network>, &Call) -> Answer;
 /// Makes a call on lent words. A list must have written one answer a record, or nothing.
 pub fn make(lent: &mut Lent, call: &Call) -> Answer {
     let answer = match *call {
-        Call::Fresh {
-            nodes,
-            memory_words,
-        } => begin(raw::fresh, lent, nodes, memory_words),
-        Call::Blank {
-            nodes,
-            memory_words,
-        } => begin(raw::blank, lent, nodes, memory_words),
+        Call::Fresh { .. } | Call::Blank { .. } | Call::WithLines { .. } => start(lent, call),
         Call::Wire { one, other } => wire(lent, one, other),
         Call::Set { slot, setting } => set(lent, slot, setting),
         Call::Aim {
@@ -62,12 +80,26 @@ pub fn make(lent: &mut Lent, call: &Call) -> Answer {
             channel_end,
             kind,
         } => input(lent, slot, channel_end, kind),
-        Call::Step { slot, port } => raw::step(&mut lent.state, &mut lent.memory, slot, port),
+        Call::Step { slot, port } => {
+            let Lent {
+                state,
+                memory,
+                lines,
+            } = lent;
+            raw::step(state, memory, lines, slot, port)
+        }
         Call::Steps {
             results,
             ref records,
         } => return list(lent, call, results, records),
-        Call::WithLines { .. } | Call::Line { .. } => panic!("{call}: the library has no lines"),
+        Call::Line { slot, link } => {
+            let Lent {
+                state,
+                memory,
+                lines,
+            } = lent;
+            raw::line_step(state, memory, lines, slot, link)
+        }
     };
     of_bench(answer)
 }
@@ -78,8 +110,10 @@ fn list(lent: &mut Lent, call: &Call, results: usize, records: &[StepRecord]) ->
 }
 
 fn wire(lent: &mut Lent, one: LinkEnd, other: LinkEnd) -> bench::Answer {
-    let (state, memory) = (&mut lent.state, &lent.memory);
-    raw::wire(state, memory, one.slot, one.link, other.slot, other.link)
+    let (state, memory, lines) = (&mut lent.state, &lent.memory, &lent.lines);
+    raw::wire(
+        state, memory, lines, one.slot, one.link, other.slot, other.link,
+    )
 }
 
 fn aim(
@@ -89,47 +123,65 @@ fn aim(
     destination: Destination,
     network: u32,
 ) -> bench::Answer {
-    let (state, memory) = (&mut lent.state, &lent.memory);
+    let (state, memory, lines) = (&mut lent.state, &lent.memory, &lent.lines);
     match destination {
         Destination::Channel { number, channel } => {
             let channel = u32::try_from(channel).unwrap_or(u32::MAX);
-            raw::aim_channel(state, memory, slot, end, number, channel, network)
+            raw::aim_channel(state, memory, lines, slot, end, number, channel, network)
         }
-        Destination::Control { number } => raw::aim_unit(state, memory, slot, end, number, network),
+        Destination::Control { number } => {
+            raw::aim_unit(state, memory, lines, slot, end, number, network)
+        }
     }
 }
 
 fn output(lent: &mut Lent, slot: usize, end: usize, kind: Kind, value: u8) -> bench::Answer {
-    let (state, memory) = (&mut lent.state, &mut lent.memory);
+    let (state, memory, lines) = (&mut lent.state, &mut lent.memory, &lent.lines);
     match kind {
-        Kind::Data => raw::output_data(state, memory, slot, end, value),
-        Kind::Control => raw::output_control(state, memory, slot, end, value),
+        Kind::Data => raw::output_data(state, memory, lines, slot, end, value),
+        Kind::Control => raw::output_control(state, memory, lines, slot, end, value),
     }
 }
 
 fn input(lent: &mut Lent, slot: usize, end: usize, kind: Kind) -> bench::Answer {
-    let (state, memory) = (&mut lent.state, &lent.memory);
+    let (state, memory, lines) = (&mut lent.state, &lent.memory, &lent.lines);
     match kind {
-        Kind::Data => raw::input_data(state, memory, slot, end),
-        Kind::Control => raw::input_control(state, memory, slot, end),
+        Kind::Data => raw::input_data(state, memory, lines, slot, end),
+        Kind::Control => raw::input_control(state, memory, lines, slot, end),
     }
 }
 
-/// One of the library's starts.
-type Start = fn(&mut [u32], &mut [u16], usize) -> bench::Answer;
+/// A start with what it lends. One that says nothing of lines lends no words for them, which is a
+/// wrong length for any network.
+fn start(lent: &mut Lent, call: &Call) -> bench::Answer {
+    match call.begins() {
+        Some(beginning) => begin(lent, beginning),
+        None => unreachable!("{call} begins no network"),
+    }
+}
 
 /// A start is made on memories of its own, full of rubbish, which take the place of the others where
 /// it succeeds.
-fn begin(start: Start, lent: &mut Lent, nodes: usize, memory_words: usize) -> bench::Answer {
+fn begin(lent: &mut Lent, beginning: Beginning) -> bench::Answer {
     // More than any network needs, so that a length cut down to it is still a wrong one.
     const MOST: usize = 20_000;
+    let nodes = beginning.nodes;
     let words = nodes.min(bench::sizes::MOST_NODES + 1) * raw::state_words();
     let rubbish = Lent {
         state: (0..words as u32).collect(),
-        memory: vec![0xBAD; memory_words.min(MOST)],
+        memory: vec![0xBAD; beginning.memory_words.min(MOST)],
+        lines: vec![0xBAD; beginning.line_words.unwrap_or(0).min(MOST)],
     };
     let mut made = rubbish.clone();
-    let answer = start(&mut made.state, &mut made.memory, nodes);
+    let Lent {
+        state,
+        memory,
+        lines,
+    } = &mut made;
+    let answer = match beginning.start {
+        Start::Fresh => raw::fresh(state, memory, lines, nodes),
+        Start::Blank => raw::blank(state, memory, lines, nodes),
+    };
     match answer {
         bench::Answer::Done => *lent = made,
         _ => assert!(made == rubbish, "a refused start has changed a word"),
@@ -138,20 +190,22 @@ fn begin(start: Start, lent: &mut Lent, nodes: usize, memory_words: usize) -> be
 }
 
 fn set(lent: &mut Lent, slot: usize, setting: Setting) -> bench::Answer {
-    let (state, memory) = (&mut lent.state, &lent.memory);
+    let (state, memory, lines) = (&mut lent.state, &lent.memory, &mut lent.lines);
     match setting {
-        Setting::Number { value } => raw::set_number(state, memory, slot, value),
-        Setting::Width { value } => raw::set_width(state, memory, slot, value),
+        Setting::Number { value } => raw::set_number(state, memory, lines, slot, value),
+        Setting::Width { value } => raw::set_width(state, memory, lines, slot, value),
         Setting::Direction { bit, value } => {
             let bit = u32::try_from(bit).unwrap_or(u32::MAX);
-            raw::set_direction(state, memory, slot, bit, value)
+            raw::set_direction(state, memory, lines, slot, bit, value)
         }
         Setting::LinkDirection { link, value } => {
-            raw::set_link_direction(state, memory, slot, link, value)
+            raw::set_link_direction(state, memory, lines, slot, link, value)
         }
-        Setting::Network { link, value } => raw::set_network(state, memory, slot, link, value),
-        Setting::Enable { link, value } => raw::set_enable(state, memory, slot, link, value),
-        Setting::Hello { link } => raw::hello(state, memory, slot, link),
+        Setting::Network { link, value } => {
+            raw::set_network(state, memory, lines, slot, link, value)
+        }
+        Setting::Enable { link, value } => raw::set_enable(state, memory, lines, slot, link, value),
+        Setting::Hello { link } => raw::hello(state, memory, lines, slot, link),
     }
 }
 
@@ -165,6 +219,7 @@ pub(crate) fn of_bench(answer: bench::Answer) -> Answer {
         bench::Answer::Granted(credit) => Answer::Granted(credit as usize),
         bench::Answer::Token(value) => Answer::Token(value),
         bench::Answer::Step(stepped) => of_step(stepped),
+        bench::Answer::Arrived(credit) => Answer::Arrived(credit as usize),
         other => unreachable!("the model has no {other:?}"),
     }
 }
@@ -202,7 +257,7 @@ fn changes_nothing(answer: &Answer) -> bool {
     }
 }
 
-/// Complains where an answer that changes nothing has changed a word of state or token memory.
+/// Complains where an answer that changes nothing has changed a word of a lent memory.
 pub fn hold_unchanged(answer: &Answer, before: &Lent, after: &Lent) -> Result<(), String> {
     match changes_nothing(answer) && before != after {
         true => Err(format!("{answer}, and a word has changed")),
@@ -258,7 +313,7 @@ pub fn compare(
     };
     let seen = match state_before {
         Some(state) if *lent == before => state,
-        _ => read(&lent.state, &lent.memory).map_err(|why| format!("{call}: {}", why.0))?,
+        _ => read(lent).map_err(|why| format!("{call}: {}", why.0))?,
     };
     match difference::first(&seen, network) {
         Some(difference) => Err(format!("{call}: {difference}")),

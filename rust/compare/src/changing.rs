@@ -4,7 +4,7 @@
 //! twice, and cables plugged into links by which circuits leave already.
 
 use model::calls::Call;
-use model::network::{memory_words, LinkEnd, Network, Start};
+use model::network::{LinkEnd, Network, Start};
 use model::random::Random;
 use model::set::Setting;
 use model::sizes::LINKS;
@@ -12,7 +12,8 @@ use model::speech::{self, Speech};
 use model::tokens::{Destination, Token, ONE_BYTE, SINK, THREE_BYTES};
 use model::{Answer, No};
 
-use crate::choice::{any_list, busy_ports, plug};
+use crate::calls::beginning;
+use crate::choice::{any_list, busy_ports, lines_in_use, plug};
 
 /// A run of that many calls on one to four boards. The same seed gives the same run.
 pub fn calls(seed: u64, count: usize) -> Vec<Call> {
@@ -60,6 +61,8 @@ struct Changing {
     lists: bool,
     /// Are there cables from the start on?
     cabled: bool,
+    /// How many calls of a hundred have a line step before them, where something is on a line.
+    tide: usize,
 }
 
 impl Changing {
@@ -71,6 +74,7 @@ impl Changing {
             calls: Vec::new(),
             lists: false,
             cabled: true,
+            tide: 0,
         }
     }
 
@@ -94,6 +98,9 @@ impl Changing {
         if self.network.is_none() {
             return self.start_anew();
         }
+        if self.random.chance(self.tide) {
+            self.step_line();
+        }
         match self.random.below(400) {
             0 => self.start_anew(),
             1..=2 if !self.cabled => self.start_anew(),
@@ -116,13 +123,14 @@ impl Changing {
         links.collect()
     }
 
-    /// Either start, cables, and every link that has one enabled and greeted.
+    /// Either start, cables, and every link that has one enabled and greeted, with nothing left on a
+    /// line.
     fn start_anew(&mut self) {
         self.speeches.clear();
         let nodes = 1 + self.random.below(4);
         let start = self.random.pick(&Start::ALL).unwrap_or(Start::Fresh);
-        let words = memory_words(nodes).unwrap_or(0);
-        self.make(Call::beginning(start, nodes, words));
+        self.tide = self.random.pick(&[100, 100, 95, 60, 25]).unwrap_or(100);
+        self.make(beginning(start, nodes));
         let cables = if self.cabled { 3 * nodes } else { 0 };
         for _ in 0..cables {
             let [one, other] = [(); 2].map(|()| self.link_end());
@@ -135,8 +143,19 @@ impl Changing {
             for link in self.wired(slot) {
                 let setting = Setting::Hello { link };
                 self.make(Call::Set { slot, setting });
+                while self.step_line() {}
             }
         }
+    }
+
+    /// A step of a line that has something on it; false where there is none.
+    fn step_line(&mut self) -> bool {
+        let used = self.network.as_ref().map(lines_in_use).unwrap_or_default();
+        let line = self.random.pick(&used);
+        if let Some(LinkEnd { slot, link }) = line {
+            self.make(Call::Line { slot, link });
+        }
+        line.is_some()
     }
 
     fn start_node(&mut self, slot: usize) {

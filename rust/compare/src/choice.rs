@@ -3,10 +3,10 @@
 mod cables;
 mod ends;
 
-pub use cables::plug;
+pub use cables::{lines_in_use, plug};
 pub use ends::any_token;
 
-use model::calls::{Call, StepRecord};
+use model::calls::{Beginning, Call, StepRecord};
 use model::network::{LinkEnd, Network, Start};
 use model::random::Random;
 use model::set::Setting;
@@ -14,13 +14,14 @@ use model::sizes::{
     BITS, HIGHEST_DIRECTION, HIGHEST_NETWORK, HIGHEST_NUMBER, LINKS, MOST_NODES, PORTS,
 };
 
-use crate::layout::NODE_TOKENS;
+use crate::layout::{NODE_LINES, NODE_TOKENS};
+use crate::runs;
 
 /// A run of that many calls. The first half is one of the model's own runs, which leaves circuits
 /// under way; what follows makes no sense, and is mostly refused. The same seed gives the same run.
 pub fn calls(seed: u64, count: usize) -> Vec<Call> {
     let mut random = Random::new(seed);
-    let mut calls = model::runs::calls(seed, count / 2);
+    let mut calls = runs::calls(seed, count / 2);
     let mut network = None;
     for call in &calls {
         model::apply(&mut network, call);
@@ -33,15 +34,16 @@ pub fn calls(seed: u64, count: usize) -> Vec<Call> {
     calls
 }
 
-/// Any call, often of a link or channel-end whose circuits make a difference.
+/// Any call, often of a link, line or channel-end whose circuits make a difference.
 pub fn any(random: &mut Random, network: Option<&Network>) -> Call {
     let nodes = network.map_or(3, |network| network.nodes.len());
-    match random.below(40) {
+    match random.below(47) {
         0 => any_start(random),
         1..=2 => cables::any(random, network, nodes),
         3..=14 => any_set(random, network, nodes),
         15..=20 => any_record(random, network).into(),
         21 => any_list(random, network),
+        22..=28 => any_line(random, network),
         _ => ends::any(random, network),
     }
 }
@@ -49,8 +51,26 @@ pub fn any(random: &mut Random, network: Option<&Network>) -> Call {
 fn any_start(random: &mut Random) -> Call {
     let start = random.pick(&Start::ALL).unwrap_or(Start::Fresh);
     let nodes = below_or_beyond(random, MOST_NODES + 1);
-    let memory_words = NODE_TOKENS * random.below(MOST_NODES + 2);
-    Call::beginning(start, nodes, memory_words)
+    let [tokens, other] = [(); 2].map(|()| random.below(MOST_NODES + 2));
+    let lines = if random.chance(70) { tokens } else { other };
+    Call::from(Beginning {
+        start,
+        nodes,
+        memory_words: NODE_TOKENS * tokens,
+        line_words: Some(NODE_LINES * lines),
+    })
+}
+
+/// A line step, often of a line that has something on it.
+pub fn any_line(random: &mut Random, network: Option<&Network>) -> Call {
+    let nodes = network.map_or(3, |network| network.nodes.len());
+    let used = network.map(lines_in_use).unwrap_or_default();
+    let any = any_end(random, nodes);
+    let LinkEnd { slot, link } = match random.pick(&used) {
+        Some(end) if random.chance(80) => end,
+        _ => any,
+    };
+    Call::Line { slot, link }
 }
 
 /// No list that is made up among other calls has as many records.
@@ -119,7 +139,8 @@ fn any_set(random: &mut Random, network: Option<&Network>, nodes: usize) -> Call
     Call::Set { slot, setting }
 }
 
-/// The links that are in use, or whose port or far port holds a token.
+/// The links that are in use, whose port or far port holds a token, or with something on a line of
+/// their cable.
 fn busy_links(network: &Network) -> Vec<LinkEnd> {
     let holds = |end: LinkEnd| {
         let port = network.port(end.slot, end.link);
@@ -129,7 +150,9 @@ fn busy_links(network: &Network) -> Vec<LinkEnd> {
     let all = slots.flat_map(|slot| (0..LINKS).map(move |link| LinkEnd { slot, link }));
     all.filter(|end| {
         let link = &network.nodes[end.slot].links[end.link];
-        link.used_by.is_some() || holds(*end) || link.far.is_some_and(holds)
+        let far = network.far_link(link);
+        let on_lines = !link.line.is_empty() || far.is_some_and(|far| !far.line.is_empty());
+        on_lines || link.used_by.is_some() || holds(*end) || link.far.is_some_and(holds)
     })
     .collect()
 }

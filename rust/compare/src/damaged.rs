@@ -1,7 +1,9 @@
 //! Damaged memories, asked of both sides: the proved tests, looks and calls answer for any words,
 //! change none that they are not to, and agree with the model wherever the words are a state of it.
 
-use bench::sizes::{BITS, CHANNEL_ENDS, DIRECTIONS, END_BUFFER, LINKS, PORTS, PORT_BUFFER};
+use bench::sizes::{
+    BITS, CHANNEL_ENDS, DIRECTIONS, END_BUFFER, LINE_BUFFER, LINKS, PORTS, PORT_BUFFER,
+};
 use bench::Looks;
 use model::calls::Call;
 use model::network::Network;
@@ -21,7 +23,7 @@ pub const CALLS: usize = 3;
 /// A state of the model with one to three of its words changed.
 pub fn other_words(network: &Network, random: &mut Random) -> Lent {
     let mut lent = Lent::of(Some(network), random);
-    disturb(random, &mut lent.state, &mut lent.memory);
+    disturb(random, &mut lent);
     lent
 }
 
@@ -36,8 +38,8 @@ pub fn other_things(network: &Network, random: &mut Random) -> Lent {
 /// what both say, and what the calls have reached on both sides.
 pub fn check(lent: &Lent) -> Result<(Verdict, Reached), String> {
     let before = lent.clone();
-    let (verdict, read) = verdict(&lent.state, &lent.memory)?;
-    look_everywhere(Looks::over(&lent.state, &lent.memory))?;
+    let (verdict, read) = verdict(lent)?;
+    look_everywhere(lent.looks())?;
     if *lent != before {
         return Err("a look has changed a word".to_owned());
     }
@@ -108,6 +110,10 @@ fn look_at_node(looks: Looks, slot: usize) -> bool {
         looks.link(slot, link);
         looks.tile_link(slot, link);
     }
+    let lines = (0..=LINKS).all(|link| {
+        looks.line(slot, link);
+        looks.line_tokens(slot, link).count() <= LINE_BUFFER
+    });
     let entries = (0..=BITS).all(|bit| looks.direction(slot, bit) < DIRECTIONS);
     let ports = (0..=PORTS).all(|port| {
         looks.port(slot, port);
@@ -117,5 +123,5 @@ fn look_at_node(looks: Looks, slot: usize) -> bool {
         looks.channel_end(slot, end);
         looks.end_tokens(slot, end).count() <= END_BUFFER
     });
-    entries && ports && ends
+    lines && entries && ports && ends
 }

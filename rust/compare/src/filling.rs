@@ -1,12 +1,13 @@
 //! Runs without a Step: what channel-ends put out stays, so that ports 8..11 and channel-ends fill.
 
 use model::calls::Call;
-use model::network::{memory_words, Start};
+use model::network::Start;
 use model::random::Random;
 use model::set::Setting;
 use model::sizes::HIGHEST_NETWORK;
 use model::tokens::{Destination, Kind, END, PAUSE, SINK};
 
+use crate::calls::beginning;
 use crate::choice::any_token;
 
 /// How many channel-ends take part: more than there are ports, few enough to meet.
@@ -17,7 +18,7 @@ pub fn calls(seed: u64, count: usize) -> Vec<Call> {
     let mut random = Random::new(seed);
     let nodes = 1 + random.below(2);
     let start = random.pick(&Start::ALL).unwrap_or(Start::Fresh);
-    let begun = Call::beginning(start, nodes, memory_words(nodes).unwrap_or(0));
+    let begun = beginning(start, nodes);
     let widths = (0..nodes).map(|slot| Call::Set {
         slot,
         setting: Setting::Width {

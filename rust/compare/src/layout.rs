@@ -3,13 +3,18 @@
 //! The places are those of `crates/cells/specs/Layout.antt`, the words those of `Records.antt`
 //! there, written down here a second time so that a wrong place in either is found.
 
+use std::collections::VecDeque;
+
 use model::answers::Cause;
-use model::network::{ChannelEnd, Claim, ControlUnit, Hop, Link, Network, Node, Port, Sending};
+use model::network::{ChannelEnd, Claim, ControlUnit, Hop, Link, Network, Node, Sending};
 use model::random::Random;
 use model::sizes::{
-    CHANNEL_ENDS, CHANNEL_END_CAPACITY, HEARD, LINKS, PORTS, PORT_CAPACITY, TILE_LINKS,
+    CHANNEL_ENDS, CHANNEL_END_CAPACITY, HEARD, LINE_CAPACITY, LINKS, PORTS, PORT_CAPACITY,
+    TILE_LINKS,
 };
 use model::tokens::{Destination, Kind, Token};
+
+use crate::calls::Lent;
 
 /// The words of a circuit.
 const CIRCUIT: usize = 2;
@@ -20,7 +25,7 @@ pub const PORT: usize = 4 + 2 * CIRCUIT;
 const TILE_LINK: usize = CIRCUIT;
 const CHANNEL_END: usize = 5 + CHANNEL_END_CAPACITY + 2 * CIRCUIT;
 const CONTROL_UNIT: usize = 1 + HEARD + CIRCUIT;
-const LINE: usize = 3;
+pub const LINE: usize = 3;
 /// Where the first record of each kind lies among a node's words.
 const FIRST_LINK: usize = OWN;
 pub const FIRST_PORT: usize = FIRST_LINK + LINKS * LINK;
@@ -29,7 +34,8 @@ const FIRST_CHANNEL_END: usize = FIRST_TILE_LINK + TILE_LINKS * TILE_LINK;
 const FIRST_CONTROL_UNIT: usize = FIRST_CHANNEL_END + CHANNEL_ENDS * CHANNEL_END;
 /// Where what a control unit has heard lies among a node's words.
 pub const FIRST_HEARD: usize = FIRST_CONTROL_UNIT + 1;
-const FIRST_LINE: usize = FIRST_CONTROL_UNIT + CONTROL_UNIT;
+/// Where the records of lines lie, those of the lines that start at links A..H.
+pub const FIRST_LINE: usize = FIRST_CONTROL_UNIT + CONTROL_UNIT;
 /// The words of a node.
 pub const NODE_WORDS: usize = FIRST_LINE + LINKS * LINE;
 /// The records of each kind: where they begin among a node's words, and how many words they have.
@@ -44,48 +50,55 @@ pub const KINDS: [(usize, usize); 7] = [
 ];
 /// The words of token memory of a node.
 pub const NODE_TOKENS: usize = PORTS * PORT_CAPACITY;
+/// The words of the lines' memory of a node.
+pub const NODE_LINES: usize = LINKS * LINE_CAPACITY;
 
 /// Words of a record, in their order.
 type Words = Vec<u32>;
 
-/// State and token memory. Where in its ring a port's oldest token lies is left to the
-/// implementation, and so is chosen at random here.
-pub fn write(network: &Network, random: &mut Random) -> (Vec<u32>, Vec<u16>) {
-    let mut state = Vec::with_capacity(network.nodes.len() * NODE_WORDS);
-    let mut memory = vec![0; network.nodes.len() * NODE_TOKENS];
-    for (node, stretch) in network.nodes.iter().zip(memory.chunks_mut(NODE_TOKENS)) {
-        let heads: [usize; PORTS] = std::array::from_fn(|_| random.below(PORT_CAPACITY));
-        state.extend(node_words(node, &heads));
-        for ((port, head), ring) in node
-            .ports
-            .iter()
-            .zip(heads)
-            .zip(stretch.chunks_mut(PORT_CAPACITY))
-        {
-            write_tokens(port, head, ring);
+/// The three memories. Where in its ring a port's oldest token lies, or what is first on a line, is
+/// left to the implementation, and so is chosen at random here.
+pub fn write(network: &Network, random: &mut Random) -> Lent {
+    let mut lent = Lent::default();
+    for node in &network.nodes {
+        let ports: [usize; PORTS] = std::array::from_fn(|_| random.below(PORT_CAPACITY));
+        let lines: [usize; LINKS] = std::array::from_fn(|_| random.below(LINE_CAPACITY));
+        lent.state.extend(node_words(node, &ports, &lines));
+        for (port, head) in node.ports.iter().zip(ports) {
+            lent.memory.extend(ring(&port.tokens, head, PORT_CAPACITY));
+        }
+        for (link, head) in node.links.iter().zip(lines) {
+            lent.lines.extend(ring(&link.line, head, LINE_CAPACITY));
         }
     }
-    (state, memory)
+    lent
 }
 
-fn write_tokens(port: &Port, head: usize, ring: &mut [u16]) {
-    for (place, token) in port.tokens.iter().enumerate() {
-        let at = (head + place) % PORT_CAPACITY;
-        ring[at] = word(token) as u16;
+/// The words of a ring in which the first token lies at that place.
+fn ring(tokens: &VecDeque<Token>, head: usize, capacity: usize) -> Vec<u16> {
+    let mut ring = vec![0; capacity];
+    for (place, token) in tokens.iter().enumerate() {
+        ring[(head + place) % capacity] = word(token) as u16;
     }
+    ring
 }
 
-/// own | links | ports | tile links | channel-ends | control unit | lines, on which nothing is
-fn node_words(node: &Node, heads: &[usize; PORTS]) -> Words {
+/// own | links | ports | tile links | channel-ends | control unit | lines
+fn node_words(node: &Node, ports: &[usize; PORTS], lines: &[usize; LINKS]) -> Words {
     let mut words = own_words(node);
     words.extend(node.links.iter().flat_map(link_words));
-    words.extend((0..PORTS).flat_map(|port| port_words(node, port, heads[port])));
+    words.extend((0..PORTS).flat_map(|port| port_words(node, port, ports[port])));
     words.extend(node.tile_links.iter().flat_map(|user| named(1, *user)));
     words.extend(node.channel_ends.iter().flat_map(channel_end_words));
     words.extend(control_unit_words(&node.control_unit));
-    words.extend([0; LINKS * LINE]);
+    let each = node.links.iter().zip(lines);
+    words.extend(each.flat_map(|(link, head)| line_words(link, *head)));
     assert_eq!(words.len(), NODE_WORDS);
     words
+}
+
+fn line_words(link: &Link, head: usize) -> [u32; LINE] {
+    [head, link.line.len(), link.issued].map(|word| word as u32)
 }
 
 fn own_words(node: &Node) -> Words {

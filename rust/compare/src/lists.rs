@@ -16,11 +16,21 @@ pub fn library(lent: &mut Lent, records: &[StepRecord], results: &mut [u64]) -> 
         port: record.port,
     });
     let list: Vec<_> = list.collect();
-    raw::steps(&mut lent.state, &mut lent.memory, &list, results)
+    let Lent {
+        state,
+        memory,
+        lines,
+    } = lent;
+    raw::steps(state, memory, lines, &list, results)
 }
 
 fn step(lent: &mut Lent, StepRecord { slot, port }: StepRecord) -> Found {
-    raw::step(&mut lent.state, &mut lent.memory, slot, port)
+    let Lent {
+        state,
+        memory,
+        lines,
+    } = lent;
+    raw::step(state, memory, lines, slot, port)
 }
 
 /// The number that the answer of a Step crosses as: its case in the upper half, what the case
@@ -41,6 +51,7 @@ pub fn crossed(answer: Found) -> u64 {
         Found::Step(Stepped::Dropped(cause)) => (11, cause as u32),
         Found::Step(Stepped::Malformed) => (12, 0),
         Found::Step(Stepped::Unheard) => (13, 0),
+        Found::Arrived(credit) => (14, credit),
         other => unreachable!("{other:?} is not written down here"),
     };
     case << 32 | u64::from(carried)
@@ -101,7 +112,7 @@ pub fn make(
 }
 
 /// Makes a list, and the same Steps one by one on a copy: every result is the number of the single
-/// Step's answer, and every word of both memories is the same behind them. With results of another
+/// Step's answer, and every word of all memories is the same behind them. With results of another
 /// length it is NoSuch, and no word is changed.
 pub fn held_to_single_steps(
     list: MakeList,

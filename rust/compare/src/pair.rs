@@ -8,7 +8,7 @@ use model::script::Outcome;
 use model::Answer;
 
 use crate::calls::{compare, Apply, Lent};
-use crate::reached::{message_ended_by, Plugged, Reached};
+use crate::reached::{message_ended_by, met_on_line, Plugged, Reached};
 
 /// The model's state and the library's words, which say the same.
 pub struct Pair {
@@ -61,6 +61,7 @@ impl Pair {
     pub fn call(&mut self, call: &Call) -> Result<(), String> {
         let ending = message_ended_by(self.network.as_ref(), call);
         let cable = self.plugged.touched_by(self.network.as_ref(), call);
+        let met = met_on_line(self.network.as_ref(), call);
         let before = match call {
             Call::Steps { .. } => self.network.clone(),
             _ => None,
@@ -69,6 +70,7 @@ impl Pair {
         let after = self.network.as_ref();
         self.reached.call(ending, call, &answer, after);
         self.reached.cable(&mut self.plugged, cable, &answer);
+        self.reached.line(met, &answer);
         if let (Call::Steps { records, .. }, Answer::Results(each)) = (call, &answer) {
             let plugged = &mut self.plugged;
             self.reached.records(plugged, before, records, each);

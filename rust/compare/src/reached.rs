@@ -1,9 +1,10 @@
 //! What compared calls have reached: how often each call gave each answer, each switch message each
-//! of its ends, and what cables were plugged into. A call is counted where both sides gave the answer
+//! of its ends, what cables were plugged into, and what came off lines. A call is counted where both sides gave the answer
 //! and were left the same.
 
 mod cables;
 mod ends;
+mod lines;
 
 use std::collections::BTreeMap;
 use std::fmt;
@@ -11,16 +12,17 @@ use std::ops::AddAssign;
 
 use model::answers::{Cause, Opening};
 use model::calls::Call;
-use model::network::Network;
+use model::network::{Network, Start};
 use model::set::Setting;
 use model::{Answer, No, StepRecord};
 
 pub(crate) use cables::{Cable, Plugged};
 use ends::Message;
+use lines::Met;
 
 /// What can be reached, by call: its answers, and each number for no that document 01 has for it.
 #[rustfmt::skip]
-const CASES: [(&str, &[&str]); 20] = [
+const CASES: [(&str, &[&str]); 23] = [
     ("fresh", &["done", "no 1", "no 2"]),
     ("blank", &["done", "no 1", "no 2"]),
     ("wire", &["done", "no 1", "no 2", "no 3", "no 4"]),
@@ -30,17 +32,20 @@ const CASES: [(&str, &[&str]); 20] = [
     ("set linkdirection", &["done", "no 1", "no 2", "no 3"]),
     ("set network", &["done", "no 1", "no 2", "no 3", "no 4"]),
     ("set enable", &["done", "no 1", "no 2", "no 3", "no 4"]),
-    ("set hello", &["granted 0", "granted 8", "granted 16", "granted 64", "no 1", "no 2", "no 4"]),
+    ("set hello", &["granted 0", "no 1", "no 2", "no 4"]),
     ("aim", &["done", "no 1", "no 2", "no 3", "no 6"]),
     ("output", &["done", "no 1", "no 2", "no 5", "no 7", "no 8", "no 9", "no 10"]),
     ("input", &["token", "no 1", "no 2", "no 11", "no 12"]),
     ("step", STEP),
+    ("line", &["idle", "moved 0", "moved 8", "moved 16", "moved 64", "no 1", "no 2"]),
     ("steps", &["results", "results of none", "no 2"]),
     ("record of steps", STEP),
     ("message answered", ends::ANSWERED),
     ("message not answered", ends::NOT_ANSWERED),
     ("cable, its ends", cables::WIRED),
     ("over a cable wired in use", cables::CROSSED),
+    ("off a line", lines::ARRIVED),
+    ("in the way on a line", lines::IN_THE_WAY),
 ];
 
 /// What a Step can answer, alone or as a record of a list.
@@ -51,8 +56,8 @@ const STEP: &[&str] = &[
     "unheard", "no 1", "no 2",
 ];
 
-/// A call, and what it answered; a record of a list, and what it did; a message, and its end; or a
-/// cable, and its ends or what went over it.
+/// A call, and what it answered; a record of a list, and what it did; a message, and its end; a
+/// cable, and its ends or what went over it; or a line, and what came off it or stood in the way.
 type Case = (&'static str, &'static str);
 
 /// How often each case was reached.
@@ -92,6 +97,13 @@ impl Reached {
     ) {
         self.count((call_name(call), answer_name(answer)));
         self.ended(ending, answer, after);
+    }
+
+    /// Counts what a call has met on a line.
+    pub(crate) fn line(&mut self, met: Option<Met>, answer: &Answer) {
+        if let Some(case) = met.and_then(|met| met.case(answer)) {
+            self.count(case);
+        }
     }
 
     /// Counts what a call did with a cable, and has it remembered.
@@ -137,6 +149,11 @@ pub(crate) fn message_ended_by(network: Option<&Network>, call: &Call) -> Option
     Message::ended_by(network?, call)
 }
 
+/// What a call is about to meet on a line, for [`Reached::line`].
+pub(crate) fn met_on_line(network: Option<&Network>, call: &Call) -> Option<Met> {
+    Met::by(network?, call)
+}
+
 fn all() -> impl Iterator<Item = Case> {
     let calls = CASES.iter();
     calls.flat_map(|(call, answers)| answers.iter().map(move |answer| (*call, *answer)))
@@ -170,8 +187,9 @@ impl fmt::Display for Reached {
 
 fn call_name(call: &Call) -> &'static str {
     match call {
-        Call::Fresh { .. } => "fresh",
-        Call::Blank { .. } => "blank",
+        Call::Fresh { .. } => start_name(Start::Fresh),
+        Call::Blank { .. } => start_name(Start::Blank),
+        Call::WithLines { start, .. } => start_name(*start),
         Call::Wire { .. } => "wire",
         Call::Set { setting, .. } => setting_name(setting),
         Call::Aim { .. } => "aim",
@@ -179,8 +197,14 @@ fn call_name(call: &Call) -> &'static str {
         Call::Input { .. } => "input",
         Call::Step { .. } => "step",
         Call::Steps { .. } => "steps",
-        Call::WithLines { .. } => "start with lines",
         Call::Line { .. } => "line",
+    }
+}
+
+fn start_name(start: Start) -> &'static str {
+    match start {
+        Start::Fresh => "fresh",
+        Start::Blank => "blank",
     }
 }
 
@@ -215,8 +239,7 @@ fn answer_name(answer: &Answer) -> &'static str {
         Answer::Dropped(Cause::NoRoute) => "dropped noroute",
         Answer::Malformed => "malformed",
         Answer::Unheard => "unheard",
-        Answer::Arrived(0) => "moved 0",
-        Answer::Arrived(_) => "moved with a grant",
+        Answer::Arrived(credit) => arrival_name(*credit),
         Answer::Results(each) if each.is_empty() => "results of none",
         Answer::Results(_) => "results",
     }
@@ -225,10 +248,17 @@ fn answer_name(answer: &Answer) -> &'static str {
 fn grant_name(credit: usize) -> &'static str {
     match credit {
         0 => "granted 0",
-        8 => "granted 8",
-        16 => "granted 16",
-        64 => "granted 64",
         _ => "granted another number",
+    }
+}
+
+fn arrival_name(credit: usize) -> &'static str {
+    match credit {
+        0 => "moved 0",
+        8 => "moved 8",
+        16 => "moved 16",
+        64 => "moved 64",
+        _ => "moved with another grant",
     }
 }
 

@@ -1,8 +1,8 @@
 //! Words, looked at, as a state of the model.
 //!
 //! Not all words are one. Codes may mean nothing; and the proved state has a few words that the
-//! model's has not, because the model finds by searching what they say: a port's ring, its tile
-//! link, the channel-end that sends by it. Words are read as a state only where these say what the
+//! model's has not, because the model finds by searching what they say: where a ring begins, a
+//! port's tile link, the channel-end that sends by it. Words are read as a state only where these say what the
 //! rest says; otherwise they are [`Unreadable`], and must be unsound to the proved bench. What
 //! nothing reads is left out: the network of a port that is not taken, what an idle control unit
 //! heard.
@@ -17,6 +17,8 @@ use model::network::{
 use model::sizes::{CHANNEL_END_CAPACITY, HEARD, LINE_CAPACITY, PORT_CAPACITY};
 use model::tokens::{Destination, Kind, Token};
 
+use crate::calls::Lent;
+
 /// Why words are no state of the model.
 #[derive(Clone, Debug, PartialEq, Eq)]
 pub struct Unreadable(pub String);
@@ -28,16 +30,18 @@ fn unreadable<T>(why: String) -> Read<T> {
 }
 
 /// The state that the words are.
-pub fn read(state: &[u32], memory: &[u16]) -> Read<Network> {
-    if !state.len().is_multiple_of(raw::state_words()) {
-        return unreadable(format!("{} words of state", state.len()));
+pub fn read(lent: &Lent) -> Read<Network> {
+    if !lent.state.len().is_multiple_of(raw::state_words()) {
+        return unreadable(format!("{} words of state", lent.state.len()));
     }
-    let looks = Looks::over(state, memory);
+    let looks = lent.looks();
     let nodes: Read<Vec<Node>> = (0..looks.nodes()).map(|slot| node(looks, slot)).collect();
     Ok(Network {
         nodes: nodes?,
-        memory_words: memory.len(),
-        crossing: Crossing::AtOnce,
+        memory_words: lent.memory.len(),
+        crossing: Crossing::ByLine {
+            line_words: lent.lines.len(),
+        },
     })
 }
 
@@ -55,9 +59,6 @@ fn node(looks: Looks, slot: usize) -> Read<Node> {
     };
     for port in 0..node.ports.len() {
         extra_words_agree(looks, slot, port, &node)?;
-    }
-    for link in 0..node.links.len() {
-        line_is_empty(looks, slot, link)?;
     }
     Ok(node)
 }
@@ -90,6 +91,10 @@ fn user(circuit: Circuit) -> Read<Option<usize>> {
 
 fn link(looks: Looks, slot: usize, link: usize) -> Read<Link> {
     let words = looks.link(slot, link);
+    let line = looks.line(slot, link);
+    if line.head as usize >= LINE_CAPACITY {
+        return unreadable(format!("a line that begins at {}", line.head));
+    }
     let far = LinkEnd {
         slot: words.far_slot as usize,
         link: words.far_link as usize,
@@ -102,7 +107,8 @@ fn link(looks: Looks, slot: usize, link: usize) -> Read<Link> {
         greeted: flag(words.greeted)?,
         credit: words.credit as usize,
         used_by: user(words.user)?,
-        ..Link::default()
+        issued: line.issued as usize,
+        line: tokens(looks.line_tokens(slot, link), line.held, LINE_CAPACITY)?,
     })
 }
 
@@ -240,15 +246,6 @@ fn extra_words_agree(looks: Looks, slot: usize, port: usize, node: &Node) -> Rea
     let to_channel = matches!(node.ports[port].hop, Some(Hop::Channel(_)));
     if to_channel && !users.is_empty() && !users.contains(&words.tile) {
         return unreadable(format!("port {port} names tile link {}", words.tile));
-    }
-    Ok(())
-}
-
-/// Tokens cross at once: nothing is on a line, and nothing issued is on its way.
-fn line_is_empty(looks: Looks, slot: usize, link: usize) -> Read<()> {
-    let words = looks.line(slot, link);
-    if words.head as usize >= LINE_CAPACITY || words.held != 0 || words.issued != 0 {
-        return unreadable(format!("{words:?} at link {link}"));
     }
     Ok(())
 }

@@ -3,11 +3,10 @@
 use std::collections::BTreeSet;
 
 use model::calls::{Call, StepRecord};
-use model::network::memory_words;
 use model::sizes::MOST_NODES;
 use model::words::parse_call;
 
-use crate::calls::Apply;
+use crate::calls::{beginning, Apply};
 use crate::pair::{differing, script, Differing};
 
 /// Runs calls from nothing, and gives the run up to the first call in which something is wrong.
@@ -108,16 +107,11 @@ fn with_nought(call: &Call, number: &str) -> Call {
 
 /// The same start of fewer nodes, the fewest first.
 fn fewer_nodes(call: &Call) -> Vec<Call> {
-    let (Some(start), Call::Fresh { nodes, .. } | Call::Blank { nodes, .. }) = (call.start(), call)
-    else {
+    let Some(begins) = call.begins() else {
         return Vec::new();
     };
-    let fewer = 1..(*nodes).min(MOST_NODES + 1);
-    let begun = fewer.filter_map(|nodes| {
-        let memory_words = memory_words(nodes)?;
-        Some(Call::beginning(start, nodes, memory_words))
-    });
-    begun.collect()
+    let fewer = 1..begins.nodes.min(MOST_NODES + 1);
+    fewer.map(|nodes| beginning(begins.start, nodes)).collect()
 }
 
 /// A list without a part of its records, large parts first. Results of the right length stay so.

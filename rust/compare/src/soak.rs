@@ -6,7 +6,6 @@ use std::ops::AddAssign;
 
 use model::calls::Call;
 use model::random::Random;
-use model::runs;
 
 use crate::asking;
 use crate::calls::Apply;
@@ -16,6 +15,7 @@ use crate::damaged;
 use crate::filling;
 use crate::pair::{differing, reached_by, Differing, Pair};
 use crate::reached::Reached;
+use crate::runs;
 use crate::watch;
 
 /// From each state of a run so many calls are made in a row, aside from the run.

@@ -1,9 +1,9 @@
 //! Both sides asked whether the same words are sound.
 
-use bench::Looks;
 use model::network::Network;
 use model::sound;
 
+use crate::calls::Lent;
 use crate::reading::read;
 
 /// What both say.
@@ -18,14 +18,14 @@ pub enum Verdict {
 
 /// Asks both sides of any words, and gives the state of the model that they are, if they are one.
 /// Where the sides differ, or the proved tests differ among themselves, says how.
-pub fn verdict(state: &[u32], memory: &[u16]) -> Result<(Verdict, Option<Network>), String> {
-    let looks = Looks::over(state, memory);
+pub fn verdict(lent: &Lent) -> Result<(Verdict, Option<Network>), String> {
+    let looks = lent.looks();
     let proved = looks.is_sound();
     let clause = looks.failing_clause();
     if proved != clause.is_none() {
         return Err(format!("is_sound is {proved}, and {clause:?} fails"));
     }
-    let read = read(state, memory);
+    let read = read(lent);
     let (expected, why) = match &read {
         Ok(network) => match sound::first_failing(network) {
             None => (Verdict::Sound, String::new()),

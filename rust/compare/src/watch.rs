@@ -24,7 +24,7 @@ use model::network::{LinkEnd, Network};
 use model::random::Random;
 use model::{Answer, StepRecord};
 
-use crate::books::{self, Books, Note, Port, Touched};
+use crate::books::{self, Books, Line, Note, Port, Touched};
 use crate::calls::{make, Lent};
 use crate::pair::Differing;
 
@@ -40,8 +40,7 @@ pub trait Watched {
     fn aside(&mut self, call: &Call) -> (Answer, Lent);
 
     fn looks(&self) -> Looks<'_> {
-        let Lent { state, memory } = self.words();
-        Looks::over(state, memory)
+        self.words().looks()
     }
 }
 
@@ -118,7 +117,13 @@ pub enum Glimpse {
         hop: Option<Hop>,
         /// The port's first word.
         first: Option<u32>,
-        /// The far end of the link by which its circuit leaves.
+        /// The line of the cable by which its circuit leaves.
+        out: Option<Line>,
+    },
+    Line {
+        /// The word of what is first on the line.
+        first: Option<u32>,
+        /// The port that the line leads to.
         far: Option<Port>,
     },
     Wire {
@@ -147,9 +152,13 @@ impl Glimpse {
                     node: looks.node(slot),
                     hop,
                     first: looks.port_tokens(slot, port).next(),
-                    far: hop.and_then(|hop| far(looks, slot, hop)),
+                    out: hop.and_then(|hop| out(looks, slot, hop)),
                 }
             }
+            Call::Line { slot, link } => Glimpse::Line {
+                first: looks.line_tokens(slot, link).next(),
+                far: far(looks, Line { slot, link }),
+            },
             Call::Wire { one, other } => Glimpse::Wire {
                 leaving: [one, other].map(|end| leaving(looks, end)),
             },
@@ -169,9 +178,19 @@ fn leaving(looks: Looks, LinkEnd { slot, link }: LinkEnd) -> Option<Port> {
     }
 }
 
-fn far(looks: Looks, slot: usize, hop: Hop) -> Option<Port> {
+/// The line by which a circuit leaves; none where the link has no cable.
+fn out(looks: Looks, slot: usize, hop: Hop) -> Option<Line> {
     let Hop::Link(link) = hop else { return None };
-    let (slot, link) = looks.link(slot, link as usize).far()?;
+    let on = Line {
+        slot,
+        link: link as usize,
+    };
+    far(looks, on).map(|_| on)
+}
+
+/// The port at the far end of a line's cable.
+fn far(looks: Looks, Line { slot, link }: Line) -> Option<Port> {
+    let (slot, link) = looks.link(slot, link).far()?;
     Some(Port {
         slot: slot as usize,
         port: link as usize,

@@ -1,16 +1,15 @@
 //! Calls made on both sides: every answer and the whole visible state are the same, and a refused
 //! call has changed no word.
 
-use compare::calls::{compare, Lent};
+use compare::calls::{beginning, begun, compare, Lent};
 use compare::pair::Pair;
 use compare::reduce::report;
 use compare::soak::{ask, fill, plug, run, Figures, Found};
 use compare::{filling, layout, reading};
-use model::calls::Call;
 use model::network::{LinkEnd, Network, Start};
 use model::random::Random;
-use model::set::Setting;
 use model::tokens::{header, Destination, Token};
+use model::words::parse_call;
 
 const RUNS: u64 = 100;
 const CALLS: usize = 400;
@@ -98,7 +97,7 @@ fn filling_fills() {
 /// Two nodes joined by their links A, both enabled, and a network at the far end that holds so many
 /// tokens.
 fn joined(held: usize) -> Network {
-    let mut network = Network::fresh(2, 2 * layout::NODE_TOKENS);
+    let mut network = begun(Start::Fresh, 2);
     for slot in 0..2 {
         let link = &mut network.nodes[slot].links[0];
         link.far = Some(LinkEnd {
@@ -115,24 +114,25 @@ fn joined(held: usize) -> Network {
 }
 
 #[test]
-fn a_hello_at_every_number_of_tokens_held() {
+fn a_hello_that_arrives_at_every_number_of_tokens_held() {
     for held in 0..=64 {
         let network = joined(held);
         let mut pair = Pair::at(model::apply, Some(&network), Random::new(held as u64));
-        let setting = Setting::Hello { link: 0 };
-        let call = Call::Set { slot: 0, setting };
-        assert_eq!(pair.call(&call), Ok(()), "{held} held");
+        for words in ["set 0 hello 0 0", "line 0 0", "line 1 0"] {
+            let call = parse_call(words).expect(words);
+            assert_eq!(pair.call(&call), Ok(()), "{held} held");
+        }
     }
 }
 
 /// What a start has written, for so many nodes; every node has the same words.
 fn started(start: Start, nodes: usize) -> Vec<u32> {
     let (mut network, mut lent) = (None, Lent::default());
-    let memory_words = nodes * layout::NODE_TOKENS;
-    let call = Call::beginning(start, nodes, memory_words);
+    let call = beginning(start, nodes);
     compare(model::apply, &mut network, &mut lent, &call).unwrap();
-    assert_eq!(lent.memory, vec![0; memory_words]);
-    assert_eq!(reading::read(&lent.state, &lent.memory).ok(), network);
+    assert_eq!(lent.memory, vec![0; nodes * layout::NODE_TOKENS]);
+    assert_eq!(lent.lines, vec![0; nodes * layout::NODE_LINES]);
+    assert_eq!(reading::read(&lent).ok(), network);
     let mut each = lent.state.chunks(layout::NODE_WORDS);
     let first = each.next().map(<[u32]>::to_vec).unwrap_or_default();
     assert!(each.all(|node| *node == first));

@@ -1,53 +1,42 @@
-//! What `bench capture` says that a run sends over a link, beside the model: what arrives at the far
-//! end's port. The command looks where tokens leave, the model where they arrive.
+//! What `bench capture` says that a run sends over a link, beside the model: what is put on the link's
+//! line, tokens, credits and HELLO, arrived or not.
 
 use std::collections::BTreeMap;
 
 use bench::probe::{self, Form};
 use bench::LinkEnd;
-use compare::{asking, layout};
-use model::network::Network;
-use model::{apply, runs, Answer, Call};
+use compare::{asking, layout, runs};
+use model::network::{Link, Network};
+use model::{apply, Answer, Call};
 use script::capture;
 
-/// The words of the tokens that each end of a cable has sent, by slot and link.
+/// The words of all that each end of a cable has sent, by slot and link.
 type Sent = BTreeMap<(usize, usize), Vec<u16>>;
 
-/// A cable's end, with the port that its tokens arrive at.
-struct Way {
-    end: (usize, usize),
-    port: (usize, usize),
+/// What a call has put on a line: what stands behind all that was there and was not taken off.
+fn put(before: &Link, after: &Link, is_taken: bool) -> Vec<u16> {
+    let stays = before.line.len() - usize::from(is_taken);
+    let new = after.line.iter().skip(stays);
+    new.map(|token| layout::word(token) as u16).collect()
 }
 
-fn ways(network: &Network) -> Vec<Way> {
-    let slots = network.nodes.iter().enumerate();
-    let ends = slots.flat_map(|(slot, node)| {
-        let links = node.links.iter().enumerate();
-        links.filter_map(move |(link, end)| {
-            let far = end.far?;
-            let (end, port) = ((slot, link), (far.slot, far.link));
-            Some(Way { end, port })
-        })
-    });
-    ends.collect()
-}
-
-/// Makes a Step on the model, and writes down what has arrived by each cable.
-fn step(network: &mut Option<Network>, stepped: (usize, usize), sent: &mut Sent) {
+/// Makes a call on the model, and writes down what it has put on each line.
+fn make(network: &mut Option<Network>, call: &Call, sent: &mut Sent) {
     let before = network.clone();
-    let (slot, port) = stepped;
-    let moved = apply(network, &Call::Step { slot, port }) == Answer::Moved;
+    let answer = apply(network, call);
+    if call.start().is_some() && answer == Answer::Done {
+        return sent.clear();
+    }
     let (Some(before), Some(after)) = (before, network.as_ref()) else {
         return;
     };
-    for Way { end, port } in ways(after) {
-        let held = |network: &Network| network.nodes[port.0].ports[port.1].tokens.len();
-        // Over a cable of one board a token may leave the very port that it arrives at.
-        let left = usize::from(moved && port == stepped);
-        if held(after) + left > held(&before) {
-            let arrived = after.nodes[port.0].ports[port.1].tokens.back();
-            let word = arrived.map(|token| layout::word(token) as u16);
-            sent.entry(end).or_default().extend(word);
+    for (slot, (node, before)) in after.nodes.iter().zip(&before.nodes).enumerate() {
+        for (link, (end, before)) in node.links.iter().zip(&before.links).enumerate() {
+            let own = *call == Call::Line { slot, link };
+            let words = put(before, end, own && matches!(answer, Answer::Arrived(_)));
+            if !words.is_empty() {
+                sent.entry((slot, link)).or_default().extend(words);
+            }
         }
     }
 }
@@ -56,20 +45,7 @@ fn step(network: &mut Option<Network>, stepped: (usize, usize), sent: &mut Sent)
 fn sent_by_model(calls: &[Call]) -> Sent {
     let (mut network, mut sent) = (None, Sent::new());
     for call in calls {
-        match call {
-            Call::Step { slot, port } => step(&mut network, (*slot, *port), &mut sent),
-            Call::Steps { results, records } if *results == records.len() => {
-                for record in records {
-                    step(&mut network, (record.slot, record.port), &mut sent);
-                }
-            }
-            _ => {
-                let answer = apply(&mut network, call);
-                if call.start().is_some() && answer == Answer::Done {
-                    sent.clear();
-                }
-            }
-        }
+        make(&mut network, call, &mut sent);
     }
     sent
 }
@@ -123,7 +99,7 @@ fn runs_that_ask_control_units() {
     assert!(tokens > 300, "{tokens}");
 }
 
-/// A token that leaves a port over a cable of the same board and arrives at that very port.
+/// A token that leaves a port over a cable of the same board and is to arrive at that very port.
 #[test]
 fn a_cable_of_one_board() {
     let script = std::fs::read_to_string(format!(

@@ -6,20 +6,17 @@ use std::ops::Range;
 
 use bench::raw;
 use bench::sizes::MOST_NODES;
-use compare::calls::Lent;
+use compare::calls::{begun, Lent};
 use compare::damage::disturb;
 use compare::damaged::{self, other_things, other_words};
-use compare::layout::{self, FIRST_HEARD, NODE_TOKENS, NODE_WORDS};
+use compare::layout::{self, FIRST_HEARD, NODE_LINES, NODE_TOKENS, NODE_WORDS};
 use compare::verdict::Verdict;
-use model::network::Network;
+use model::network::{Network, Start};
 use model::random::Random;
 use model::runs::Runner;
 
 const RUNS: u64 = 100;
 const CALLS: usize = 300;
-
-/// State and token memory.
-type Words = (Vec<u32>, Vec<u16>);
 
 /// How often each verdict was given, and each clause of the list found to fail.
 #[derive(Default)]
@@ -27,17 +24,17 @@ struct Tally {
     sound: usize,
     unsound: usize,
     unreadable: usize,
-    clauses: [usize; 13],
+    clauses: [usize; 16],
 }
 
 impl Tally {
-    fn count(&mut self, verdict: Verdict, state: &[u32], memory: &[u16]) {
+    fn count(&mut self, verdict: Verdict, lent: &Lent) {
         match verdict {
             Verdict::Sound => self.sound += 1,
             Verdict::Unsound => self.unsound += 1,
             Verdict::Unreadable => self.unreadable += 1,
         }
-        self.clauses[raw::unsound_clause(state, memory) as usize] += 1;
+        self.clauses[clause_of(lent)] += 1;
     }
 }
 
@@ -52,35 +49,35 @@ impl fmt::Display for Tally {
     }
 }
 
+/// The number of the clause that words fail first, 0 for none.
+fn clause_of(lent: &Lent) -> usize {
+    raw::unsound_clause(&lent.state, &lent.memory, &lent.lines) as usize
+}
+
 /// Asks both sides of words.
-fn check(state: &[u32], memory: &[u16], from: &str) -> Verdict {
-    let lent = Lent {
-        state: state.to_vec(),
-        memory: memory.to_vec(),
-    };
-    let checked = damaged::check(&lent);
+fn check(lent: &Lent, from: &str) -> Verdict {
+    let checked = damaged::check(lent);
     let (verdict, _) = checked.unwrap_or_else(|difference| panic!("{from}: {difference}"));
     verdict
 }
 
 /// The words that a fresh network has.
-fn fresh(nodes: usize) -> Words {
-    let network = Network::fresh(nodes, nodes * NODE_TOKENS);
-    layout::write(&network, &mut Random::new(0))
+fn fresh(nodes: usize) -> Lent {
+    layout::write(&begun(Start::Fresh, nodes), &mut Random::new(0))
 }
 
 /// Damages the states of runs, and asks both sides of what comes of it.
 fn disturb_runs(seeds: Range<u64>, damage: impl Fn(&Network, &mut Random) -> Lent) -> Tally {
     let mut tally = Tally::default();
     for seed in seeds {
-        let mut runner = Runner::new(seed);
+        let mut runner = Runner::by_line(seed);
         let mut random = Random::new(seed ^ 0xDA3A);
         for call in 0..CALLS {
             runner.call();
             if let Some(network) = runner.network() {
-                let Lent { state, memory } = damage(network, &mut random);
-                let found = check(&state, &memory, &format!("seed {seed}, call {call}"));
-                tally.count(found, &state, &memory);
+                let lent = damage(network, &mut random);
+                let found = check(&lent, &format!("seed {seed}, call {call}"));
+                tally.count(found, &lent);
             }
         }
     }
@@ -110,7 +107,7 @@ fn states_of_runs_with_other_things() {
 fn words_that_control_units_have_heard() {
     let mut met = 0;
     for seed in 0..RUNS {
-        let mut runner = Runner::new(seed);
+        let mut runner = Runner::by_line(seed);
         let mut tried = Vec::new();
         for call in 0..CALLS {
             runner.call();
@@ -140,11 +137,11 @@ fn last_heard(network: &Network) -> Vec<(usize, usize)> {
 
 /// Legal and illegal words at one place of what a control unit has heard.
 fn try_words(network: &Network, (slot, place): (usize, usize), seed: u64, from: &str) {
-    let (mut state, memory) = layout::write(network, &mut Random::new(seed));
+    let mut lent = layout::write(network, &mut Random::new(seed));
     let mut clause = |word| {
-        state[slot * NODE_WORDS + FIRST_HEARD + place] = word;
-        check(&state, &memory, from);
-        raw::unsound_clause(&state, &memory)
+        lent.state[slot * NODE_WORDS + FIRST_HEARD + place] = word;
+        check(&lent, from);
+        clause_of(&lent)
     };
     let legal = [0, 0xFF, 0x100, 0x103, 0x1C0, 0x1C1];
     let illegal = [0x101, 0x102, 0x1C2, 0x1FF, 0x200, 0x600, 0x7C3, 0x1_0000];
@@ -152,23 +149,41 @@ fn try_words(network: &Network, (slot, place): (usize, usize), seed: u64, from: 
     assert_eq!(illegal.map(&mut clause), [8; 8], "{from}");
 }
 
+/// All lengths of the three memories about those of so many nodes; where ports' memory is wrong
+/// already, the lines' is right.
+fn all_lengths(nodes: usize) -> Vec<[usize; 3]> {
+    let right = nodes * NODE_TOKENS;
+    let mut all = Vec::new();
+    for words in lengths(nodes * NODE_WORDS, NODE_WORDS) {
+        for tokens in lengths(right, NODE_TOKENS) {
+            let things = match tokens == right {
+                true => lengths(nodes * NODE_LINES, NODE_LINES),
+                false => vec![words / NODE_WORDS * NODE_LINES],
+            };
+            all.extend(things.into_iter().map(|things| [words, tokens, things]));
+        }
+    }
+    all
+}
+
 #[test]
 fn every_wrong_length() {
     let mut tally = Tally::default();
     for nodes in 0..=MOST_NODES + 2 {
-        let (state, memory) = fresh(nodes);
-        for words in lengths(nodes * NODE_WORDS, NODE_WORDS) {
-            for tokens in lengths(nodes * NODE_TOKENS, NODE_TOKENS) {
-                let (mut state, mut memory) = (state.clone(), memory.clone());
-                state.resize(words, 0);
-                memory.resize(tokens, 0);
-                let whole = words / NODE_WORDS;
-                let right = words == whole * NODE_WORDS && tokens == whole * NODE_TOKENS;
-                let sound = right && (1..=nodes.min(MOST_NODES)).contains(&whole);
-                let found = check(&state, &memory, &format!("{words} words, {tokens} tokens"));
-                assert_eq!(found == Verdict::Sound, sound);
-                tally.count(found, &state, &memory);
-            }
+        let fresh = fresh(nodes);
+        for [words, tokens, things] in all_lengths(nodes) {
+            let mut lent = fresh.clone();
+            lent.state.resize(words, 0);
+            lent.memory.resize(tokens, 0);
+            lent.lines.resize(things, 0);
+            let whole = words / NODE_WORDS;
+            let right = [NODE_WORDS, NODE_TOKENS, NODE_LINES].map(|node| node * whole);
+            let sound =
+                [words, tokens, things] == right && (1..=nodes.min(MOST_NODES)).contains(&whole);
+            let from = format!("{words} words, {tokens} tokens, {things} on lines");
+            let found = check(&lent, &from);
+            assert_eq!(found == Verdict::Sound, sound, "{from}");
+            tally.count(found, &lent);
         }
     }
     println!("{tally}");
@@ -188,14 +203,13 @@ fn lengths(right: usize, node: usize) -> Vec<usize> {
 fn one_word_over_and_over() {
     for nodes in 1..=MOST_NODES {
         for word in [0, 1, 2, 3, 0xFF, 0xFFFF, u32::MAX] {
-            for token in [0, 1, 0x101, 0x1FF, 0x6FF, 0x7C3, u16::MAX] {
-                let state = vec![word; nodes * NODE_WORDS];
-                let memory = vec![token; nodes * NODE_TOKENS];
-                let found = check(
-                    &state,
-                    &memory,
-                    &format!("{nodes} nodes of {word} and {token}"),
-                );
+            for token in [0, 1, 0x101, 0x1E6, 0x1FF, 0x6FF, 0x7C3, u16::MAX] {
+                let lent = Lent {
+                    state: vec![word; nodes * NODE_WORDS],
+                    memory: vec![token; nodes * NODE_TOKENS],
+                    lines: vec![token; nodes * NODE_LINES],
+                };
+                let found = check(&lent, &format!("{nodes} nodes of {word} and {token}"));
                 assert_ne!(found, Verdict::Sound);
             }
         }
@@ -209,14 +223,16 @@ fn words_at_random() {
     for round in 0..2000 {
         let nodes = random.below(MOST_NODES + 2);
         let limit = random.pick(&[2, 4, 13, 256, u32::MAX]).unwrap_or(2);
-        let state: Vec<u32> = (0..nodes * NODE_WORDS)
-            .map(|_| random.value_below(limit))
-            .collect();
-        let memory: Vec<u16> = (0..nodes * NODE_TOKENS)
-            .map(|_| random.bits() as u16)
-            .collect();
-        let found = check(&state, &memory, &format!("round {round}"));
-        tally.count(found, &state, &memory);
+        let state = (0..nodes * NODE_WORDS).map(|_| random.value_below(limit));
+        let state = state.collect();
+        let mut tokens = |many| (0..many).map(|_| random.bits() as u16).collect();
+        let lent = Lent {
+            state,
+            memory: tokens(nodes * NODE_TOKENS),
+            lines: tokens(nodes * NODE_LINES),
+        };
+        let found = check(&lent, &format!("round {round}"));
+        tally.count(found, &lent);
     }
     println!("{tally}");
 }
@@ -226,10 +242,10 @@ fn a_fresh_network_disturbed() {
     let mut tally = Tally::default();
     let mut random = Random::new(6);
     for round in 0..20_000 {
-        let (mut state, mut memory) = fresh(1 + random.below(3));
-        disturb(&mut random, &mut state, &mut memory);
-        let found = check(&state, &memory, &format!("round {round}"));
-        tally.count(found, &state, &memory);
+        let mut lent = fresh(1 + random.below(3));
+        disturb(&mut random, &mut lent);
+        let found = check(&lent, &format!("round {round}"));
+        tally.count(found, &lent);
     }
     println!("{tally}");
 }

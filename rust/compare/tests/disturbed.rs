@@ -2,14 +2,15 @@
 //! Both sides say so, and every call on a state that fails is refused with 1 and changes no word.
 
 use bench::raw;
-use compare::calls::{compare, hold_unchanged, make, Lent};
-use compare::layout::{FIRST_PORT, NODE_TOKENS, NODE_WORDS, PORT};
+use compare::calls::{begun, compare, hold_unchanged, make, Lent};
+use compare::layout::{FIRST_PORT, NODE_LINES, NODE_TOKENS, NODE_WORDS, PORT};
 use model::answers::Cause;
-use model::network::{Aim, Claim, Hop, LinkEnd, Network, Node, Sending};
+use model::lines::{credit, Crossing};
+use model::network::{Aim, Claim, Hop, LinkEnd, Network, Node, Sending, Start};
 use model::random::Random;
 use model::sizes::PORTS;
 use model::sound::{self, Clause};
-use model::tokens::{Destination, Token, END, PAUSE, READC, SINK, SSCTRL};
+use model::tokens::{Destination, Token, END, HELLO, PAUSE, READC, SINK, SSCTRL};
 use model::words::parse_call;
 use model::{Answer, Call, No, StepRecord};
 
@@ -213,7 +214,7 @@ const OPEN: &[Pair] = &[
         |node| { open_by(node, 4, 9); open_by(node, 5, 10) }),
 ];
 
-/// Links A and D joined and enabled, A greeted or not, with some credit.
+/// Links A and D joined and enabled, A greeted or not, with some credit, which D has issued.
 fn joined(node: &mut Node, greeted: bool, credit: usize) {
     for (link, far) in [(0, 3), (3, 0)] {
         node.links[link].far = Some(LinkEnd { slot: 1, link: far });
@@ -221,6 +222,7 @@ fn joined(node: &mut Node, greeted: bool, credit: usize) {
     }
     node.links[0].greeted = greeted;
     node.links[0].credit = credit;
+    node.links[3].issued = credit;
 }
 
 fn held_at_the_far_end(node: &mut Node, credit: usize) {
@@ -262,6 +264,98 @@ const ROOM: &[Pair] = &[
     pair("credit 64 and one token held at the far end; credit 63",
         |node| held_at_the_far_end(node, 64),
         |node| held_at_the_far_end(node, 63)),
+];
+
+/// A is greeted and has no credit; these are on its line, and D has issued so much.
+fn on_line<const N: usize>(node: &mut Node, tokens: [Token; N], issued: usize) {
+    joined(node, true, 0);
+    node.links[0].line = tokens.into();
+    node.links[3].issued = issued;
+}
+
+fn hello() -> Token {
+    Token::control(HELLO)
+}
+
+/// A HELLO is on its way to D, where a token is held, and a credit on the line back.
+fn credit_behind_a_hello(node: &mut Node, size: usize) {
+    on_line(node, [hello()], 0);
+    node.links[3].line = [credit(size)].into();
+    node.ports[3].tokens = [one_byte_header()].into();
+}
+
+/// The same of tokens and credits on lines.
+#[rustfmt::skip]
+const ROOM_OVER_LINES: &[Pair] = &[
+    pair("a credit of 64 on the line and one token held at the far end; a credit of 16",
+        |node| credit_behind_a_hello(node, 64),
+        |node| credit_behind_a_hello(node, 16)),
+];
+
+/// A port is read with the line to it behind.
+#[rustfmt::skip]
+const LEGAL_ON_LINES: &[Pair] = &[
+    pair("0xC2 behind a header on a line; 0xC1",
+        |node| on_line(node, [one_byte_header(), Token::control(0xC2)], 2),
+        |node| on_line(node, [one_byte_header(), Token::control(READC)], 2)),
+];
+
+#[rustfmt::skip]
+const STARTS_ON_LINES: &[Pair] = &[
+    pair("data on the line to an empty port; a header",
+        |node| on_line(node, [data()], 1),
+        |node| on_line(node, [one_byte_header()], 1)),
+];
+
+#[rustfmt::skip]
+const SHORT_ON_LINES: &[Pair] = &[
+    pair("a header short on its line, then data; the rest of it",
+        |node| { on_line(node, [of_three(1), data()], 2); node.ports[3].tokens = [of_three(0)].into() },
+        |node| { on_line(node, [of_three(1), of_three(7)], 2); node.ports[3].tokens = [of_three(0)].into() }),
+];
+
+/// How much of a header is left is told by the port alone.
+#[rustfmt::skip]
+const ELSEWHERE_ON_LINES: &[Pair] = &[
+    pair("a header token on the line to a port with a circuit; data",
+        |node| { on_line(node, [of_three(7)], 1); node.ports[3].hop = Some(Hop::Dropped(Cause::Split)) },
+        |node| { on_line(node, [data()], 1); node.ports[3].hop = Some(Hop::Dropped(Cause::Split)) }),
+];
+
+/// "allows one credit and one HELLO there"
+#[rustfmt::skip]
+const FEW: &[Pair] = &[
+    pair("two credits on a line; one",
+        |node| { on_line(node, [], 16); node.links[3].line = [credit(8), credit(8)].into() },
+        |node| { on_line(node, [], 8); node.links[3].line = [credit(8)].into() }),
+    pair("two HELLOs on a line; one",
+        |node| on_line(node, [hello(), hello()], 0),
+        |node| on_line(node, [hello()], 0)),
+];
+
+/// "while no HELLO is coming to a receiver, holds its count to the far end's credit plus the credit on
+/// the line to that end and the tokens on the line from it"
+#[rustfmt::skip]
+const COUNTED: &[Pair] = &[
+    pair("one less than the far end's credit; as much",
+        |node| { joined(node, true, 8); node.links[3].issued = 7 },
+        |node| joined(node, true, 8)),
+    pair("a token on the line that is not counted; that is",
+        |node| on_line(node, [one_byte_header()], 0),
+        |node| on_line(node, [one_byte_header()], 1)),
+    pair("a credit on the line that is not counted; that is",
+        |node| { on_line(node, [], 0); node.links[3].line = [credit(16)].into() },
+        |node| { on_line(node, [], 16); node.links[3].line = [credit(16)].into() }),
+    pair("another count than the line's token; while a HELLO is coming",
+        |node| on_line(node, [one_byte_header()], 9),
+        |node| on_line(node, [one_byte_header(), hello()], 9)),
+];
+
+/// An end without a cable has no line.
+#[rustfmt::skip]
+const UNLINED: &[Pair] = &[
+    pair("something on it; nothing", |node| node.links[2].line = [data()].into(), |_| ()),
+    pair("something issued; nothing", |node| node.links[2].issued = 1, |_| ()),
 ];
 
 #[rustfmt::skip]
@@ -306,11 +400,12 @@ const REPLY_PORT: &[Pair] = &[
 ];
 
 /// What the library numbers and the model names, with the states of it.
-const SENTENCES: [(u32, Clause, &[Pair]); 17] = [
+const SENTENCES: [(u32, Clause, &[Pair]); 25] = [
     (2, Clause::Counts, COUNTS),
     (3, Clause::CreditGreeted, CREDIT),
     (4, Clause::GreetedWired, GREETED),
     (5, Clause::CreditAndHeld, ROOM),
+    (5, Clause::CreditAndHeld, ROOM_OVER_LINES),
     (6, Clause::Cables, CABLES),
     (7, Clause::LegalTokens, LEGAL_TOKENS),
     (7, Clause::LegalHeaders, LEGAL_HEADERS),
@@ -318,16 +413,23 @@ const SENTENCES: [(u32, Clause, &[Pair]); 17] = [
     (7, Clause::HeaderAfterEnd, FOLLOWS),
     (7, Clause::ShortHeader, SHORT),
     (7, Clause::HeaderElsewhere, ELSEWHERE),
+    (7, Clause::LegalTokens, LEGAL_ON_LINES),
+    (7, Clause::StartsWithHeader, STARTS_ON_LINES),
+    (7, Clause::ShortHeader, SHORT_ON_LINES),
+    (7, Clause::HeaderElsewhere, ELSEWHERE_ON_LINES),
     (8, Clause::LegalTokens, LEGAL_OUTSIDE_PORTS),
     (8, Clause::HeaderElsewhere, HEADER_OUTSIDE_PORTS),
     (9, Clause::OutputNamesBack, OUTPUTS),
     (10, Clause::Claims, CLAIMS),
     (11, Clause::OpenChannelEnds, OPEN),
     (12, Clause::ReplyPort, REPLY_PORT),
+    (13, Clause::OneCreditOneHello, FEW),
+    (14, Clause::IssuedCount, COUNTED),
+    (15, Clause::UnwiredLine, UNLINED),
 ];
 
 fn with(change: Change) -> Network {
-    let mut network = Network::fresh(2, 2 * NODE_TOKENS);
+    let mut network = begun(Start::Fresh, 2);
     change(&mut network.nodes[1]);
     network
 }
@@ -337,12 +439,12 @@ fn words(network: &Network) -> Lent {
 }
 
 fn clause_of(lent: &Lent) -> u32 {
-    raw::unsound_clause(&lent.state, &lent.memory)
+    raw::unsound_clause(&lent.state, &lent.memory, &lent.lines)
 }
 
 /// Every call but a start and a Step, each with arguments that are in range and lie apart from what was
 /// changed.
-const CALLS: [&str; 14] = [
+const CALLS: [&str; 15] = [
     "wire 0 4 1 4",
     "set 1 number 0 1",
     "set 1 width 0 1",
@@ -357,6 +459,7 @@ const CALLS: [&str; 14] = [
     "output 1 20 control 1",
     "input 1 20 data",
     "input 1 20 control",
+    "line 1 4",
 ];
 
 /// These, a Step of every port, and all such Steps as one list.
@@ -418,19 +521,33 @@ fn each_twin_is_sound_and_no_call_is_refused_as_unsound() {
     }
 }
 
-/// Clause 1, "memory of the wrong length": one word more or less.
+/// Every call on memories of other lengths than the network's is refused.
+fn is_refused_at(tokens: usize, things: usize) {
+    let mut network = with(|_| ());
+    let mut lent = words(&network);
+    network.memory_words = tokens;
+    network.crossing = Crossing::ByLine { line_words: things };
+    lent.memory.resize(tokens, 0);
+    lent.lines.resize(things, 0);
+    assert_eq!(clause_of(&lent), 1);
+    for call in calls() {
+        let found = answer(&network, &lent, &call, "another length");
+        assert!(is_unsound(&found), "{call} -> {found}");
+    }
+}
+
+/// Clause 1, "memory of the wrong length": one word more or less, of either memory.
 #[test]
 fn a_memory_of_another_length() {
-    for words_of_memory in [2 * NODE_TOKENS - 1, 2 * NODE_TOKENS + 1] {
-        let mut network = with(|_| ());
-        let mut lent = words(&network);
-        network.memory_words = words_of_memory;
-        lent.memory.resize(words_of_memory, 0);
-        assert_eq!(clause_of(&lent), 1);
-        for call in calls() {
-            let found = answer(&network, &lent, &call, "another length");
-            assert!(is_unsound(&found), "{call} -> {found}");
-        }
+    let (tokens, things) = (2 * NODE_TOKENS, 2 * NODE_LINES);
+    for (tokens, things) in [
+        (tokens - 1, things),
+        (tokens + 1, things),
+        (tokens, things - 1),
+        (tokens, things + 1),
+        (tokens, 0),
+    ] {
+        is_refused_at(tokens, things);
     }
 }
 

@@ -5,18 +5,18 @@
 
 use std::collections::VecDeque;
 
-use compare::calls::Lent;
-use compare::choice::{busy_ports, list_of};
+use compare::calls::{begun, Lent};
+use compare::choice::{busy_ports, lines_in_use, list_of};
 use compare::damaged::{call_on, other_things, other_words};
 use compare::lists::{held_to_single_steps, library};
 use compare::pair::{reached_by, Pair};
 use compare::reached::Reached;
 use compare::reduce::report;
 use compare::verdict::{verdict, Verdict};
-use compare::{asking, changing, layout};
-use model::network::{memory_words, Network, Sending};
+use compare::{asking, changing, layout, runs};
+use model::network::{LinkEnd, Network, Sending, Start};
 use model::random::Random;
-use model::runs::{self, Runner};
+use model::runs::{lend_lines, Runner};
 use model::sizes::{PORTS, PORT_CAPACITY};
 use model::speech::{message, stream};
 use model::step::step;
@@ -52,16 +52,18 @@ fn random_runs_with_lists() {
     assert!(reached.times("steps", "results") > 2_000);
     assert!(reached.times("steps", "results of none") > 100);
     assert!(reached.times("steps", "no 2") > 100);
-    assert!(reached.times("record of steps", "moved") > 5_000);
+    assert!(reached.times("record of steps", "moved") > 3_000);
 }
 
 // Long lists.
 
+/// How many short lists carry on what was said.
+const SHORT: usize = 6;
 /// How many channel-ends of a board speak; few, so that they meet.
 const TALKERS: usize = 6;
 
-/// A shift on so many boards: all that can speak do, and then a list carries what they said. Only the
-/// lists are made on both sides.
+/// A shift on so many boards: all that can speak do, then a list carries what they said, and behind it
+/// the lines are emptied. Only the lists are made on both sides.
 struct Shift {
     network: Option<Network>,
     random: Random,
@@ -82,10 +84,24 @@ impl Shift {
         };
         let Plan { cabling, late, .. } = &shift.plan;
         let set_up = [&cabling[..], late, &shift.plan.settings].concat();
-        for call in set_up {
+        for mut call in set_up {
+            lend_lines(&mut call);
             shift.make(call);
+            shift.empty_lines();
         }
         shift
+    }
+
+    /// Steps lines until nothing is on any.
+    fn empty_lines(&mut self) {
+        while let Some(LinkEnd { slot, link }) = self.line_in_use() {
+            self.make(Call::Line { slot, link });
+        }
+    }
+
+    fn line_in_use(&mut self) -> Option<LinkEnd> {
+        let used = self.network.as_ref().map(lines_in_use).unwrap_or_default();
+        self.random.pick(&used)
     }
 
     fn make(&mut self, call: Call) {
@@ -185,6 +201,7 @@ impl Shift {
         made.unwrap_or_else(|how| panic!("{} boards: {how}", self.plan.nodes));
         self.network = pair.network().cloned();
         self.reached += pair.reached();
+        self.empty_lines();
     }
 
     /// Records that have something to do when their turn comes, as far as a copy shows it; some of
@@ -217,7 +234,8 @@ fn any_port(random: &mut Random, network: &Network) -> (usize, usize) {
     }
 }
 
-/// "lists of 0 to 5,000 records": the longest on 1, 2, 4, 8 and 16 boards.
+/// "lists of 0 to 5,000 records": the longest on 1, 2, 4, 8 and 16 boards. No list steps a line, so it
+/// takes many of them until what is said has come over its cables.
 #[test]
 fn long_lists_where_there_is_much_to_do() {
     let mut reached = Reached::default();
@@ -230,6 +248,12 @@ fn long_lists_where_there_is_much_to_do() {
         for length in [0, PORTS * nodes, longest, longest / 2] {
             shift.speak();
             shift.list(length);
+        }
+        for _ in 0..4 {
+            shift.speak();
+            for _ in 0..SHORT {
+                shift.list(2 * PORTS * nodes);
+            }
         }
         reached += shift.reached;
     }
@@ -254,7 +278,7 @@ fn long_lists_where_there_is_much_to_do() {
 fn lists_on_damaged_memories() {
     let mut verdicts = [0; 3];
     for seed in 0..RUNS {
-        let mut runner = Runner::with_lists(seed);
+        let mut runner = Runner::by_line(seed).and_lists();
         let mut random = Random::new(seed ^ 0x1157);
         for call in 0..CALLS / 2 {
             runner.call();
@@ -276,7 +300,7 @@ fn lists_on_damaged_memories() {
 
 /// Makes a list on words, and results of another length, and none.
 fn list_on(lent: &Lent, random: &mut Random) -> Verdict {
-    let (verdict, read) = verdict(&lent.state, &lent.memory).unwrap_or_else(|how| panic!("{how}"));
+    let (verdict, read) = verdict(lent).unwrap_or_else(|how| panic!("{how}"));
     let count = 1 + random.below(12);
     let list = list_of(random, read.as_ref(), count);
     let made = call_on(read.as_ref(), lent.clone(), &list);
@@ -311,21 +335,24 @@ fn all_unsound(before: &Lent, list: &Call) {
 /// Memories of other lengths than any network has, or than their own network has.
 #[test]
 fn lists_on_memories_of_every_wrong_length() {
-    let (words, tokens) = (layout::NODE_WORDS, layout::NODE_TOKENS);
+    let node = [layout::NODE_WORDS, layout::NODE_TOKENS, layout::NODE_LINES];
     let lengths = |node: usize| [0, 1, node - 1, node, node + 1, 2 * node, 17 * node];
     let mut random = Random::new(3);
-    let list = list_of(&mut random, Some(&Network::fresh(2, 0)), 5);
-    for state in lengths(words) {
-        for memory in lengths(tokens) {
-            let right = state == words || state == 2 * words;
-            if right && memory_words(state / words) == Some(memory) {
-                continue;
+    let list = list_of(&mut random, Some(&begun(Start::Fresh, 2)), 5);
+    let whole = Lent::of(Some(&begun(Start::Fresh, 17)), &mut random);
+    for state in lengths(node[0]) {
+        for memory in lengths(node[1]) {
+            for lines in lengths(node[2]) {
+                let right = |nodes| [state, memory, lines] == node.map(|words| words * nodes);
+                if right(1) || right(2) {
+                    continue;
+                }
+                let mut lent = whole.clone();
+                lent.state.truncate(state);
+                lent.memory.truncate(memory);
+                lent.lines.truncate(lines);
+                all_unsound(&lent, &list);
             }
-            let network = Network::fresh(17, 17 * tokens);
-            let mut lent = Lent::of(Some(&network), &mut random);
-            lent.state.truncate(state);
-            lent.memory.truncate(memory);
-            all_unsound(&lent, &list);
         }
     }
 }

@@ -7,6 +7,7 @@ use std::collections::BTreeMap;
 use compare::asking;
 use model::calls::Call;
 use model::credits::grant;
+use model::lines::Freight;
 use model::network::{Hop, LinkEnd, Network, Node};
 use model::sizes::REPLY_PORT;
 use model::tokens::{Kind, Token, ACK, END, NACK, PAUSE, READC, SINK, WRITEC};
@@ -137,8 +138,15 @@ impl<'a> Ending<'a> {
             0x80..=0x87 if !enables && state.enabled && self.is_in_use(end) => {
                 "that disables a link in use"
             }
+            0x80..=0x87 if !enables && state.enabled && self.has_on_lines(end, |_| true) => {
+                "that disables a link with something on a line"
+            }
             0x80..=0x87 if !enables && greets && state.enabled => "of HELLO that disables",
             0x80..=0x87 if !enables && greets => "of HELLO on a disabled link",
+            0x80..=0x87 if greets && self.is_in_its_own_way(end) => "of HELLO in its own way",
+            0x80..=0x87 if greets && self.has_on_lines(end, |it| it != Freight::Token) => {
+                "of HELLO while a credit or HELLO is on its way"
+            }
             _ => return (format!("write at {address:#x}"), End::Ack),
         };
         (format!("write {refused}"), End::Nack)
@@ -165,21 +173,42 @@ impl<'a> Ending<'a> {
         })
     }
 
-    /// HELLO on the very link that the message came by, over a cable of one node: what is granted,
-    /// and whether the END, were it still held, would have made it less.
-    fn greeting(&self, after: &Node) -> Option<String> {
+    /// Is such a thing on either line of a cable?
+    fn has_on_lines(&self, end: LinkEnd, is_meant: fn(Freight) -> bool) -> bool {
+        let link = &self.before.nodes[end.slot].links[end.link];
+        let far = self.before.far_link(link);
+        let mut ends = far.into_iter().chain([link]);
+        ends.any(|link| link.far.is_some() && link.freight().any(is_meant))
+    }
+
+    /// Is the cable that of the port by which the message came, and does the taking of its END bring a
+    /// grant?
+    fn is_in_its_own_way(&self, end: LinkEnd) -> bool {
+        let came_by = self.end_of(self.port);
+        let Ok(receiver) = self.before.link(came_by) else {
+            return false;
+        };
+        let Some(sender) = self.before.far_link(receiver) else {
+            return false;
+        };
+        let is_its_cable = end == came_by || receiver.far == Some(end);
+        let behind = self.node().ports[self.port].tokens.len() - 1;
+        let heeded = sender.greeted && !sender.hello_on_line();
+        is_its_cable && heeded && grant(receiver.issued, behind) > 0
+    }
+
+    /// HELLO on the very link that the message came by, over a cable of one node: sent or refused, and
+    /// what it finds.
+    fn greeting(&self, found: End) -> Option<String> {
         let sender = self.node().links.get(self.port)?.far?;
         let place = LINK_ORDER.iter().position(|link| *link == sender.link)?;
         let greets = self.heard.len() == 10 && self.number(4..6) == 0x80 + place as u32;
         if sender.slot != self.slot || !greets || self.number(6..10) >> 24 != 0x81 {
             return None;
         }
-        let behind = self.before.nodes[self.slot].ports[self.port].tokens.len() - 1;
-        let credit = after.links[sender.link].credit;
-        assert_eq!(credit, grant(0, behind), "{behind} tokens behind the END");
-        let shows = grant(0, behind) != grant(0, behind + 1);
-        let how = if shows { ", and one less before" } else { "" };
-        Some(format!("HELLO over its own cable grants {credit}{how}"))
+        let own = self.is_in_its_own_way(sender);
+        let why = if own { ", in its own way" } else { "" };
+        Some(format!("HELLO over its own cable: {found:?}{why}"))
     }
 }
 
@@ -238,7 +267,7 @@ impl Met {
         if matches!(found, End::Ack | End::Nack) && ending.number(1..3) == after.number {
             self.count(format!("{found:?} for this very node"));
         }
-        if let Some(greeting) = ending.greeting(after) {
+        if let Some(greeting) = ending.greeting(found) {
             self.count(greeting);
         }
     }
@@ -283,7 +312,7 @@ const MALFORMED: [&str; 11] = [
     "reply channel 254",
 ];
 
-const REFUSED: [&str; 22] = [
+const REFUSED: [&str; 25] = [
     "read of 4 tokens",
     "read of 5 tokens",
     "read of 7 tokens",
@@ -306,9 +335,12 @@ const REFUSED: [&str; 22] = [
     "write that disables a link in use",
     "write of HELLO that disables",
     "write of HELLO on a disabled link",
+    "write that disables a link with something on a line",
+    "write of HELLO in its own way",
+    "write of HELLO while a credit or HELLO is on its way",
 ];
 
-const ASIDE: [&str; 12] = [
+const ASIDE: [&str; 10] = [
     "Unheard for Ack",
     "Unheard for Nack",
     "Ack for this very node",
@@ -317,10 +349,8 @@ const ASIDE: [&str; 12] = [
     "Nack of a node that has gone to one byte",
     "Malformed of a node that has gone to one byte",
     "Unheard of a node that has gone to one byte",
-    "HELLO over its own cable grants 0",
-    "HELLO over its own cable grants 8",
-    "HELLO over its own cable grants 16, and one less before",
-    "HELLO over its own cable grants 8, and one less before",
+    "HELLO over its own cable: Ack",
+    "HELLO over its own cable: Nack, in its own way",
 ];
 
 #[test]

@@ -2,11 +2,11 @@
 //! script that still has it.
 
 use compare::calls::Apply;
-use compare::pair::{self, differing, Differing};
+use compare::pair::{self, Differing};
 use compare::reduce::{reduce, report};
 use compare::soak::{fill, run, Found};
+use compare::wrong::is_as_short_as_can_be;
 use model::network::{Claim, Network};
-use model::set::Setting;
 use model::tokens::{Destination, Kind, Token, PAUSE};
 use model::{Answer, Call, No};
 
@@ -59,17 +59,9 @@ fn loses_what_traps(state: &mut Option<Network>, call: &Call) -> Answer {
 
 /// "Granting 64 because the credit is 0, with 40 tokens still held."
 fn grants_by_credit_alone(state: &mut Option<Network>, call: &Call) -> Answer {
-    let answer = model::apply(state, call);
-    let hello = matches!(
-        call,
-        Call::Set {
-            setting: Setting::Hello { .. },
-            ..
-        }
-    );
-    match answer {
-        Answer::Granted(16) if hello => Answer::Granted(64),
-        _ => answer,
+    match model::apply(state, call) {
+        Answer::Arrived(16) => Answer::Arrived(64),
+        answer => answer,
     }
 }
 
@@ -101,17 +93,6 @@ fn first_differing(apply: Apply) -> Differing {
     found.expect("a difference")
 }
 
-/// Still differing in its last call, and with no call that can be left out.
-fn is_as_short_as_can_be(apply: Apply, calls: &[Call]) {
-    let again = differing(apply, calls).expect("a difference");
-    assert_eq!(again.calls, calls);
-    for place in 0..calls.len() {
-        let mut fewer = calls.to_vec();
-        fewer.remove(place);
-        assert_eq!(differing(apply, &fewer), None, "{}", calls[place]);
-    }
-}
-
 #[test]
 fn a_short_run_is_left() {
     for (apply, lines) in [(hands_pause_on as Apply, 3), (loses_what_traps, 4)] {
@@ -125,7 +106,7 @@ fn a_short_run_is_left() {
 #[test]
 fn a_run_with_steps_is_reduced_too() {
     let wrong = [
-        (grants_by_credit_alone as Apply, "the model granted 64"),
+        (grants_by_credit_alone as Apply, "the model moved 64"),
         (
             overlooks_claims_by_ports,
             "the library no 10, the model done",

@@ -21,6 +21,9 @@ fn a_short_soak() {
     assert!(text.contains(" lists of Steps, "), "{text}");
     assert!(text.contains("\nsteps: results "), "{text}");
     assert!(text.contains("\nblank: done "), "{text}");
+    assert!(text.contains("\nline: idle "), "{text}");
+    assert!(text.contains("\noff a line: "), "{text}");
+    assert!(text.contains(" tokens off lines, "), "{text}");
     assert!(text.contains("\ncable, its ends: "), "{text}");
     assert!(text.ends_with("no difference\n"), "{text}");
 }

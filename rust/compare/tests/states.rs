@@ -1,6 +1,6 @@
 //! States that the model's runs reach, written as words and seen through the proved looks.
 
-use bench::Looks;
+use compare::calls::begun;
 use compare::{changing, difference, layout, reading};
 use model::digest::digest;
 use model::network::{Network, Node, Start};
@@ -10,11 +10,12 @@ use model::runs::Runner;
 const RUNS: u64 = 60;
 const CALLS: usize = 400;
 
-/// "no token, no claim, no open circuit anywhere"
+/// "no token, no claim, no open circuit anywhere", and nothing on a line
 fn is_quiet(network: &Network) -> bool {
     let quiet = |node: &Node| {
         let mut ends = node.channel_ends.iter();
         node.ports.iter().all(|port| !port.is_taken())
+            && node.links.iter().all(|link| link.line.is_empty())
             && ends.all(|end| end.tokens.is_empty() && end.claim.is_none() && end.sending.is_none())
     };
     network.nodes.iter().all(quiet)
@@ -22,14 +23,14 @@ fn is_quiet(network: &Network) -> bool {
 
 /// The whole of what one state shows.
 fn check(network: &Network, random: &mut Random) {
-    let (state, memory) = layout::write(network, random);
-    let looks = Looks::over(&state, &memory);
+    let lent = layout::write(network, random);
+    let looks = lent.looks();
     let clause = looks.failing_clause();
     assert!(clause.is_none(), "unsound: {}", clause.unwrap());
     assert!(looks.is_sound());
     assert!(looks.is_tight());
     assert_eq!(looks.is_quiet(), is_quiet(network));
-    let read = reading::read(&state, &memory).expect("a state of the model");
+    let read = reading::read(&lent).expect("a state of the model");
     assert_eq!(difference::first(&read, network), None);
     assert_eq!(looks.digest(), digest(Some(network)));
 }
@@ -39,7 +40,7 @@ fn states_of_runs_are_sound_and_tight_and_read_back() {
     let mut compared = 0;
     for seed in 0..RUNS {
         println!("seed {seed}");
-        let mut runner = Runner::new(seed);
+        let mut runner = Runner::by_line(seed);
         let mut random = Random::new(seed);
         for _ in 0..CALLS {
             runner.call();
@@ -74,9 +75,9 @@ fn started_states_are_quiet() {
         .into_iter()
         .flat_map(|it| (1..=16).map(move |n| (it, n)))
     {
-        let network = Network::at(start, nodes, nodes * layout::NODE_TOKENS);
-        let (state, memory) = layout::write(&network, &mut Random::new(0));
-        assert!(Looks::over(&state, &memory).is_quiet());
+        let network = begun(start, nodes);
+        let lent = layout::write(&network, &mut Random::new(0));
+        assert!(lent.looks().is_quiet());
         check(&network, &mut Random::new(1));
     }
 }
@@ -85,11 +86,12 @@ fn started_states_are_quiet() {
 fn sizes_are_those_of_the_layout() {
     assert_eq!(bench::raw::state_words(), layout::NODE_WORDS);
     assert_eq!(bench::raw::memory_words(), layout::NODE_TOKENS);
+    assert_eq!(bench::raw::line_words(), layout::NODE_LINES);
 }
 
 #[test]
 fn a_difference_is_named() {
-    let one = Network::fresh(2, 2 * layout::NODE_TOKENS);
+    let one = begun(Start::Fresh, 2);
     let mut other = one.clone();
     other.nodes[1].links[3].credit = 8;
     let found = difference::first(&one, &other);

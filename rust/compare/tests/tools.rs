@@ -1,7 +1,7 @@
 //! What the shop's people use, on the states of random runs: every verb has an answer.
 
-use compare::filling;
-use model::{runs, Call};
+use compare::{filling, runs};
+use model::Call;
 use script::diff::{diff, Side};
 use script::matrix::Matrix;
 use script::question::{Door, Question};

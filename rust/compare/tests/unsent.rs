@@ -1,15 +1,15 @@
 //! The tie that Wire needs, now that it takes a link in use: what leaves by a link without a cable has
 //! its whole header in front. States that are sound and break that tie alone: a cable is plugged in,
-//! its far end enabled and HELLO said, all of which is done, and then tokens that are no header come to
-//! a port without a circuit. From there on the state is unsound and every call answers 1, on both
+//! its far end enabled and HELLO said, all of which is done, and then tokens that are no header are on
+//! the line to a port without a circuit. From there on the state is unsound and every call answers 1, on both
 //! sides and word for word.
 
-use bench::{raw, Answer as Found, Looks, Refusal, Stepped};
-use compare::calls::Lent;
-use compare::layout::NODE_WORDS;
+use bench::{raw, Answer as Found, Refusal, Stepped};
+use compare::calls::{begun, Lent};
+use compare::layout::{FIRST_LINE, LINE, NODE_WORDS};
 use compare::pair::Pair;
 use compare::reading::read;
-use model::network::{Aim, Hop, Network, Sending};
+use model::network::{Aim, Hop, Network, Sending, Start};
 use model::random::Random;
 use model::sound::{self, Clause};
 use model::tokens::{header, Destination, Token, END};
@@ -23,7 +23,7 @@ const DOOR: Destination = Destination::Channel {
 
 /// Two boards. Port 8 of the first has a circuit out by link E, which has no cable, and holds these.
 fn leaving_by_e(tokens: &[Token]) -> Network {
-    let mut network = Network::fresh(2, 1664);
+    let mut network = begun(Start::Fresh, 2);
     network.nodes[1].number = 1;
     let node = &mut network.nodes[0];
     node.links[4].used_by = Some(8);
@@ -58,8 +58,9 @@ type Example = (
     &'static [(&'static str, &'static str)],
 );
 
-/// A Step of the port that sends, and of the one that receives.
+/// A Step of the port that sends, a step of the line between, and a Step of the port that receives.
 const SENDS: &str = "step 0 8";
+const ARRIVES: &str = "line 0 4";
 const HEARS: &str = "step 1 2";
 
 const EXAMPLES: [Example; 6] = [
@@ -83,7 +84,13 @@ const EXAMPLES: [Example; 6] = [
         leaving_by_e,
         2,
         0,
-        &[(SENDS, "moved"), (HEARS, "waiting"), (SENDS, "moved")],
+        &[
+            (SENDS, "moved"),
+            (HEARS, "idle"),
+            (ARRIVES, "moved 0"),
+            (HEARS, "waiting"),
+            (SENDS, "moved"),
+        ],
     ),
     (
         leaving_by_e,
@@ -92,6 +99,7 @@ const EXAMPLES: [Example; 6] = [
         &[
             (SENDS, "moved"),
             (SENDS, "moved"),
+            (ARRIVES, "moved 0"),
             (HEARS, "waiting"),
             (SENDS, "moved"),
         ],
@@ -104,16 +112,18 @@ const EXAMPLES: [Example; 6] = [
     ),
 ];
 
-/// The cable, with its far end enabled and its near end greeted.
-const PLUGGED: [(&str, &str); 3] = [
+/// The cable, with its far end enabled and its near end greeted, which has its credit.
+const PLUGGED: [(&str, &str); 5] = [
     ("wire 0 4 1 2", "done"),
     ("set 1 enable 2 1", "done"),
-    ("set 0 hello 4 0", "granted 64"),
+    ("set 0 hello 4 0", "granted 0"),
+    ("line 0 4", "moved 64"),
+    ("line 1 2", "moved 0"),
 ];
 
 fn is_sound_and_tight(network: &Network) -> [bool; 2] {
-    let Lent { state, memory } = Lent::of(Some(network), &mut Random::new(3));
-    let looks = Looks::over(&state, &memory);
+    let lent = Lent::of(Some(network), &mut Random::new(3));
+    let looks = lent.looks();
     assert_eq!(looks.is_sound(), sound::is_sound(network));
     [looks.is_sound(), looks.is_tight()]
 }
@@ -166,7 +176,13 @@ fn a_cable_leads_out_of_sound() {
             failing.is_some_and(|it| headless.contains(&it)),
             "{failing:?}"
         );
-        for words in ["step 1 2", "step 0 8", "set 1 number 0 0", "wire 0 0 1 0"] {
+        for words in [
+            "step 1 2",
+            "step 0 8",
+            "line 0 4",
+            "set 1 number 0 0",
+            "wire 0 0 1 0",
+        ] {
             assert_eq!(made(&mut pair, words), "no 1", "{place}: {words}");
         }
     }
@@ -180,7 +196,7 @@ fn the_twin_stays_sound() {
         Some(&leaving_by_e(&part(0, 0))),
         Random::new(9),
     );
-    let crossing = [(SENDS, "moved"); 5];
+    let crossing = [[(SENDS, "moved"), (ARRIVES, "moved 0")]; 5].concat();
     let landing = [
         (HEARS, "opened channel"),
         (HEARS, "moved"),
@@ -199,8 +215,9 @@ fn first_in_words() -> Lent {
     let mut lent = Lent {
         state: vec![0; 2 * raw::state_words()],
         memory: vec![0; 2 * raw::memory_words()],
+        lines: vec![0; 2 * raw::line_words()],
     };
-    raw::fresh(&mut lent.state, &mut lent.memory, 2);
+    raw::fresh(&mut lent.state, &mut lent.memory, &mut lent.lines, 2);
     // Link E: port 8's circuit leaves by it.
     (lent.state[52], lent.state[53]) = (1, 8);
     // Port 8: two tokens held; outward, by link E.
@@ -218,20 +235,12 @@ fn first_in_words() -> Lent {
 fn the_first_word_by_word() {
     let mut lent = first_in_words();
     let expected = leaving_by_e(&part(3, 0));
-    assert_eq!(read(&lent.state, &lent.memory), Ok(expected));
-    let Lent { state, memory } = &mut lent;
-    assert_eq!(raw::wire(state, memory, 0, 4, 1, 2), Found::Done);
-    assert_eq!(raw::set_enable(state, memory, 1, 2, 1), Found::Done);
-    assert_eq!(raw::hello(state, memory, 0, 4), Found::Granted(64));
-    let moved = Found::Step(Stepped::Moved);
-    assert_eq!(raw::step(state, memory, 0, 8), moved);
-    assert_eq!(raw::unsound_clause(state, memory), 7);
-    let unsound = Found::No(Refusal::Unsound);
-    assert_eq!(raw::step(state, memory, 0, 8), unsound);
+    assert_eq!(read(&lent), Ok(expected));
+    plug_and_send(&mut lent);
     let before = first_in_words();
-    let far = NODE_WORDS;
-    let changed = changed(&before.state, state);
-    // Link E wired to link C of the other board, greeted, one credit spent; port 8's ring one on.
+    let (near_line, far_line) = (FIRST_LINE + 4 * LINE, FIRST_LINE + 2 * LINE);
+    // Link E wired to link C of the other board, greeted, one credit spent; port 8's ring one on; its
+    // line begins one on, behind HELLO, and holds one.
     let near = [
         (44, 1),
         (45, 1),
@@ -240,11 +249,39 @@ fn the_first_word_by_word() {
         (51, 63),
         (148, 1),
         (149, 1),
+        (near_line, 1),
+        (near_line + 1, 1),
     ];
-    // Link C wired to link E, and enabled; port 2 holds one.
-    let there = [(24, 1), (26, 4), (27, 1), (101, 1)].map(|(at, word)| (far + at, word));
-    assert_eq!(changed, [&near[..], &there].concat());
-    assert_eq!(self::changed(&before.memory, memory), [(512, 0), (960, 5)]);
+    // Link C wired to link E, and enabled; its line begins one on, behind the credit, and 64 are issued.
+    let there = [(24, 1), (26, 4), (27, 1), (far_line, 1), (far_line + 2, 64)];
+    let there = there.map(|(at, word)| (NODE_WORDS + at, word));
+    assert_eq!(
+        changed(&before.state, &lent.state),
+        [&near[..], &there].concat()
+    );
+    assert_eq!(changed(&before.memory, &lent.memory), [(512, 0)]);
+    assert_eq!(changed(&before.lines, &lent.lines), [(4 * 66 + 1, 5)]);
+}
+
+/// The cable is plugged in, HELLO and its credit arrive, and the token leaves for the line.
+fn plug_and_send(lent: &mut Lent) {
+    let Lent {
+        state,
+        memory,
+        lines,
+    } = lent;
+    assert_eq!(raw::wire(state, memory, lines, 0, 4, 1, 2), Found::Done);
+    assert_eq!(raw::set_enable(state, memory, lines, 1, 2, 1), Found::Done);
+    assert_eq!(raw::hello(state, memory, lines, 0, 4), Found::Granted(0));
+    let arrived = raw::line_step(state, memory, lines, 0, 4);
+    assert_eq!(arrived, Found::Arrived(64));
+    let arrived = raw::line_step(state, memory, lines, 1, 2);
+    assert_eq!(arrived, Found::Arrived(0));
+    let moved = Found::Step(Stepped::Moved);
+    assert_eq!(raw::step(state, memory, lines, 0, 8), moved);
+    assert_eq!(raw::unsound_clause(state, memory, lines), 7);
+    let unsound = Found::No(Refusal::Unsound);
+    assert_eq!(raw::step(state, memory, lines, 0, 8), unsound);
 }
 
 /// The places of the words that are others now, with what they are.

@@ -3,15 +3,15 @@
 //! behind it is Unsound, on both sides. A list that tested whether its state is sound at its beginning
 //! alone would go on, and is found.
 
-use bench::{raw, Clause, Looks};
-use compare::calls::Lent;
+use bench::{raw, Clause};
+use compare::calls::{begun, Lent};
 use compare::choice::any_record;
 use compare::damaged::other_things;
 use compare::lists::{held_to_single_steps, library};
 use compare::pair::Pair;
 use compare::reading::read;
 use model::answers::Cause;
-use model::network::{Aim, Hop, LinkEnd, Network, Node, Sending};
+use model::network::{Aim, Hop, LinkEnd, Network, Node, Sending, Start};
 use model::random::Random;
 use model::runs::Runner;
 use model::sizes::REPLY_PORT;
@@ -21,7 +21,7 @@ use model::{sound, Answer, Call, No, StepRecord};
 
 /// A board of its own, with this done to it.
 fn one_board(change: impl FnOnce(&mut Node)) -> Network {
-    let mut network = Network::fresh(1, 832);
+    let mut network = begun(Start::Fresh, 1);
     change(&mut network.nodes[0]);
     network
 }
@@ -41,7 +41,7 @@ fn open_behind_its_end() -> Network {
     })
 }
 
-/// Links 0 and 1 of one board are joined. Port 8 is past its header and sends a token by link 0 into
+/// Links 0 and 1 of one board are joined. Port 8 is past its header and sends a token by link 0 towards
 /// port 1, which no header has come to. Broken is the tie `fed`.
 fn data_without_its_header() -> Network {
     one_board(|node| {
@@ -54,6 +54,7 @@ fn data_without_its_header() -> Network {
         }
         node.links[0].greeted = true;
         node.links[0].credit = 8;
+        node.links[1].issued = 8;
         node.links[0].used_by = Some(8);
         node.ports[8].hop = Some(Hop::Outward(0));
         node.ports[8].tokens.push_back(Token::data(7));
@@ -127,13 +128,17 @@ fn lent(network: &Network, seed: u64) -> Lent {
     Lent::of(Some(network), &mut Random::new(seed))
 }
 
+fn clause_of(lent: &Lent) -> u32 {
+    raw::unsound_clause(&lent.state, &lent.memory, &lent.lines)
+}
+
 #[test]
 fn they_are_sound_and_not_tight() {
     for (network, ..) in EXAMPLES {
         let network = network();
         assert_eq!(sound::first_failing(&network), None);
-        let Lent { state, memory } = lent(&network, 0);
-        let looks = Looks::over(&state, &memory);
+        let lent = lent(&network, 0);
+        let looks = lent.looks();
         assert!(looks.is_sound() && !looks.is_tight());
     }
 }
@@ -151,7 +156,7 @@ fn a_list_is_unsound_from_its_middle_on() {
         let mut lent = lent(&network, place as u64);
         let found = held_to_single_steps(library, &mut lent, records.len(), &records);
         assert_eq!(found, Ok(answer));
-        assert_eq!(raw::unsound_clause(&lent.state, &lent.memory), clause);
+        assert_eq!(clause_of(&lent), clause);
         println!("{results}: {:?}", Clause::from_number(clause));
     }
 }
@@ -162,8 +167,9 @@ fn smallest_in_words() -> Lent {
     let mut lent = Lent {
         state: vec![0; raw::state_words()],
         memory: vec![0; raw::memory_words()],
+        lines: vec![0; raw::line_words()],
     };
-    raw::fresh(&mut lent.state, &mut lent.memory, 1);
+    raw::fresh(&mut lent.state, &mut lent.memory, &mut lent.lines, 1);
     // Port 8: one token held; dropped, NoRoute; channel-end 0 sends by it.
     lent.state[149] = 1;
     (lent.state[152], lent.state[153]) = (5, 0);
@@ -180,13 +186,13 @@ fn smallest_in_words() -> Lent {
 #[test]
 fn the_smallest_word_by_word() {
     let mut lent = smallest_in_words();
-    assert_eq!(read(&lent.state, &lent.memory), Ok(open_behind_its_end()));
+    assert_eq!(read(&lent), Ok(open_behind_its_end()));
     let mut results = [7; 2];
     let answer = library(&mut lent, &records(&[(0, 8), (0, 8)]), &mut results);
     assert_eq!(answer, bench::Answer::Done);
     assert_eq!(results, [11 << 32 | 1, 1]);
     let before = smallest_in_words();
-    assert!(lent.memory.iter().all(|word| *word == 0));
+    assert!(lent.memory.iter().chain(&lent.lines).all(|word| *word == 0));
     let words = lent.state.iter().zip(&before.state).enumerate();
     let changed = words.filter(|(_, (now, then))| now != then);
     let changed: Vec<_> = changed.map(|(place, (now, _))| (place, *now)).collect();
@@ -216,7 +222,7 @@ fn a_list_that_tests_sound_once_is_found() {
     let complaints = [
         "record 1, 0 8: the library no 1, the model idle",
         "record 3, 0 8: the library no 1, the model idle",
-        "record 2, 0 1: the library no 1, the model waiting",
+        "record 2, 0 1: the library no 1, the model idle",
         "record 2, 0 12: the library no 1, the model moved",
     ];
     for ((network, places, ..), complaint) in EXAMPLES.into_iter().zip(complaints) {
@@ -235,7 +241,7 @@ enum Went {
 
 /// Makes a list of so many records on both sides, on words that are a state of the model.
 fn list_on(lent: &Lent, random: &mut Random) -> Went {
-    let network = read(&lent.state, &lent.memory).expect("a state of the model");
+    let network = read(lent).expect("a state of the model");
     let records = (0..30).map(|_| any_record(random, Some(&network)));
     let call = Call::Steps {
         results: 30,
@@ -254,13 +260,13 @@ fn list_on(lent: &Lent, random: &mut Random) -> Went {
 fn random_states_that_are_sound_and_not_tight() {
     let mut times = [0; 2];
     for seed in 0..30 {
-        let mut runner = Runner::new(seed);
+        let mut runner = Runner::by_line(seed);
         let mut random = Random::new(seed ^ 0x71E5);
         for _ in 0..300 {
             runner.call();
             let damaged = runner.network().map(|it| other_things(it, &mut random));
             let untight = damaged.filter(|lent| {
-                let looks = Looks::over(&lent.state, &lent.memory);
+                let looks = lent.looks();
                 looks.is_sound() && !looks.is_tight()
             });
             if let Some(lent) = untight {
@@ -269,7 +275,7 @@ fn random_states_that_are_sound_and_not_tight() {
         }
     }
     println!("lists that stayed sound, and that did not: {times:?}");
-    assert!(times[0] > 100 && times[1] > 50, "{times:?}");
+    assert!(times[0] > 100 && times[1] > 20, "{times:?}");
 }
 
 /// An empty list is done behind it, too, and results of another length are NoSuch.

@@ -5,10 +5,9 @@ use compare::books::{self, words, Books, Circuit, Fate, Happening, Note, Port, S
 use compare::calls::Lent;
 use compare::soak::{watched, watched_lists, Found};
 use compare::watch::{Broken, Figures, Met, Seen, Sentence, Watcher};
-use compare::{asking, changing, filling};
+use compare::{asking, changing, filling, runs};
 use model::calls::Call;
 use model::network::Start;
-use model::runs;
 use model::words::parse_call;
 use model::Answer;
 
@@ -16,30 +15,33 @@ const SEEDS: u64 = 42;
 const CALLS: usize = 2000;
 
 /// What has to be met, and how often at least.
-const LEAST: [(Met, usize); 24] = [
+const LEAST: [(Met, usize); 27] = [
     (Met::Refusals, 80_000),
     (Met::BegunAnew, 300),
     (Met::Blank, 150),
     (Met::StartRefused, 1_000),
     (Met::Circuits, 10_000),
     (Met::Local, 3_000),
-    (Met::Landed, 3_000),
+    (Met::Landed, 2_700),
     (Met::Renumbered, 350),
     (Met::Split, 700),
     (Met::NoRoute, 1_700),
     (Met::TurnedBack, 280),
-    (Met::Circles, 2_000),
+    (Met::Circles, 1_400),
     (Met::Joined, 100),
     (Met::JoinedLanded, 30),
-    (Met::Carried, 50_000),
+    (Met::Carried, 45_000),
+    (Met::Arrived, 45_000),
+    (Met::Credited, 5_000),
+    (Met::Greeted, 1_000),
     (Met::Handed, 35_000),
     (Met::Dropped, 17_000),
     (Met::EndedByPause, 2_000),
     (Met::PausesAtDoors, 1_300),
-    (Met::Heard, 1_200),
-    (Met::Answered, 800),
+    (Met::Heard, 1_100),
+    (Met::Answered, 750),
     (Met::RepliesLanded, 650),
-    (Met::NarrowReplies, 60),
+    (Met::NarrowReplies, 50),
     (Met::RepliesSplit, 30),
 ];
 
@@ -60,16 +62,17 @@ fn streams_arrive_whole_and_at_the_right_door() {
 }
 
 /// What has to be met where lists are made, and how often at least.
-const LEAST_IN_LISTS: [(Met, usize); 12] = [
+const LEAST_IN_LISTS: [(Met, usize); 13] = [
     (Met::Lists, 2_500),
     (Met::Circuits, 700),
     (Met::Landed, 300),
     (Met::Renumbered, 25),
     (Met::Split, 40),
     (Met::NoRoute, 100),
-    (Met::Carried, 6_000),
+    (Met::Carried, 4_500),
+    (Met::Arrived, 4_000),
     (Met::Handed, 2_500),
-    (Met::Dropped, 1_500),
+    (Met::Dropped, 1_000),
     (Met::Heard, 130),
     (Met::Answered, 90),
     (Met::RepliesLanded, 80),
@@ -92,31 +95,42 @@ fn streams_arrive_whole_where_lists_are_made() {
     }
 }
 
-/// Makes the calls of a script on the library, with a watcher beside it. What a line states of the
-/// answer, and remarks, are left out.
-fn watch(script: &str) -> (Watcher, Vec<Answer>) {
-    let mut watcher = Watcher::default();
-    let mut bench = Lent::default();
+/// The calls of a script. What a line states of the answer, and remarks, are left out.
+fn calls_of(script: &str) -> Vec<Call> {
     let lines = script
         .lines()
         .map(|line| line.split("->").next().unwrap_or(line).trim());
     let calls = lines.filter(|line| !line.is_empty() && !line.starts_with("//"));
-    let answers = calls.map(|line| {
-        let call = parse_call(line).expect(line);
-        watcher.watch(&mut bench, &call).expect("nothing is broken")
-    });
+    calls.map(|line| parse_call(line).expect(line)).collect()
+}
+
+/// Makes the calls of a script on the library, with a watcher beside it.
+fn watch(script: &str) -> (Watcher, Vec<Answer>) {
+    watch_calls(&calls_of(script))
+}
+
+fn watch_calls(calls: &[Call]) -> (Watcher, Vec<Answer>) {
+    let mut watcher = Watcher::default();
+    let mut bench = Lent::default();
+    let answers = calls
+        .iter()
+        .map(|call| watcher.watch(&mut bench, call).expect("nothing is broken"));
     let answers = answers.collect();
     (watcher, answers)
 }
 
 const TWO_BOARDS: &str = "
-    fresh 2 1664
+    fresh 2 1664 lines 1056
     set 1 number 0 1
     wire 0 0 1 0
     set 0 enable 0 1
     set 1 enable 0 1
     set 0 hello 0 0
+    line 0 0
+    line 1 0
     set 1 hello 0 0
+    line 1 0
+    line 0 0
     set 0 direction 2 1
     set 0 linkdirection 0 1
     aim 0 2 channel 5 7 0
@@ -127,6 +141,9 @@ const TWO_BOARDS: &str = "
     step 0 8
     step 0 8
     step 0 8
+    line 0 0
+    line 0 0
+    line 0 0
 ";
 
 /// The header was made for a number that the far board takes before it reads it, and gives up
@@ -138,9 +155,12 @@ fn a_board_renumbered_before_and_after_a_landing() {
         step 1 0
         set 1 number 0 6
         step 0 8
+        line 0 0
         step 1 0
         step 0 8
         step 0 8
+        line 0 0
+        line 0 0
         step 1 0
         step 1 0
         input 1 7 data
@@ -177,6 +197,7 @@ fn a_list_is_written_down_as_its_steps() {
         step 1 0
         step 0 8
         step 0 9
+        line 0 0
         step 1 0
         step 0 8
         step 1 0
@@ -187,16 +208,21 @@ fn a_list_is_written_down_as_its_steps() {
         steps 4 0 8 0 8 0 8 0 8
         steps 0
         steps 3 0 8
+        line 0 0
+        line 0 0
+        line 0 0
         set 1 number 0 5
-        steps 6 1 0 0 8 0 9 1 0 0 8 1 0
+        steps 3 1 0 0 8 0 9
+        line 0 0
+        steps 3 1 0 0 8 1 0
     ";
     let (listed, answers) = watch(&[two, lists].concat());
     let last = answers.last().map(Answer::to_string);
-    let moved = "results opened channel; moved; idle; moved; moved; moved";
+    let moved = "results moved; moved; idle";
     assert_eq!(last.as_deref(), Some(moved));
     let books = |watcher: &Watcher| format!("{:?}", watcher.books);
     assert_eq!(books(&listed), books(&single));
-    assert_eq!(listed.figures.of(Met::Lists), 3);
+    assert_eq!(listed.figures.of(Met::Lists), 4);
     assert_eq!(listed.figures.of(Met::Refusals), 1);
     assert_eq!(
         listed.figures.of(Met::Handed),
@@ -221,6 +247,7 @@ fn a_header_read_by_a_board_of_the_other_width() {
     assert!(circuit.misread && circuit.handed.is_empty());
 }
 
+/// They are of the time when tokens crossed at once.
 #[test]
 fn the_examples_are_watched() {
     let folder = concat!(env!("CARGO_MANIFEST_DIR"), "/../../examples/traces");
@@ -230,7 +257,7 @@ fn the_examples_are_watched() {
     let mut met = Figures::default();
     for path in scripts {
         let text = std::fs::read_to_string(&path).expect("a script");
-        met += watch(&text).0.figures;
+        met += watch_calls(&runs::emptied(calls_of(&text))).0.figures;
     }
     println!("{met}");
     assert!(met.of(Met::Handed) >= 40 && met.of(Met::Split) > 0, "{met}");
@@ -406,12 +433,26 @@ fn logs_at_another_door(books: &mut Books, seen: &Seen) -> Result<Touched, Broke
 /// Lets tokens arrive in front of those that the far port holds.
 fn puts_in_front(books: &mut Books, seen: &Seen) -> Result<Touched, Broken> {
     then(books, seen, |books, touched| {
-        let carried = |it: &Happening| matches!(it, Happening::Carried { .. });
+        let arrived = |it: &Happening| matches!(it, Happening::Arrived { .. });
         let far = touched
             .ports
             .last()
-            .filter(|_| touched.happened.iter().any(carried));
+            .filter(|_| touched.happened.iter().any(arrived));
         if let Some(cells) = far.and_then(|far| books.cells.get_mut(far)) {
+            cells.rotate_right(1);
+        }
+    })
+}
+
+/// Puts tokens on to lines in front of those that are there.
+fn puts_in_front_on_lines(books: &mut Books, seen: &Seen) -> Result<Touched, Broken> {
+    then(books, seen, |books, touched| {
+        let carried = |it: &Happening| matches!(it, Happening::Carried { .. });
+        let line = touched
+            .lines
+            .last()
+            .filter(|_| touched.happened.iter().any(carried));
+        if let Some(cells) = line.and_then(|line| books.lines.get_mut(line)) {
             cells.rotate_right(1);
         }
     })
@@ -424,17 +465,18 @@ fn wrong_watchers_complain() {
         (takes_the_number_at_sending, Sentence::Door, Sentence::Door),
         (
             gives_two_circuits_one_name,
-            Sentence::Order,
+            Sentence::Outputs,
             Sentence::Outputs,
         ),
-        (forgets_fresh, Sentence::Hearing, Sentence::Cells),
-        (forgets_blank, Sentence::Aims, Sentence::Cells),
-        (heeds_a_refused_fresh, Sentence::Hearing, Sentence::Inputs),
-        (heeds_a_refused_blank, Sentence::Hearing, Sentence::Inputs),
+        (forgets_fresh, Sentence::Aims, Sentence::Cells),
+        (forgets_blank, Sentence::Hearing, Sentence::Cells),
+        (heeds_a_refused_fresh, Sentence::Aims, Sentence::Inputs),
+        (heeds_a_refused_blank, Sentence::Aims, Sentence::Inputs),
         (goes_on_behind_pause, Sentence::Outputs, Sentence::Outputs),
         (counts_refused_outputs, Sentence::Outputs, Sentence::Outputs),
         (logs_at_another_door, Sentence::Places, Sentence::Inputs),
         (puts_in_front, Sentence::Cells, Sentence::Marks),
+        (puts_in_front_on_lines, Sentence::Cells, Sentence::Marks),
     ];
     for (place, (note, first, alone)) in wrong.into_iter().enumerate() {
         let found = complaint(note, &Sentence::ALL).map(|broken| broken.sentence);

@@ -3,11 +3,10 @@
 
 use compare::calls::Apply;
 use compare::soak::{ask, Found};
-use model::credits::grant;
 use model::messages::reply_address;
 use model::network::{Hop, Network};
 use model::sizes::REPLY_PORT;
-use model::tokens::{header, Token, NACK};
+use model::tokens::{header, Token, HELLO, NACK};
 use model::{Answer, Call};
 
 /// Links by their place in the registers: C, D, A, B, G, H, E, F.
@@ -61,7 +60,8 @@ fn replies_before_it_writes(state: &mut Option<Network>, call: &Call) -> Answer 
     })
 }
 
-/// The write is made before the END is taken: a HELLO on the link that sent it finds one token more.
+/// The write is made before the END is taken: a HELLO on the link that sent it is on its way when a
+/// grant is considered, and is not refused for the credit that there would be.
 fn greets_before_it_takes(state: &mut Option<Network>, call: &Call) -> Answer {
     with(state, call, |network, ended| {
         let far = |link: &model::network::Link| link.far;
@@ -71,9 +71,14 @@ fn greets_before_it_takes(state: &mut Option<Network>, call: &Call) -> Answer {
         };
         let greets = ended.heard.get(6) == Some(&Token::data(0x81)) && ended.heard.len() == 10;
         let address = Token::data(0x86);
-        if greets && ended.heard[5] == address && sender.slot == ended.slot {
-            let held = network.nodes[ended.slot].ports[ended.port].tokens.len();
-            network.nodes[sender.slot].links[sender.link].credit = grant(0, held + 1);
+        let node = &mut network.nodes[ended.slot];
+        let credit = node.links[ended.port].credit_on_line();
+        if greets && ended.heard[5] == address && sender.slot == ended.slot && credit > 0 {
+            node.links[ended.port].line.pop_back();
+            node.links[ended.port].issued -= credit;
+            let sender = &mut node.links[sender.link];
+            sender.credit = 0;
+            sender.line.push_back(Token::control(HELLO));
         }
     })
 }
@@ -109,7 +114,7 @@ fn undoes_what_is_unheard(state: &mut Option<Network>, call: &Call) -> Answer {
 fn wrong_ends_are_found() {
     let wrong = [
         (replies_before_it_writes as Apply, " port 12 tokens: "),
-        (greets_before_it_takes, " link 4 credit: 16 against 8 "),
+        (greets_before_it_takes, " link 4 "),
         (writes_in_part, " direction: "),
         (undoes_what_is_unheard, " width: 1 against 3 "),
     ];

@@ -1,17 +1,12 @@
 //! Models that start a network or plug in a cable wrongly, each in a way that looks reasonable: they
 //! are found by random runs, and the run is made short.
 
-use compare::calls::Apply;
-use compare::changing;
-use compare::pair::{differing, Differing};
-use compare::reduce::reduce;
+use compare::wrong::{are_found, Maker, Wrong};
+use compare::{changing, runs};
 use model::network::{Link, LinkEnd, Network, Start};
 use model::set::Setting;
 use model::sizes::{LINKS, MOST_NODES};
-use model::{runs, Answer, Call, No};
-
-const SEEDS: u64 = 20;
-const CALLS: usize = 400;
+use model::{Answer, Call, No};
 
 /// The model, and then something else with the links of every node behind such a start.
 fn behind(
@@ -75,19 +70,18 @@ fn blank_enables_e_to_h(state: &mut Option<Network>, call: &Call) -> Answer {
 /// "The lowest number wins."
 fn blank_looks_at_the_memory_first(state: &mut Option<Network>, call: &Call) -> Answer {
     let answer = model::apply(state, call);
-    match (call, &answer) {
-        (Call::Blank { .. }, Answer::No(No::NoSuch)) => Answer::No(No::Unsound),
+    match (call.start(), &answer) {
+        (Some(Start::Blank), Answer::No(No::NoSuch)) => Answer::No(No::Unsound),
         _ => answer,
     }
 }
 
 /// The old start takes one node less.
 fn blank_takes_no_sixteenth_node(state: &mut Option<Network>, call: &Call) -> Answer {
-    match call {
-        Call::Blank {
-            nodes: MOST_NODES, ..
-        } => Answer::No(No::NoSuch),
-        _ => model::apply(state, call),
+    let begins = call.begins().filter(|begins| begins.start == Start::Blank);
+    match begins.is_some_and(|begins| begins.nodes == MOST_NODES) {
+        true => Answer::No(No::NoSuch),
+        false => model::apply(state, call),
     }
 }
 
@@ -212,72 +206,39 @@ fn hello_wants_a_cable(state: &mut Option<Network>, call: &Call) -> Answer {
     }
 }
 
-/// The first run that differs.
-fn differing_run(apply: Apply) -> Option<Differing> {
-    let makers = [runs::calls, changing::calls_without_cables];
-    let runs = (0..SEEDS).flat_map(|seed| makers.map(|calls| calls(seed, CALLS)));
-    runs.filter_map(|calls| differing(apply, &calls)).next()
-}
-
-/// Still differing in its last call, and with no call that can be left out.
-fn is_as_short_as_can_be(apply: Apply, calls: &[Call]) {
-    assert_eq!(
-        differing(apply, calls).map(|it| it.calls),
-        Some(calls.to_vec())
-    );
-    for place in 0..calls.len() {
-        let mut fewer = calls.to_vec();
-        fewer.remove(place);
-        assert_eq!(differing(apply, &fewer), None, "{}", calls[place]);
-    }
-}
-
-/// A model, and what its run is reduced to: how many calls, how the last begins, and how it differs.
-type Wrong = (Apply, usize, &'static str, &'static str);
-
-fn are_found(wrong: &[Wrong]) {
-    for (place, (apply, calls, last, expected)) in wrong.iter().enumerate() {
-        let found = differing_run(*apply).unwrap_or_else(|| panic!("nothing differs: {place}"));
-        let reduced = reduce(*apply, found);
-        println!("{}", reduced.how);
-        is_as_short_as_can_be(*apply, &reduced.calls);
-        assert!(reduced.how.contains(expected), "{place}: {}", reduced.how);
-        assert_eq!(reduced.calls.len(), *calls, "{:?}", reduced.calls);
-        let ending = reduced.calls.last().map(Call::to_string);
-        assert!(ending.is_some_and(|call| call.starts_with(last)), "{place}");
-    }
-}
+/// Runs of all kinds, and some without a cable at the start.
+const MAKERS: [Maker; 2] = [runs::calls, changing::calls_without_cables];
 
 #[rustfmt::skip]
 const STARTS: [Wrong; 8] = [
-    (enables_d_too, 1, "fresh 1 832", " link 3 enabled: false against true"),
-    (enables_e_to_g, 1, "fresh 1 832", " link 7 enabled: true against false"),
-    (greets_at_the_start, 1, "fresh 1 832", " link 4 greeted: false against true"),
-    (grants_at_the_start, 1, "fresh 1 832", " link 4 credit: 0 against 64"),
-    (knows_the_old_start_alone, 1, "fresh 1 832", " link 4 enabled: true against false"),
-    (blank_enables_e_to_h, 1, "blank 1 832", " link 4 enabled: false against true"),
+    (enables_d_too, 1, "fresh 1 832 lines 528", " link 3 enabled: false against true"),
+    (enables_e_to_g, 1, "fresh 1 832 lines 528", " link 7 enabled: true against false"),
+    (greets_at_the_start, 1, "fresh 1 832 lines 528", " link 4 greeted: false against true"),
+    (grants_at_the_start, 1, "fresh 1 832 lines 528", " link 4 credit: 0 against 64"),
+    (knows_the_old_start_alone, 1, "fresh 1 832 lines 528", " link 4 enabled: true against false"),
+    (blank_enables_e_to_h, 1, "blank 1 832 lines 528", " link 4 enabled: false against true"),
     (blank_looks_at_the_memory_first, 1, "blank ", "the library no 2, the model no 1"),
     (blank_takes_no_sixteenth_node, 1, "blank 16 ", "the library no 1, the model no 2"),
 ];
 
 #[test]
 fn wrong_starts_are_found() {
-    are_found(&STARTS);
+    are_found(&STARTS, &MAKERS);
 }
 
 #[rustfmt::skip]
 const CABLES: [Wrong; 8] = [
     (is_busy_where_enabled, 2, "wire ", "the library done, the model no 4"),
-    (is_busy_where_in_use, 6, "wire ", "the library done, the model no 4"),
+    (is_busy_where_in_use, 9, "wire ", "the library done, the model no 4"),
     (takes_a_wired_end, 3, "wire ", "the library no 4, the model done"),
-    (joining_frees_the_link, 6, "wire ", " user: Some(8) against None"),
+    (joining_frees_the_link, 9, "wire ", " user: Some(8) against None"),
     (joining_disables, 2, "wire ", " enabled: true against false"),
     (joining_greets, 2, "wire ", " greeted: false against true"),
-    (is_lost_without_a_cable, 6, "step ", "the library waiting, the model moved"),
-    (hello_wants_a_cable, 2, "set ", "the library granted 0, the model no 4"),
+    (is_lost_without_a_cable, 9, "step ", "the library waiting, the model moved"),
+    (hello_wants_a_cable, 3, "set ", "the library granted 0, the model no 4"),
 ];
 
 #[test]
 fn wrong_cables_are_found() {
-    are_found(&CABLES);
+    are_found(&CABLES, &MAKERS);
 }

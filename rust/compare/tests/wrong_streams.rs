@@ -1,14 +1,17 @@
 //! Benches whose streams go wrong, each in a way that could happen: the watcher finds every one of
 //! them, by the sentence that names it; and each sentence, held alone, finds some of them.
 
+use std::collections::VecDeque;
+
 use compare::books;
 use compare::calls::Apply;
 use compare::reduce::reduce_by;
 use compare::watch::{watched, Broken, Modelled, Sentence, Watcher};
 use compare::{asking, changing};
 use model::answers::{Cause, Opening};
+use model::lines::{freight, Freight};
 use model::messages::reply_address;
-use model::network::{Claim, Hop, Network, Node, Port, Sending, Start};
+use model::network::{Claim, Hop, LinkEnd, Network, Node, Port, Sending, Start};
 use model::sizes::{CHANNEL_ENDS, CHANNEL_END_CAPACITY, REPLY_PORT};
 use model::tokens::{header, Destination, Kind, Token, SINK};
 use model::{Answer, Call, No};
@@ -83,17 +86,40 @@ fn is_inner(token: &Token) -> bool {
     token.header.is_none() && !token.ends_circuit()
 }
 
-/// The port at the far end of the cable over which a Step moved a token.
-fn far_port<'a>(
+/// The line on to which a Step moved a token, which is the last of it.
+fn line_sent_on<'a>(
     network: &'a mut Network,
     before: &Before,
     answer: &Answer,
-) -> Option<&'a mut Port> {
+) -> Option<&'a mut VecDeque<Token>> {
     let (Some(Hop::Outward(link)), Answer::Moved) = (before.hop, answer) else {
         return None;
     };
-    let far = network.nodes[before.slot].links[link].far?;
-    Some(&mut network.nodes[far.slot].ports[far.link])
+    Some(&mut network.nodes[before.slot].links[link].line)
+}
+
+/// The model, and then something else with the port into which a line step has brought a token.
+fn behind_arrival(
+    state: &mut Option<Network>,
+    call: &Call,
+    wrong: impl FnOnce(&mut Port),
+) -> Answer {
+    let far = arriving(state.as_ref(), call);
+    let answer = model::apply(state, call);
+    if let (Some(far), Answer::Arrived(_), Some(network)) = (far, &answer, state) {
+        wrong(&mut network.nodes[far.slot].ports[far.link]);
+    }
+    answer
+}
+
+/// Where the token is going to arrive that a line step is going to bring.
+fn arriving(network: Option<&Network>, call: &Call) -> Option<LinkEnd> {
+    let Call::Line { slot, link } = *call else {
+        return None;
+    };
+    let link = network?.link(LinkEnd { slot, link }).ok()?;
+    let first = link.freight().next()?;
+    link.far.filter(|_| first == Freight::Token)
 }
 
 /// The channel, other than the sink, to which a Step had a circuit opened.
@@ -126,24 +152,45 @@ fn puts_the_newest_first(state: &mut Option<Network>, call: &Call) -> Answer {
 
 fn swaps_on_the_way(state: &mut Option<Network>, call: &Call) -> Answer {
     behind_step(state, call, |network, before, answer| {
-        if let Some(port) = far_port(network, &before, answer) {
-            let last = port.tokens.len().saturating_sub(2);
-            let inner = port.tokens.range(last..).all(is_inner);
-            if inner && port.tokens.len() >= 2 {
-                port.tokens.swap(last, last + 1);
+        if let Some(line) = line_sent_on(network, &before, answer) {
+            let last = line.len().saturating_sub(2);
+            let inner = |token: &Token| is_inner(token) && freight(token) == Freight::Token;
+            if line.len() >= 2 && line.range(last..).all(inner) {
+                line.swap(last, last + 1);
             }
         }
     })
 }
 
 fn loses_a_token(state: &mut Option<Network>, call: &Call) -> Answer {
-    behind_step(state, call, |network, before, answer| {
-        if let Some(port) = far_port(network, &before, answer) {
-            if port.tokens.back().is_some_and(is_inner) {
-                port.tokens.pop_back();
-            }
+    behind_arrival(state, call, |port| {
+        if port.tokens.back().is_some_and(is_inner) {
+            port.tokens.pop_back();
         }
     })
+}
+
+/// What comes off a line goes in front of what the port holds of its circuit.
+fn arrives_in_front(state: &mut Option<Network>, call: &Call) -> Answer {
+    behind_arrival(state, call, |port| {
+        let last = port.tokens.len().saturating_sub(2);
+        if port.tokens.len() >= 2 && port.tokens.range(last..).all(is_inner) {
+            port.tokens.swap(last, last + 1);
+        }
+    })
+}
+
+/// What came on to a line last comes off it first.
+fn takes_the_newest_off(state: &mut Option<Network>, call: &Call) -> Answer {
+    if let (Call::Line { slot, link }, Some(network)) = (call, state.as_mut()) {
+        let node = network.nodes.get_mut(*slot);
+        let line = node.and_then(|node| node.links.get_mut(*link));
+        let inner = |token: &Token| is_inner(token) && freight(token) == Freight::Token;
+        if let Some(link) = line.filter(|link| link.line.iter().all(inner)) {
+            link.line.make_contiguous().reverse();
+        }
+    }
+    model::apply(state, call)
 }
 
 /// "one that stores nothing": the Output is done, and the token is nowhere.
@@ -325,11 +372,11 @@ fn compares_the_number_at_sending() -> impl FnMut(&mut Option<Network>, &Call) -
     let mut numbers = Vec::new();
     move |state, call| {
         match call {
-            Call::Output { .. } | Call::Fresh { .. } | Call::Blank { .. } => {
+            Call::Step { .. } => return with_numbers(state, call, &numbers),
+            _ if call.start().is_some() || matches!(call, Call::Output { .. }) => {
                 let nodes = state.iter().flat_map(|network| &network.nodes);
                 numbers = nodes.map(|node| node.number).enumerate().collect();
             }
-            Call::Step { .. } => return with_numbers(state, call, &numbers),
             _ => {}
         }
         model::apply(state, call)
@@ -414,16 +461,16 @@ fn calls_it_split(state: &mut Option<Network>, call: &Call) -> Answer {
     })
 }
 
-/// A header token has lost its mark behind a cable.
+/// A header token has lost its mark on a line.
 fn loses_a_mark(state: &mut Option<Network>, call: &Call) -> Answer {
     behind_step(state, call, |network, before, answer| {
-        if let Some(last) = far_port(network, &before, answer).and_then(|it| it.tokens.back_mut()) {
+        if let Some(last) = line_sent_on(network, &before, answer).and_then(VecDeque::back_mut) {
             last.header = None;
         }
     })
 }
 
-/// A header token that comes round into its own port is marked with the other width.
+/// A header token that is to come round into its own port is marked with the other width.
 fn marks_anew_what_comes_round(state: &mut Option<Network>, call: &Call) -> Answer {
     behind_step(state, call, |network, before, answer| {
         let Some(Hop::Outward(link)) = before.hop else {
@@ -431,8 +478,8 @@ fn marks_anew_what_comes_round(state: &mut Option<Network>, call: &Call) -> Answ
         };
         let far = network.nodes[before.slot].links[link].far;
         let round = far.is_some_and(|far| (far.slot, far.link) == (before.slot, before.port));
-        let port = far_port(network, &before, answer).filter(|_| round);
-        if let Some(token) = port.and_then(|port| port.tokens.back_mut()) {
+        let line = line_sent_on(network, &before, answer).filter(|_| round);
+        if let Some(token) = line.and_then(VecDeque::back_mut) {
             token.header = token.header.map(|width| 4 - width);
         }
     })
@@ -622,7 +669,7 @@ fn complaint(make: Make, held: &[Sentence]) -> Option<Broken> {
 /// A wrong bench, the sentence by which it is found, and others that find it when held alone.
 type Wrong = (Make, Sentence, &'static [Sentence]);
 
-const OUT_OF_ORDER: [Wrong; 11] = [
+const OUT_OF_ORDER: [Wrong; 13] = [
     (
         || Box::new(puts_the_newest_first),
         Sentence::Cells,
@@ -635,6 +682,16 @@ const OUT_OF_ORDER: [Wrong; 11] = [
     ),
     (
         || Box::new(loses_a_token),
+        Sentence::Cells,
+        &[Sentence::Order],
+    ),
+    (
+        || Box::new(arrives_in_front),
+        Sentence::Cells,
+        &[Sentence::Order],
+    ),
+    (
+        || Box::new(takes_the_newest_off),
         Sentence::Cells,
         &[Sentence::Order],
     ),
@@ -788,7 +845,7 @@ fn a_run_that_breaks_a_sentence_is_made_short() {
     let reduced = reduce_by(&fails, shortest.expect("a run that breaks a sentence"));
     println!("{}\n{:#?}", reduced.how, reduced.calls);
     assert!(reduced.how.contains("; Door: "), "{}", reduced.how);
-    assert_eq!(reduced.calls.len(), 7);
+    assert_eq!(reduced.calls.len(), 5);
 }
 
 /// "demand 3 alone would let them by": a bench that moves nothing keeps every promise about

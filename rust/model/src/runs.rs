@@ -101,7 +101,8 @@ impl Runner {
     /// Makes the next call.
     pub fn call(&mut self) -> (Call, Outcome) {
         self.speaking = None;
-        let call = self.next_call();
+        let mut call = self.next_call();
+        self.lend(&mut call);
         let found = outcome(&mut self.network, &call);
         self.heed(&call, &found.answer);
         (call, found)

@@ -11,7 +11,7 @@ use crate::set::Setting;
 use crate::sizes::LINKS;
 use crate::tokens::{Destination, Kind};
 
-const CALLS: &str = "fresh, blank, wire, set, aim, output, input, step or steps";
+const CALLS: &str = "fresh, blank, wire, set, aim, output, input, step, line or steps";
 
 /// Reads a call.
 pub fn parse_call(text: &str) -> Result<Call, String> {

@@ -285,7 +285,7 @@ fn no_network_yet() {
 /// Lines that are no call, and what was expected.
 #[rustfmt::skip]
 const UNREADABLE_CALLS: [(&str, &str); 32] = [
-    ("jump 0 0", "expected fresh, blank, wire, set, aim, output, input, step or steps, found jump"),
+    ("jump 0 0", "expected fresh, blank, wire, set, aim, output, input, step, line or steps, found jump"),
     ("blank", "expected a number of nodes, found nothing"),
     ("blank 1", "expected a number of memory words, found nothing"),
     ("blank 1 832 0", "expected no more words, found 0"),

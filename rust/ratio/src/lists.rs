@@ -12,8 +12,13 @@ use crate::baseline::{Network, Stepped};
 use crate::states::{going_round, State};
 use crate::timing::{by_turns, nanoseconds_of};
 
-/// How many Steps a list has.
-pub const STEPS: usize = 10_000;
+/// How often a list goes round the boards. No line is stepped in it: it ends before the credit does.
+const ROUNDS: usize = 16;
+
+/// How many Steps the list of so many boards has.
+pub fn steps(boards: usize) -> usize {
+    ROUNDS * (LINKS + PORTS) * boards
+}
 
 /// The networks on which lists are timed, by the number of their boards.
 pub const BOARDS: [usize; 3] = [1, 4, MOST_NODES];
@@ -42,15 +47,14 @@ pub fn lists() -> Vec<List> {
 }
 
 /// Two rounds of the ports behind links, then one of the others, over and over, each port on every
-/// board in turn. Of 21 Steps 16 are of messages that go round over the cables, one that opens a
-/// circuit to eight that move a token; two hand tokens to the sink of their board until there are none
-/// left, after which they are Idle; one hands to a channel-end, which is soon full, and two have a
-/// header that waits for it.
+/// board in turn. Of 21 Steps 16 are of messages that leave for the lines, one that opens a circuit to
+/// eight that move a token; two hand tokens to the sink of their board; one hands to a channel-end,
+/// which is soon full, and two have a header that waits for it.
 fn records(boards: usize) -> Vec<StepRecord> {
     let ports = (0..LINKS).chain(0..PORTS);
     let round = ports.flat_map(|port| (0..boards).map(move |slot| StepRecord { slot, port }));
     let round: Vec<StepRecord> = round.collect();
-    round.iter().copied().cycle().take(STEPS).collect()
+    round.iter().copied().cycle().take(steps(boards)).collect()
 }
 
 /// The library's list, on words of its own.
@@ -73,19 +77,28 @@ impl<'a> Library<'a> {
     pub fn restore(&mut self) {
         self.lent.state.clone_from(&self.begin.state);
         self.lent.memory.clone_from(&self.begin.memory);
+        self.lent.lines.clone_from(&self.begin.lines);
     }
 
     pub fn make(&mut self, list: &[StepRecord]) {
-        let Lent { state, memory } = &mut self.lent;
-        let answer = raw::steps(state, memory, list, &mut self.results);
+        let Lent {
+            state,
+            memory,
+            lines,
+        } = &mut self.lent;
+        let answer = raw::steps(state, memory, lines, list, &mut self.results);
         assert_eq!(answer, bench::Answer::Done);
     }
 
     /// The same by single calls, as a host makes them.
     pub fn make_one_by_one(&mut self, list: &[StepRecord]) {
-        let Lent { state, memory } = &mut self.lent;
+        let Lent {
+            state,
+            memory,
+            lines,
+        } = &mut self.lent;
         for record in list {
-            black_box(raw::step(state, memory, record.slot, record.port));
+            black_box(raw::step(state, memory, lines, record.slot, record.port));
         }
     }
 }
@@ -99,8 +112,7 @@ pub struct Baseline {
 
 impl Baseline {
     pub fn at(state: &State, many: usize) -> Baseline {
-        let Lent { state, memory } = &state.lent;
-        let begin = Network::read(state, memory).unwrap_or_default();
+        let begin = Network::read(&state.lent).unwrap_or_default();
         Baseline {
             network: begin.clone(),
             begin,

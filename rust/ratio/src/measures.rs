@@ -1,11 +1,12 @@
 //! What is timed: from which state, and which calls.
 
+use compare::runs;
 use model::script;
 use model::sizes::{MOST_NODES, TILE_PORTS};
 use model::tokens::Kind;
 use model::Call;
 
-use crate::states::{empty, half_full, nothing, State};
+use crate::states::{empty, half_full, nothing, sent, State};
 
 /// The head of which the hub is updated and the lanes are not.
 const HALF_UPDATE: &str = include_str!("../../../examples/traces/half-update.txt");
@@ -29,7 +30,9 @@ pub enum Work {
     All(Vec<Call>),
 }
 
-/// What `ratio` prints, in its order.
+/// What `ratio` prints, in its order. The request for lines has two limits: `is_sound` of half full
+/// boards, whose lines are empty, is to cost 1.15 of what it did before it at most, and a line step 1.3
+/// of the baseline's.
 pub fn measures() -> Vec<Measure> {
     let full = half_full(MOST_NODES);
     let on_full = |name: &str, call| Measure {
@@ -43,6 +46,11 @@ pub fn measures() -> Vec<Measure> {
         on_full("step-to-channel", step_to_channel),
         on_full("output", output),
         on_full("input", input),
+        Measure {
+            name: "line-step/16-half-full".to_owned(),
+            begin: sent(MOST_NODES),
+            work: round_the_boards(MOST_NODES, line_step),
+        },
         half_update(),
     ];
     measures.extend(BOARDS.map(|boards| Measure {
@@ -63,25 +71,31 @@ fn is_sound(name: String, begin: State) -> Measure {
     Measure { name, begin, work }
 }
 
-/// The whole script, from its Fresh on.
+/// The whole script, from its Fresh on, with its lines emptied behind each call.
 fn half_update() -> Measure {
     let lines = match script::parse(HALF_UPDATE) {
         Ok(lines) => lines,
         Err(fault) => unreachable!("the example is a script: {fault:?}"),
     };
+    let calls = runs::emptied(lines.into_iter().map(|line| line.call));
     Measure {
         name: "script/half-update".to_owned(),
         begin: nothing(),
-        work: Work::All(lines.into_iter().map(|line| line.call).collect()),
+        work: Work::All(calls),
     }
 }
 
-/// A token of port 8 moves over link A to the next board.
+/// A token of port 8 moves on to the line from link A to the next board.
 fn step_over_cable(slot: usize) -> Call {
     Call::Step {
         slot,
         port: TILE_PORTS.start,
     }
+}
+
+/// The token on the line from link A arrives at the next board.
+fn line_step(slot: usize) -> Call {
+    Call::Line { slot, link: 0 }
 }
 
 /// A token of port 4 is handed to channel 7.

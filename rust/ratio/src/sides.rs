@@ -2,6 +2,8 @@
 
 use bench::raw;
 use compare::calls::{self, Lent};
+use model::calls::Beginning;
+use model::network::Start;
 use model::{Answer, Call};
 
 use crate::baseline;
@@ -22,9 +24,6 @@ pub struct Library {
     pub lent: Lent,
 }
 
-/// A start, on memories that are lent to it.
-type Start = fn(&mut [u32], &mut [u16], usize) -> bench::Answer;
-
 impl Library {
     pub fn at(state: &State) -> Library {
         let begin = state.lent.clone();
@@ -33,11 +32,22 @@ impl Library {
     }
 
     /// A host lends memories of the lengths that it asks for, and keeps them.
-    fn start(&mut self, start: Start, nodes: usize, memory_words: usize) -> Answer {
+    fn start(&mut self, beginning: Beginning) -> Answer {
+        let nodes = beginning.nodes;
         self.lent.state.resize(nodes * raw::state_words(), 0);
-        self.lent.memory.resize(memory_words, 0);
-        let Lent { state, memory } = &mut self.lent;
-        match start(state, memory, nodes) {
+        self.lent.memory.resize(beginning.memory_words, 0);
+        let line_words = beginning.line_words.unwrap_or(0);
+        self.lent.lines.resize(line_words, 0);
+        let Lent {
+            state,
+            memory,
+            lines,
+        } = &mut self.lent;
+        let answer = match beginning.start {
+            Start::Fresh => raw::fresh(state, memory, lines, nodes),
+            Start::Blank => raw::blank(state, memory, lines, nodes),
+        };
+        match answer {
             bench::Answer::Done => Answer::Done,
             refused => unreachable!("no measure has a start that is refused: {refused:?}"),
         }
@@ -50,26 +60,20 @@ impl Side for Library {
     }
 
     fn make(&mut self, call: &Call) -> Answer {
-        match *call {
-            Call::Fresh {
-                nodes,
-                memory_words,
-            } => self.start(raw::fresh, nodes, memory_words),
-            Call::Blank {
-                nodes,
-                memory_words,
-            } => self.start(raw::blank, nodes, memory_words),
-            _ => calls::make(&mut self.lent, call),
+        match call.begins() {
+            Some(beginning) => self.start(beginning),
+            None => calls::make(&mut self.lent, call),
         }
     }
 
     fn is_sound(&self) -> bool {
-        raw::is_sound(&self.lent.state, &self.lent.memory)
+        raw::is_sound(&self.lent.state, &self.lent.memory, &self.lent.lines)
     }
 
     fn restore(&mut self) {
         self.lent.state.clone_from(&self.begin.state);
         self.lent.memory.clone_from(&self.begin.memory);
+        self.lent.lines.clone_from(&self.begin.lines);
     }
 }
 
@@ -113,8 +117,7 @@ pub struct Baseline {
 
 impl Baseline {
     pub fn at(state: &State) -> Baseline {
-        let Lent { state, memory } = &state.lent;
-        let begin = baseline::Network::read(state, memory).unwrap_or_default();
+        let begin = baseline::Network::read(&state.lent).unwrap_or_default();
         let network = begin.clone();
         Baseline { begin, network }
     }

@@ -3,7 +3,7 @@
 use bench::{raw, StepRecord, Stepped};
 use compare::calls::{self, Lent};
 use compare::reading;
-use model::network::{memory_words, LinkEnd};
+use model::network::{LinkEnd, Start};
 use model::random::Random;
 use model::set::Setting;
 use model::sizes::{LINKS, REPLY_PORT, TILE_PORTS};
@@ -50,11 +50,21 @@ pub fn half_full(boards: usize) -> State {
     of_lent(with_replies(lent, 1), boards)
 }
 
-/// Every port of every board holds 32 tokens, and no list of Steps comes to an end of its work.
+/// The same, with a token of port 8 on the line from link A of every board.
+pub fn sent(boards: usize) -> State {
+    let mut lent = half_full(boards).lent;
+    for slot in 0..boards {
+        step_alone(&mut lent, slot, TILE_PORTS.start, 1);
+    }
+    of_lent(lent, boards)
+}
+
+/// Every port of every board holds 32 tokens, and the list of Steps that is timed does not come to an
+/// end of its work.
 ///
 /// The links are as in [`half_full`], and all boards have number 0. In each of ports 0..7 there are
-/// four messages for a number that no board has: they go round over the cables for ever, those in one
-/// port over one link. Of the ports 8..11 the first two have a message for the sink of their own
+/// four messages for a number that no board has: they leave for the lines, those in one port by one
+/// link, which has credit for all of them. Of the ports 8..11 the first two have a message for the sink of their own
 /// board, the others one for channel 7, where the replies in port 12 are for too.
 pub fn going_round(boards: usize) -> State {
     let mut lent = linked(boards);
@@ -116,18 +126,14 @@ fn of_lent(lent: Lent, boards: usize) -> State {
 }
 
 fn read(lent: &Lent) -> Network {
-    match reading::read(&lent.state, &lent.memory) {
+    match reading::read(lent) {
         Ok(network) => network,
         Err(unreadable) => unreachable!("calls leave a state: {}", unreadable.0),
     }
 }
 
 fn fresh(nodes: usize) -> Call {
-    let memory_words = memory_words(nodes).unwrap_or(0);
-    Call::Fresh {
-        nodes,
-        memory_words,
-    }
+    calls::beginning(Start::Fresh, nodes)
 }
 
 /// Makes a call that is done.
@@ -167,7 +173,22 @@ fn enable(lent: &mut Lent, slot: usize) {
 fn greet(lent: &mut Lent, slot: usize) {
     for link in 0..LINKS {
         set(lent, slot, Setting::Hello { link });
+        empty_lines(lent);
     }
+}
+
+/// Steps lines until nothing is on any.
+fn empty_lines(lent: &mut Lent) {
+    while let Some(call) = line_in_use(lent) {
+        make(lent, call);
+    }
+}
+
+fn line_in_use(lent: &Lent) -> Option<Call> {
+    let looks = lent.looks();
+    let lines = (0..looks.nodes()).flat_map(|slot| (0..LINKS).map(move |link| (slot, link)));
+    let mut used = lines.filter(|&(slot, link)| looks.line(slot, link).held > 0);
+    used.next().map(|(slot, link)| Call::Line { slot, link })
 }
 
 /// 32 tokens over each link, in streams of 8, and 32 more behind in each of ports 8..11.
@@ -251,11 +272,22 @@ fn end(lent: &mut Lent, slot: usize, channel_end: usize) {
     );
 }
 
-/// So many Steps of a port, each of which changes something.
+/// So many Steps of a port, each of which changes something, and all that they put on lines arrives.
 fn step(lent: &mut Lent, slot: usize, port: usize, times: usize) {
+    step_alone(lent, slot, port, times);
+    empty_lines(lent);
+}
+
+/// The same, and nothing arrives.
+fn step_alone(lent: &mut Lent, slot: usize, port: usize, times: usize) {
     let list = vec![StepRecord { slot, port }; times];
     let mut results = vec![0; times];
-    let answer = raw::steps(&mut lent.state, &mut lent.memory, &list, &mut results);
+    let Lent {
+        state,
+        memory,
+        lines,
+    } = lent;
+    let answer = raw::steps(state, memory, lines, &list, &mut results);
     assert_eq!(answer, bench::Answer::Done);
     for answer in results.into_iter().map(bench::Answer::from_crossed) {
         let changed = matches!(answer, Some(bench::Answer::Step(stepped))

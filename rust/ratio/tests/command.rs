@@ -38,6 +38,11 @@ fn a_call() {
 }
 
 #[test]
+fn a_line_step() {
+    assert_lines("line-step/16-half-full", ["baseline", "model"]);
+}
+
+#[test]
 fn a_step_of_a_list() {
     let others = ["untested-baseline", "single-library"];
     assert_lines("list-step/1-half-full", others);

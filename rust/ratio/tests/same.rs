@@ -4,24 +4,26 @@
 
 use std::collections::BTreeMap;
 
-use bench::{raw, Looks, StepRecord};
-use compare::calls::{make, Lent};
+use bench::StepRecord;
+use compare::calls::{beginning, begun, make, Lent};
 use compare::damaged::{other_things, other_words};
-use compare::layout::{NODE_TOKENS, NODE_WORDS};
+use compare::layout::{NODE_LINES, NODE_TOKENS, NODE_WORDS};
 use compare::{choice, filling};
 use model::answers::{Cause, Opening};
+use model::calls::Beginning;
+use model::lines::credit;
 use model::network::{Hop, LinkEnd, Start};
 use model::random::Random;
 use model::runs::Runner;
 use model::set::Setting;
 use model::sizes::{PORTS, REPLY_PORT};
-use model::tokens::Token;
+use model::tokens::{Token, HELLO};
 use model::{Answer, Call, Network, No};
 use ratio::baseline::{self, Stepped};
-use ratio::lists::{self, lists, List, STEPS};
+use ratio::lists::{self, lists, steps, List};
 use ratio::measures::{measures, Measure};
 use ratio::sides::{Baseline, Library};
-use ratio::states::{going_round, half_full, State};
+use ratio::states::{going_round, half_full, sent, State};
 use ratio::timing::answers;
 
 const RUNS: u64 = 40;
@@ -36,7 +38,7 @@ struct Made {
 
 /// The baseline at these words.
 fn baseline_at(lent: &Lent) -> Box<baseline::Network> {
-    baseline::Network::read(&lent.state, &lent.memory).unwrap_or_default()
+    baseline::Network::read(lent).unwrap_or_default()
 }
 
 /// A Step that hands a control unit the END or PAUSE of a switch message, which the baseline does not
@@ -54,7 +56,7 @@ fn ends_message(lent: &Lent, call: &Call) -> bool {
     let Call::Step { slot, port } = *call else {
         return false;
     };
-    let looks = Looks::over(&lent.state, &lent.memory);
+    let looks = lent.looks();
     let first = looks.port_tokens(slot, port).next();
     let ends = first.is_some_and(|word| word == 0x0101 || word == 0x0102);
     ends && looks.port(slot, port).hop() == Some(bench::Hop::Control)
@@ -68,7 +70,7 @@ fn compare(lent: &Lent, call: &Call, from: &str, made: &mut Made) {
     }
     let mut found = lent.clone();
     let mut network = baseline_at(lent);
-    assert_eq!(network.write(), (lent.state.clone(), lent.memory.clone()));
+    assert_eq!(network.write(), *lent);
     let expected = make(&mut found, call);
     let answer = network.make(call);
     assert_eq!(answer, expected, "{from}: {call}");
@@ -76,7 +78,7 @@ fn compare(lent: &Lent, call: &Call, from: &str, made: &mut Made) {
         return;
     }
     assert!(
-        network.write() == (found.state, found.memory),
+        network.write() == found,
         "{from}: {call} leaves other words"
     );
     made.calls += 1;
@@ -87,7 +89,7 @@ fn compare(lent: &Lent, call: &Call, from: &str, made: &mut Made) {
 fn random_runs_and_calls_aside() {
     let mut made = Made::default();
     for seed in 0..RUNS {
-        let mut runner = Runner::new(seed);
+        let mut runner = Runner::by_line(seed);
         let mut random = Random::new(seed);
         for place in 0..CALLS {
             let before = Lent::of(runner.network(), &mut random);
@@ -116,16 +118,14 @@ fn runs_that_fill_ports_and_channel_ends() {
     println!("{} calls, {} not refused", made.calls, made.done);
 }
 
-/// Either start, of every count and of lengths about the right one, on nothing and on a network.
+/// Either start, of every count and of lengths about the right ones, on nothing and on a network.
 #[test]
 fn every_start() {
     let mut made = Made::default();
     let begins = [Lent::default(), half_full(2).lent];
     for start in Start::ALL {
         for nodes in 0..=17 {
-            let whole = nodes * NODE_TOKENS;
-            for memory_words in [whole.saturating_sub(1), whole, whole + 1] {
-                let call = Call::beginning(start, nodes, memory_words);
+            for call in starts(start, nodes) {
                 for lent in &begins {
                     compare(lent, &call, "a start", &mut made);
                 }
@@ -136,6 +136,22 @@ fn every_start() {
     assert_eq!(made.done, 2 * 2 * 16);
 }
 
+/// A start of so many nodes, with each of its memories of a length about the right one.
+fn starts(start: Start, nodes: usize) -> Vec<Call> {
+    let about = |whole: usize| [whole.saturating_sub(1), whole, whole + 1];
+    let lengths = about(nodes * NODE_TOKENS).into_iter().flat_map(|tokens| {
+        let lines = about(nodes * NODE_LINES).map(Some).into_iter();
+        lines.chain([None]).map(move |lines| (tokens, lines))
+    });
+    let each = lengths.map(|(memory_words, line_words)| Beginning {
+        start,
+        nodes,
+        memory_words,
+        line_words,
+    });
+    each.map(Call::from).collect()
+}
+
 /// Cables between links A and E of two boards, each disabled or enabled, unwired or wired.
 #[test]
 fn every_wire() {
@@ -144,7 +160,7 @@ fn every_wire() {
     let wire = |one, other| Call::Wire { one, other };
     for start in Start::ALL {
         let mut lent = Lent::default();
-        make(&mut lent, &Call::beginning(start, 2, 2 * NODE_TOKENS));
+        make(&mut lent, &beginning(start, 2));
         let mut wired = lent.clone();
         make(&mut wired, &wire(end(0, 0), end(1, 4)));
         for lent in [&lent, &wired] {
@@ -158,10 +174,10 @@ fn every_wire() {
     assert_eq!((made.calls, made.done), (2 * 8, 2 * (4 + 1)));
 }
 
-/// A board with a cable from link A to link B, this credit on A, and so many tokens, which are being
-/// dropped, in port 1.
-fn cabled(credit: usize, held: usize) -> Network {
-    let mut network = Network::fresh(1, 832);
+/// A board with a cable from link A to link B, so much issued by B and in A's hand, and so many tokens,
+/// which are being dropped, in port 1.
+fn cabled(issued: usize, held: usize) -> Network {
+    let mut network = begun(Start::Fresh, 1);
     let node = &mut network.nodes[0];
     for link in 0..2 {
         let far = LinkEnd {
@@ -172,13 +188,32 @@ fn cabled(credit: usize, held: usize) -> Network {
         node.links[link].enabled = true;
         node.links[link].greeted = true;
     }
-    node.links[0].credit = credit;
+    node.links[0].credit = issued;
+    node.links[1].issued = issued;
     node.ports[1].hop = Some(Hop::Dropped(Cause::Split));
     node.ports[1].tokens = vec![Token::data(7); held].into();
     network
 }
 
-/// At HELLO, and where a token is taken from the far buffer.
+/// What is on A's line in the states in which something arrives, with what else is so then.
+fn arriving(issued: usize, held: usize) -> Vec<Network> {
+    let (mut token, mut hello, mut both) = (
+        cabled(issued, held),
+        cabled(issued, held),
+        cabled(issued, held),
+    );
+    let [sent, greeted, doubled] =
+        [&mut token, &mut hello, &mut both].map(|network| &mut network.nodes[0].links[0]);
+    sent.line.push_back(Token::data(9));
+    sent.credit = issued.saturating_sub(1);
+    greeted.line.push_back(Token::control(HELLO));
+    greeted.credit = 0;
+    doubled.line.push_back(credit(8));
+    both.nodes[0].links[0].issued = 8;
+    vec![token, hello, both]
+}
+
+/// At HELLO, where a token is taken, and where a token, a HELLO or a credit arrives: sound or not.
 #[test]
 fn every_grant() {
     let mut made = Made::default();
@@ -188,20 +223,32 @@ fn every_grant() {
         setting: Setting::Hello { link: 0 },
     };
     for held in 0..=64 {
-        for credit in 0..=64 - held {
-            let lent = Lent::of(Some(&cabled(credit, held)), &mut random);
-            let from = format!("credit {credit}, {held} held");
+        for issued in 0..=64 - held {
+            let lent = Lent::of(Some(&cabled(issued, held)), &mut random);
+            let from = format!("{issued} issued, {held} held");
             for call in [hello(), Call::Step { slot: 0, port: 1 }] {
                 compare(&lent, &call, &from, &mut made);
             }
+            assert_eq!(made.done, made.calls, "{from}");
         }
     }
-    assert_eq!(made.done, made.calls);
+    for held in 0..=64 {
+        for issued in 0..=64 - held {
+            for network in arriving(issued, held) {
+                let lent = Lent::of(Some(&network), &mut random);
+                let from = format!("{issued} issued, {held} held");
+                for link in 0..2 {
+                    compare(&lent, &Call::Line { slot: 0, link }, &from, &mut made);
+                }
+            }
+        }
+    }
+    assert!(made.done > 10_000, "{} of {}", made.done, made.calls);
 }
 
 /// Both sides' verdict on the same words; true for sound.
 fn verdict(lent: &Lent, from: &str) -> bool {
-    let expected = raw::is_sound(&lent.state, &lent.memory);
+    let expected = lent.looks().is_sound();
     assert_eq!(baseline_at(lent).is_sound(), expected, "{from}");
     expected
 }
@@ -210,7 +257,7 @@ fn verdict(lent: &Lent, from: &str) -> bool {
 fn damaged_memories_have_the_same_verdict() {
     let (mut sound, mut unsound) = (0, 0);
     for seed in 0..RUNS {
-        let mut runner = Runner::new(seed);
+        let mut runner = Runner::by_line(seed);
         let mut random = Random::new(seed ^ 0xDA3A);
         for place in 0..CALLS {
             runner.call();
@@ -234,20 +281,21 @@ fn damaged_memories_have_the_same_verdict() {
 fn words_all_alike_and_wrong_lengths_have_the_same_verdict() {
     for word in [0, 1, 2, 3, 5, 12, 64, 255, u32::MAX] {
         for token in [0, 0x101, 0x600, u16::MAX] {
-            let (one, lent) = (NODE_WORDS, NODE_TOKENS);
-            for (words, tokens) in [
-                (one, lent),
-                (one * 16, lent * 16),
-                (one + 1, lent),
-                (one, 64),
+            for (words, tokens, lines) in [
+                (NODE_WORDS, NODE_TOKENS, NODE_LINES),
+                (NODE_WORDS * 16, NODE_TOKENS * 16, NODE_LINES * 16),
+                (NODE_WORDS + 1, NODE_TOKENS, NODE_LINES),
+                (NODE_WORDS, 64, NODE_LINES),
+                (NODE_WORDS, NODE_TOKENS, 66),
             ] {
                 let lent = Lent {
                     state: vec![word; words],
                     memory: vec![token; tokens],
+                    lines: vec![token; lines],
                 };
                 verdict(
                     &lent,
-                    &format!("{words} words {word}, {tokens} tokens {token}"),
+                    &format!("{words} words {word}, {tokens} and {lines} of {token}"),
                 );
             }
         }
@@ -256,12 +304,13 @@ fn words_all_alike_and_wrong_lengths_have_the_same_verdict() {
 
 #[test]
 fn damaged_half_full_boards_have_the_same_verdict() {
-    let State { network, .. } = half_full(3);
-    let network = network.expect("a network");
     let mut random = Random::new(7);
-    for round in 0..5000 {
-        for damage in [other_words, other_things] {
-            verdict(&damage(&network, &mut random), &format!("round {round}"));
+    for State { network, .. } in [half_full(3), sent(3)] {
+        let network = network.expect("a network");
+        for round in 0..2500 {
+            for damage in [other_words, other_things] {
+                verdict(&damage(&network, &mut random), &format!("round {round}"));
+            }
         }
     }
 }
@@ -274,8 +323,10 @@ fn assert_half_full(state: &State) {
         assert!(held.eq([32; PORTS]));
     }
     assert!(model::sound::is_sound(network));
-    let Lent { state, memory } = &state.lent;
-    assert!(raw::is_sound(state, memory) && raw::is_tight(state, memory));
+    let on_lines = network.nodes.iter().flat_map(|node| &node.links);
+    assert!(on_lines.clone().all(|link| link.line.is_empty()));
+    let looks = state.lent.looks();
+    assert!(looks.is_sound() && looks.is_tight());
 }
 
 #[test]
@@ -302,13 +353,15 @@ fn the_measures_do_what_they_say() {
         let mut baseline = Baseline::at(&begin);
         let found = answers(&mut library, &work);
         assert_eq!(answers(&mut baseline, &work), found, "{name}");
-        let Lent { state, memory } = library.lent;
-        assert!(baseline.network.write() == (state, memory), "{name}");
+        assert!(baseline.network.write() == library.lent, "{name}");
         let refused = found
             .iter()
             .filter(|answer| matches!(answer, Answer::No(_)));
         let expected = 2 * usize::from(name.starts_with("script"));
         assert_eq!(refused.count(), expected, "{name}");
+        if name.starts_with("line-step") {
+            assert!(found.iter().all(is_an_arrival), "{name}: {found:?}");
+        }
         if name.starts_with("step") {
             assert!(
                 found.iter().all(|answer| *answer == Answer::Moved),
@@ -316,6 +369,10 @@ fn the_measures_do_what_they_say() {
             );
         }
     }
+}
+
+fn is_an_arrival(answer: &Answer) -> bool {
+    matches!(answer, Answer::Arrived(_))
 }
 
 /// A result of the baseline as the library writes it: which case in the upper half, what it carries in
@@ -351,9 +408,8 @@ fn compare_lists(state: &State, list: &[StepRecord], from: &str) -> Vec<u64> {
         library.lent == one_by_one.lent,
         "{from}: the list leaves other words"
     );
-    let Lent { state, memory } = library.lent;
     assert!(
-        baseline.network.write() == (state, memory),
+        baseline.network.write() == library.lent,
         "{from}: other words"
     );
     found
@@ -378,7 +434,7 @@ fn random_list(mut lent: Lent, random: &mut Random, many: usize) -> Vec<StepReco
 }
 
 fn random_record(lent: &Lent, random: &mut Random) -> StepRecord {
-    let looks = Looks::over(&lent.state, &lent.memory);
+    let looks = lent.looks();
     let places = (0..looks.nodes()).flat_map(|slot| (0..PORTS).map(move |port| (slot, port)));
     let holding: Vec<_> = places
         .filter(|&(slot, port)| looks.port(slot, port).held > 0)
@@ -395,7 +451,7 @@ fn random_record(lent: &Lent, random: &mut Random) -> StepRecord {
 fn lists_at_random() {
     let mut cases = BTreeMap::new();
     for seed in 0..RUNS {
-        let mut runner = Runner::new(seed);
+        let mut runner = Runner::by_line(seed);
         let mut random = Random::new(seed ^ 0x1157);
         for place in 0..CALLS {
             runner.call();
@@ -450,13 +506,15 @@ fn the_lists_do_what_they_say() {
         let mut cases = BTreeMap::new();
         count(&mut cases, compare_lists(&begin, &records, &name));
         println!("{name}: {cases:?}");
-        assert_eq!(cases.values().sum::<usize>(), STEPS);
-        let share = |case: u64| cases.get(&case).map_or(0, |many| 100 * many / STEPS);
-        // Idle, where the sink has had all; Waiting; Moved; a circuit opened to a link.
-        assert!(share(4) <= 9, "{name}");
-        assert!((12..=16).contains(&share(5)), "{name}");
-        assert!(share(6) >= 66, "{name}");
-        assert!((7..=9).contains(&share(7)), "{name}");
+        let boards = begin.network.as_ref().map_or(0, |it| it.nodes.len());
+        let all = steps(boards);
+        assert_eq!(cases.values().sum::<usize>(), all);
+        let share = |case: u64| cases.get(&case).map_or(0, |many| 100 * many / all);
+        // Idle; Waiting; Moved; a circuit opened to a link.
+        assert_eq!(share(4), 0, "{name}");
+        assert!((10..=14).contains(&share(5)), "{name}");
+        assert!(share(6) >= 72, "{name}");
+        assert!((8..=10).contains(&share(7)), "{name}");
         assert!(cases.keys().all(|case| (4..=8).contains(case)), "{name}");
     }
 }

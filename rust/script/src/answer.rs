@@ -27,6 +27,8 @@ pub enum Answer {
     Dropped(Cause),
     Malformed,
     Unheard,
+    /// Of a line step: one has arrived, and it brought this grant.
+    Arrived(u32),
     /// Of a list: what each of its Steps answered, in order.
     Results(Vec<Answer>),
 }
@@ -50,6 +52,7 @@ impl From<bench::Answer> for Answer {
             bench::Answer::Granted(credit) => Answer::Granted(credit),
             bench::Answer::Token(value) => Answer::Token(value),
             bench::Answer::Step(stepped) => stepped.into(),
+            bench::Answer::Arrived(grant) => Answer::Arrived(grant),
             // tests/text.rs has every answer of the library.
             other => unreachable!("a script has no words for {other:?}"),
         }
@@ -108,6 +111,7 @@ impl fmt::Display for Answer {
             Answer::Dropped(cause) => write!(f, "dropped {}", cause_word(cause)),
             Answer::Malformed => f.write_str("malformed"),
             Answer::Unheard => f.write_str("unheard"),
+            Answer::Arrived(grant) => write!(f, "moved {grant}"),
             Answer::Results(ref answers) => write_results(f, answers),
         }
     }

@@ -11,11 +11,13 @@ pub enum Call {
     Fresh {
         nodes: usize,
         memory_words: usize,
+        line_words: usize,
     },
     /// The start with every link disabled.
     Blank {
         nodes: usize,
         memory_words: usize,
+        line_words: usize,
     },
     Wire {
         one: LinkEnd,
@@ -51,6 +53,11 @@ pub enum Call {
         slot: usize,
         port: usize,
     },
+    /// One off the far end of the line that starts at a link.
+    Line {
+        slot: usize,
+        link: usize,
+    },
     /// A list of Steps, with room for so many results.
     Steps {
         results: usize,
@@ -59,9 +66,9 @@ pub enum Call {
 }
 
 /// The calls as a line has them, by their first word.
-pub const FORMS: [(&str, &str); 9] = [
-    ("fresh", "fresh NODES MEMORY_WORDS"),
-    ("blank", "blank NODES MEMORY_WORDS"),
+pub const FORMS: [(&str, &str); 10] = [
+    ("fresh", "fresh NODES MEMORY_WORDS lines LINE_WORDS"),
+    ("blank", "blank NODES MEMORY_WORDS lines LINE_WORDS"),
     ("wire", "wire SLOT LINK SLOT LINK"),
     ("set", "set SLOT SETTING INDEX VALUE"),
     (
@@ -71,6 +78,7 @@ pub const FORMS: [(&str, &str); 9] = [
     ("output", "output SLOT CHANNELEND data VALUE, or output SLOT CHANNELEND control VALUE"),
     ("input", "input SLOT CHANNELEND data, or input SLOT CHANNELEND control"),
     ("step", "step SLOT PORT"),
+    ("line", "line SLOT LINK"),
     ("steps", "steps RESULTS SLOT PORT SLOT PORT .."),
 ];
 
@@ -82,8 +90,14 @@ fn kind_word(kind: Kind) -> &'static str {
     }
 }
 
-/// `SETTING INDEX VALUE`.
-fn write_setting(f: &mut fmt::Formatter<'_>, setting: Setting) -> fmt::Result {
+/// `START NODES MEMORY_WORDS lines LINE_WORDS`.
+fn write_start(f: &mut fmt::Formatter<'_>, name: &str, numbers: [usize; 3]) -> fmt::Result {
+    let [nodes, memory_words, line_words] = numbers;
+    write!(f, "{name} {nodes} {memory_words} lines {line_words}")
+}
+
+/// `set SLOT SETTING INDEX VALUE`.
+fn write_setting(f: &mut fmt::Formatter<'_>, slot: usize, setting: Setting) -> fmt::Result {
     let (name, index, value) = match setting {
         Setting::Number(value) => ("number", 0, value),
         Setting::Width(value) => ("width", 0, value),
@@ -92,14 +106,18 @@ fn write_setting(f: &mut fmt::Formatter<'_>, setting: Setting) -> fmt::Result {
         Setting::Network { link, value } => ("network", link, value),
         Setting::Enable { link, value } => ("enable", link, value),
     };
-    write!(f, "{name} {index} {value}")
+    write!(f, "set {slot} {name} {index} {value}")
 }
 
 /// `channel NUMBER CHANNEL` or `control NUMBER 0`.
-fn write_destination(f: &mut fmt::Formatter<'_>, destination: Destination) -> fmt::Result {
-    match destination {
-        Destination::Channel { number, channel } => write!(f, "channel {number} {channel}"),
-        Destination::Control { number } => write!(f, "control {number} 0"),
+struct Aimed(Destination);
+
+impl fmt::Display for Aimed {
+    fn fmt(&self, f: &mut fmt::Formatter<'_>) -> fmt::Result {
+        match self.0 {
+            Destination::Channel { number, channel } => write!(f, "channel {number} {channel}"),
+            Destination::Control { number } => write!(f, "control {number} 0"),
+        }
     }
 }
 
@@ -118,30 +136,25 @@ impl fmt::Display for Call {
             Call::Fresh {
                 nodes,
                 memory_words,
-            } => write!(f, "fresh {nodes} {memory_words}"),
+                line_words,
+            } => write_start(f, "fresh", [nodes, memory_words, line_words]),
             Call::Blank {
                 nodes,
                 memory_words,
-            } => write!(f, "blank {nodes} {memory_words}"),
+                line_words,
+            } => write_start(f, "blank", [nodes, memory_words, line_words]),
             Call::Wire {
                 one: LinkEnd { slot, link },
                 other,
             } => write!(f, "wire {slot} {link} {} {}", other.slot, other.link),
-            Call::Set { slot, setting } => {
-                write!(f, "set {slot} ")?;
-                write_setting(f, setting)
-            }
+            Call::Set { slot, setting } => write_setting(f, slot, setting),
             Call::Hello { slot, link } => write!(f, "set {slot} hello {link} 0"),
             Call::Aim {
                 slot,
-                channel_end,
+                channel_end: end,
                 destination,
                 network,
-            } => {
-                write!(f, "aim {slot} {channel_end} ")?;
-                write_destination(f, destination)?;
-                write!(f, " {network}")
-            }
+            } => write!(f, "aim {slot} {end} {} {network}", Aimed(destination)),
             Call::Output {
                 slot,
                 channel_end,
@@ -154,6 +167,7 @@ impl fmt::Display for Call {
                 kind,
             } => write!(f, "input {slot} {channel_end} {}", kind_word(kind)),
             Call::Step { slot, port } => write!(f, "step {slot} {port}"),
+            Call::Line { slot, link } => write!(f, "line {slot} {link}"),
             Call::Steps { results, ref list } => write_list(f, results, list),
         }
     }

@@ -30,8 +30,8 @@ every board that both have to every number that a board of either has, to CHANNE
 control unit), 0 if not given, on NETWORK, 0 if not given. Boards, links and numbers of which the same
 is said share a line.
 
-What is under way, credit, tokens, circuits and what channel-ends are aimed at, is not compared; but
-an END may have to wait for it, and the last line says on which boards it differs.
+What is under way, credit, tokens, also on lines, circuits and what channel-ends are aimed at, is not
+compared; but an END may have to wait for it, and the last line says on which boards it differs.
 
 Exit status: 0 the same settings, cables and ways; 1 something differs; 2 a script was not run to its
 end, or nothing was asked.

@@ -14,11 +14,11 @@ bench draw FILE: makes the calls of FILE and prints the network that they leave 
 
   bench draw FILE | dot -Tsvg > network.svg
 
-A board shows its number and width, its links with direction, network and credit, and what is under
-way: circuits, tokens held, and in red what waits. Left out are links with no cable that nobody has
-set, while no circuit is open by them. A cable has an arrow where a circuit is open over it, and is
-dotted where an end is disabled. Where both widths are in use, the boards at one byte are orange and
-the cables that join the two widths are red.
+A board shows its number and width, its links with direction, network, credit and what is on their
+lines, and what is under way: circuits, tokens held, and in red what waits. Left out are links with no
+cable that nobody has set, while no circuit is open by them. A cable has an arrow where a circuit is open
+over it, and is dotted where an end is disabled. Where both widths are in use, the boards at one byte are
+orange and the cables that join the two widths are red.
 
 Exit status: 0 printed; 2 the script was not run to its end.
 ";
@@ -80,7 +80,9 @@ fn colour(looks: Looks, slot: usize) -> &'static str {
 fn link_row(looks: Looks, slot: usize, index: usize) -> Option<String> {
     let seen = looks.link(slot, index);
     let name = letter(index);
-    let state = facts::link_state(&seen);
+    let on_line = facts::on_line(looks, slot, index);
+    let state = std::iter::once(facts::link_state(&seen)).chain(on_line);
+    let state = state.collect::<Vec<_>>().join(", ");
     let row = format!("<tr><td align=\"left\" port=\"{name}\">link {name}: {state}</td></tr>\n");
     let is_used = seen.user.peer().is_some();
     (seen.wired == 1 || is_used || facts::is_set(&seen)).then_some(row)

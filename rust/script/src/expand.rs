@@ -16,14 +16,15 @@ bench expand FILE: makes the calls of FILE and prints them as a plain script, wi
 FILE is a script for people, or a plain one, or both in one: any plain call may stand in it. Comments
 stay; a line of words stands as a comment, //: and the line, before the calls that it stands for.
 
-  fresh BOARDS                  the start, with the memory that so many boards need; so blank BOARDS
+  fresh BOARDS                  the start, with the memories that so many boards need; so blank BOARDS
   board NAME SLOT [number NUMBER] [width WIDTH]
                                 a name for the board in a slot, and its settings; later without SLOT
   cable BOARD.LINK BOARD.LINK   the cable, both ends enabled, HELLO from both
   route BOARD bit BIT -> direction DIRECTION
                                 a direction entry; bit FIRST..LAST for several
   link BOARD.LINK [direction DIRECTION] [network NETWORK] [enable] [disable] [hello]
-                                a link's settings, in the order written
+                                a link's settings, in the order written; behind each HELLO, here and
+                                of a cable, line steps until both lines of the cable are empty
   send BOARD.CHANNELEND to BOARD.CHANNEL [on network NETWORK]: TOKEN TOKEN ..
                                 Aim at the number that the board has then, and an Output a token;
                                 to number NUMBER channel CHANNEL for any number; without to, Outputs
@@ -35,13 +36,14 @@ stay; a line of words stands as a comment, //: and the line, before the calls th
                                 Inputs, which must answer so, else the run ends there and the line is
                                 named; receive BOARD.CHANNELEND: nothing where nothing is held
   step BOARD.PORT COUNT times   so many Steps of a port
-  settle                        Steps of all ports by slot and port, in rounds until a whole round
-                                changes nothing, at most 65536; those that changed something are
-                                kept, and what came of it is a comment
+  line BOARD.LINK COUNT times   so many steps of the line that starts at a link
+  settle                        Steps of all ports and then of all lines, by slot and port, in rounds
+                                until a whole round changes nothing, at most 65536; those that changed
+                                something are kept, and what came of it is a comment
 
 BOARD is a board's name or its slot, LINK a letter A..H. A TOKEN is a value 0..255, or END, PAUSE, ACK,
 NACK, or control-VALUE. In a plain call of such a script a board may be named for its slot and a link by its
-letter, and a full stop may part them: step hub.A, input lane1.7 data.
+letter, and a full stop may part them: step hub.A, line hub.A, input lane1.7 data.
 
 Exit status: 0 printed; 1 something else was received than a line expects, and the line is named; 2 the
 script was not run to its end.

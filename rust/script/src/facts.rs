@@ -87,6 +87,22 @@ pub fn link_state(link: &Link) -> String {
     facts.collect::<Vec<_>>().join(", ")
 }
 
+/// What an enabled link with a cable has issued and not yet received, and what is on the line that
+/// starts there, the first to arrive first.
+pub fn line(looks: Looks, slot: usize, index: usize) -> Option<String> {
+    let seen = looks.link(slot, index);
+    let issued = looks.line(slot, index).issued;
+    let on_it = on_line(looks, slot, index).unwrap_or_else(|| "nothing on its line".to_owned());
+    (seen.wired == 1 && seen.enabled == 1).then(|| format!("issued {issued}, {on_it}"))
+}
+
+/// What is on the line that starts at a link, if anything is.
+pub fn on_line(looks: Looks, slot: usize, index: usize) -> Option<String> {
+    let words: Vec<u32> = looks.line_tokens(slot, index).collect();
+    let listed = tokens(words.iter().copied());
+    (!words.is_empty()).then(|| format!("{} on its line: {listed}", words.len()))
+}
+
 /// Where a port's circuit goes, and what it holds.
 pub fn port_facts(looks: Looks, slot: usize, index: usize) -> Vec<String> {
     let circuit = looks.port(slot, index).hop().map(circuit);

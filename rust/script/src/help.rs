@@ -163,10 +163,14 @@ Plain calls, one a line, CALL, or with what came of it, CALL -> ANSWER # DIGEST:
 const ARGUMENTS: &str = "
 fresh makes boards as the boot ROM leaves them, links E..H enabled and A..D disabled; blank makes
 them with every link disabled. A script begins with either, and a later one makes the network anew.
-MEMORY_WORDS is 832 for each board.
+MEMORY_WORDS is 832 for each board, LINE_WORDS 528.
 
 SETTING INDEX VALUE is number 0 VALUE, width 0 VALUE, direction BIT VALUE, linkdirection LINK VALUE,
 network LINK VALUE, enable LINK VALUE or hello LINK 0.
+
+step puts a token that leaves a board on the line that starts at the link; a HELLO and credits go on
+lines too. line takes one off the far end of the line that starts at a link: idle where nothing is on
+it, else moved and the grant that the arrival brought, 0, 8, 16 or 64.
 
 steps makes a list of Steps at once, as if they were made one by one. RESULTS is how many results
 there is room for. The answer is no 2 where that is not how many Steps there are; else it is results

@@ -39,21 +39,22 @@ impl fmt::Display for Made {
     }
 }
 
-/// The two memories that a host lends.
+/// The memories that a host lends.
 #[derive(Clone, Debug, Default)]
 struct Lent {
     state: Vec<u32>,
     memory: Vec<u16>,
+    lines: Vec<u16>,
 }
 
 impl Lent {
     fn looks(&self) -> Looks<'_> {
-        Looks::over(&self.state, &self.memory)
+        Looks::over(&self.state, &self.memory, &self.lines)
     }
 }
 
 /// A start, on memories that are lent to it.
-type Start = fn(&mut [u32], &mut [u16], usize) -> bench::Answer;
+type Start = fn(&mut [u32], &mut [u16], &mut [u16], usize) -> bench::Answer;
 
 /// The host of a network: it lends its memories to each call. Before the first start that succeeds,
 /// Fresh or blank, they are empty, which is Unsound to every other call.
@@ -70,7 +71,12 @@ impl Host {
 
     /// A copy of the network, to try calls on.
     pub fn copy(&self) -> Bench {
-        Bench::over(self.lent.state.clone(), self.lent.memory.clone())
+        let Lent {
+            state,
+            memory,
+            lines,
+        } = self.lent.clone();
+        Bench::over(state, memory, lines)
     }
 
     /// The digest of the state, "0 while there is no network".
@@ -112,56 +118,30 @@ impl Host {
 
     /// What the proved library answers, and the clause that fails where it says Unsound.
     fn answer(&mut self, call: &Call) -> (Answer, Option<Clause>) {
-        let lent = &mut self.lent;
-        let (state, memory) = (&mut lent.state, &mut lent.memory);
-        let answer = match *call {
+        match *call {
             Call::Fresh {
                 nodes,
                 memory_words,
-            } => return self.start(raw::fresh, nodes, memory_words),
+                line_words,
+            } => self.start(raw::fresh, lent_for(nodes, memory_words, line_words), nodes),
             Call::Blank {
                 nodes,
                 memory_words,
-            } => return self.start(raw::blank, nodes, memory_words),
-            Call::Wire { one, other } => {
-                raw::wire(state, memory, one.slot, one.link, other.slot, other.link).into()
+                line_words,
+            } => self.start(raw::blank, lent_for(nodes, memory_words, line_words), nodes),
+            _ => {
+                let answer = answer_on(&mut self.lent, call);
+                let failing = failing_clause(&answer, &self.lent);
+                (answer, failing)
             }
-            Call::Set { slot, setting } => set(state, memory, slot, setting).into(),
-            Call::Hello { slot, link } => raw::hello(state, memory, slot, link).into(),
-            Call::Aim {
-                slot,
-                channel_end,
-                destination,
-                network,
-            } => aim(lent, slot, channel_end, destination, network).into(),
-            Call::Output {
-                slot,
-                channel_end,
-                kind,
-                value,
-            } => output(lent, slot, channel_end, kind, value).into(),
-            Call::Input {
-                slot,
-                channel_end,
-                kind,
-            } => input(lent, slot, channel_end, kind).into(),
-            Call::Step { slot, port } => raw::step(state, memory, slot, port).into(),
-            Call::Steps { results, ref list } => steps(lent, results, list),
-        };
-        let failing = failing_clause(&answer, lent);
-        (answer, failing)
+        }
     }
 
-    /// A start on two memories of its own: "a later Fresh that succeeds replaces the network", and so
+    /// A start on memories of its own: "a later Fresh that succeeds replaces the network", and so
     /// does a later blank.
-    fn start(
-        &mut self,
-        start: Start,
-        nodes: usize,
-        memory_words: usize,
-    ) -> (Answer, Option<Clause>) {
-        let mut lent = lent_for(nodes, memory_words);
-        let answer = start(&mut lent.state, &mut lent.memory, nodes).into();
+    fn start(&mut self, start: Start, mut lent: Lent, nodes: usize) -> (Answer, Option<Clause>) {
+        let (memory, lines) = (&mut lent.memory, &mut lent.lines);
+        let answer = start(&mut lent.state, memory, lines, nodes).into();
         let failing = failing_clause(&answer, &lent);
         if answer == Answer::Done {
             self.lent = lent;
@@ -170,13 +150,48 @@ impl Host {
     }
 }
 
+/// What a call that is no start answers on these memories.
+fn answer_on(lent: &mut Lent, call: &Call) -> Answer {
+    let (state, memory, lines) = (&mut lent.state, &mut lent.memory, &mut lent.lines);
+    let answer = match *call {
+        Call::Wire { one, other } => raw::wire(
+            state, memory, lines, one.slot, one.link, other.slot, other.link,
+        ),
+        Call::Set { slot, setting } => set(lent, slot, setting),
+        Call::Hello { slot, link } => raw::hello(state, memory, lines, slot, link),
+        Call::Aim {
+            slot,
+            channel_end,
+            destination,
+            network,
+        } => aim(lent, slot, channel_end, destination, network),
+        Call::Output {
+            slot,
+            channel_end,
+            kind,
+            value,
+        } => output(lent, slot, channel_end, kind, value),
+        Call::Input {
+            slot,
+            channel_end,
+            kind,
+        } => input(lent, slot, channel_end, kind),
+        Call::Step { slot, port } => raw::step(state, memory, lines, slot, port),
+        Call::Line { slot, link } => raw::line_step(state, memory, lines, slot, link),
+        Call::Steps { results, ref list } => return steps(lent, results, list),
+        Call::Fresh { .. } | Call::Blank { .. } => unreachable!("a start has its own memories"),
+    };
+    answer.into()
+}
+
 /// Memories for so many nodes. Any length beyond that of 16 nodes is as wrong as one word beyond,
 /// and a count that is refused is refused at any length: no more is lent than can matter.
-fn lent_for(nodes: usize, memory_words: usize) -> Lent {
-    let most_words = MOST_NODES * raw::memory_words() + 1;
+fn lent_for(nodes: usize, memory_words: usize, line_words: usize) -> Lent {
+    let at_most = |words: usize, of_node: usize| words.min(MOST_NODES * of_node + 1);
     Lent {
         state: vec![0; nodes.min(MOST_NODES) * raw::state_words()],
-        memory: vec![0; memory_words.min(most_words)],
+        memory: vec![0; at_most(memory_words, raw::memory_words())],
+        lines: vec![0; at_most(line_words, raw::line_words())],
     }
 }
 
@@ -192,7 +207,8 @@ fn failing_clause(answer: &Answer, lent: &Lent) -> Option<Clause> {
 /// are lent than can matter.
 fn steps(lent: &mut Lent, results: usize, list: &[StepRecord]) -> Answer {
     let mut results = vec![0; results.min(list.len() + 1)];
-    match raw::steps(&mut lent.state, &mut lent.memory, list, &mut results) {
+    let (memory, lines) = (&mut lent.memory, &mut lent.lines);
+    match raw::steps(&mut lent.state, memory, lines, list, &mut results) {
         bench::Answer::Done => Answer::Results(results.into_iter().map(result).collect()),
         refused => refused.into(),
     }
@@ -211,40 +227,47 @@ fn aim(
     destination: Destination,
     network: u32,
 ) -> bench::Answer {
-    let (state, memory) = (&mut lent.state, &lent.memory);
+    let (state, memory, lines) = (&mut lent.state, &lent.memory, &lent.lines);
     match destination {
         Destination::Channel { number, channel } => {
-            raw::aim_channel(state, memory, slot, end, number, channel, network)
+            raw::aim_channel(state, memory, lines, slot, end, number, channel, network)
         }
-        Destination::Control { number } => raw::aim_unit(state, memory, slot, end, number, network),
+        Destination::Control { number } => {
+            raw::aim_unit(state, memory, lines, slot, end, number, network)
+        }
     }
 }
 
 fn output(lent: &mut Lent, slot: usize, end: usize, kind: Kind, value: u8) -> bench::Answer {
-    let (state, memory) = (&mut lent.state, &mut lent.memory);
+    let (state, memory, lines) = (&mut lent.state, &mut lent.memory, &lent.lines);
     match kind {
-        Kind::Data => raw::output_data(state, memory, slot, end, value),
-        Kind::Control => raw::output_control(state, memory, slot, end, value),
+        Kind::Data => raw::output_data(state, memory, lines, slot, end, value),
+        Kind::Control => raw::output_control(state, memory, lines, slot, end, value),
     }
 }
 
 fn input(lent: &mut Lent, slot: usize, end: usize, kind: Kind) -> bench::Answer {
-    let (state, memory) = (&mut lent.state, &lent.memory);
+    let (state, memory, lines) = (&mut lent.state, &lent.memory, &lent.lines);
     match kind {
-        Kind::Data => raw::input_data(state, memory, slot, end),
-        Kind::Control => raw::input_control(state, memory, slot, end),
+        Kind::Data => raw::input_data(state, memory, lines, slot, end),
+        Kind::Control => raw::input_control(state, memory, lines, slot, end),
     }
 }
 
-fn set(state: &mut [u32], memory: &[u16], slot: usize, setting: Setting) -> bench::Answer {
+fn set(lent: &mut Lent, slot: usize, setting: Setting) -> bench::Answer {
+    let (state, memory, lines) = (&mut lent.state, &lent.memory, &mut lent.lines);
     match setting {
-        Setting::Number(value) => raw::set_number(state, memory, slot, value),
-        Setting::Width(value) => raw::set_width(state, memory, slot, value),
-        Setting::Direction { bit, value } => raw::set_direction(state, memory, slot, bit, value),
-        Setting::LinkDirection { link, value } => {
-            raw::set_link_direction(state, memory, slot, link, value)
+        Setting::Number(value) => raw::set_number(state, memory, lines, slot, value),
+        Setting::Width(value) => raw::set_width(state, memory, lines, slot, value),
+        Setting::Direction { bit, value } => {
+            raw::set_direction(state, memory, lines, slot, bit, value)
         }
-        Setting::Network { link, value } => raw::set_network(state, memory, slot, link, value),
-        Setting::Enable { link, value } => raw::set_enable(state, memory, slot, link, value),
+        Setting::LinkDirection { link, value } => {
+            raw::set_link_direction(state, memory, lines, slot, link, value)
+        }
+        Setting::Network { link, value } => {
+            raw::set_network(state, memory, lines, slot, link, value)
+        }
+        Setting::Enable { link, value } => raw::set_enable(state, memory, lines, slot, link, value),
     }
 }

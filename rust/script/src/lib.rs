@@ -12,9 +12,9 @@
 //!
 //! ```
 //! let mut lines = Vec::new();
-//! let script = "// two boards, one cable\nfresh 2 1664\nwire 0 0 1 0\nwire 0 0 1 0\n";
+//! let script = "// two boards, one cable\nfresh 2 1664 lines 1056\nwire 0 0 1 0\nwire 0 0 1 0\n";
 //! script::run(script, |made| Ok(lines.push(made.to_string()))).unwrap();
-//! assert_eq!(lines[1], "wire 0 0 1 0 -> done # 33724902fd8ca3bc");
+//! assert_eq!(lines[1], "wire 0 0 1 0 -> done # 16fe018f3b7581bc");
 //! assert!(lines[2].starts_with("wire 0 0 1 0 -> no 4 # "));
 //! assert_eq!(script::check(&lines.join("\n"), |_| Ok(())).unwrap(), 3);
 //!

@@ -151,11 +151,20 @@ pub const CONTROLS: [(&str, u8); 6] = [
     ("READC", READC),
 ];
 
+/// The names of those that are on lines alone: no program puts them out, and no port holds them.
+const LINE_CONTROLS: [(&str, u8); 4] = [
+    ("CREDIT8", 0xE0),
+    ("CREDIT16", 0xE4),
+    ("CREDIT64", 0xE1),
+    ("HELLO", 0xE6),
+];
+
 /// What a control token without a name is written with, before its value.
 pub const UNNAMED: &str = "control-";
 
 fn control_word(value: u8) -> String {
-    match CONTROLS.iter().find(|(_, known)| *known == value) {
+    let mut names = CONTROLS.iter().chain(&LINE_CONTROLS);
+    match names.find(|(_, known)| *known == value) {
         Some((name, _)) => (*name).to_owned(),
         None => format!("{UNNAMED}{value}"),
     }

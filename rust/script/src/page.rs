@@ -21,9 +21,9 @@ bench page FILE: makes the calls of FILE and prints the run as a page for a brow
   bench page FILE > run.html
 
 The page is one file that needs no other and no network. It shows the boards with their settings,
-links, ports, channel-ends and tokens, the cables with the token that crosses, the circuits as coloured
-ways, boards and cables of different widths in colours of their own, and what has changed lit up. A
-slider and keys go through the run call by call:
+links, ports, channel-ends and tokens, at each link what is on the line that starts there, the cables
+with what a line step brings over, the circuits as coloured ways, boards and cables of different widths
+in colours of their own, and what has changed lit up. A slider and keys go through the run call by call:
 
   left, right          a call back, a call on
   page up, page down   a line of the script back, a line on

@@ -102,6 +102,10 @@ fn call_named(name: &str, words: &mut Words) -> Result<Call, Expected> {
             kind: kind(words)?,
         }),
         "steps" => steps(words),
+        "line" => {
+            let LinkEnd { slot, link } = link_end(words)?;
+            Ok(Call::Line { slot, link })
+        }
         _ => {
             let StepRecord { slot, port } = record(words)?;
             Ok(Call::Step { slot, port })
@@ -109,18 +113,22 @@ fn call_named(name: &str, words: &mut Words) -> Result<Call, Expected> {
     }
 }
 
-/// `NODES MEMORY_WORDS`, of either start.
+/// `NODES MEMORY_WORDS lines LINE_WORDS`, of either start.
 fn start(name: &str, words: &mut Words) -> Result<Call, Expected> {
     let nodes = words.number("a number of nodes")?;
     let memory_words = words.number("a number of memory words")?;
+    words.exactly("lines")?;
+    let line_words = words.number("a number of words for lines")?;
     Ok(match name {
         "fresh" => Call::Fresh {
             nodes,
             memory_words,
+            line_words,
         },
         _ => Call::Blank {
             nodes,
             memory_words,
+            line_words,
         },
     })
 }
@@ -301,7 +309,7 @@ fn read_answer(line: &str, text: &str) -> Result<Answer, Expected> {
 fn read_stepped(line: &str, text: &str) -> Result<Answer, Expected> {
     let words = Words::within(line, text, None);
     match read_single(words)? {
-        Answer::Done | Answer::Granted(_) | Answer::Token(_) => {
+        Answer::Done | Answer::Granted(_) | Answer::Token(_) | Answer::Arrived(_) => {
             let words = Words::within(line, text.trim_start(), None);
             Err(words.unmet("an answer of a Step", Some(text.trim())))
         }
@@ -327,12 +335,11 @@ fn single(words: &mut Words) -> Result<Answer, Expected> {
     Ok(match name {
         "no" => Answer::No(words.number_for("a refusal 1..12", Refusal::from_number)?),
         "done" => Answer::Done,
-        "granted" => Answer::Granted(words.number_for("a grant of 0, 8, 16 or 64", |credit| {
-            [0, 8, 16, 64].contains(&credit).then_some(credit)
-        })?),
+        "granted" => Answer::Granted(grant(words)?),
         "token" => Answer::Token(words.number("a token value 0..255")?),
         "idle" => Answer::Idle,
         "waiting" => Answer::Waiting,
+        "moved" if words.has_more() => Answer::Arrived(grant(words)?),
         "moved" => Answer::Moved,
         "opened" => Answer::Opened(opening(words)?),
         "refused" => Answer::Refused(cause(words)?),
@@ -341,6 +348,12 @@ fn single(words: &mut Words) -> Result<Answer, Expected> {
         "unheard" => Answer::Unheard,
         other => return Err(words.unmet_by("an answer", other, ANSWERS)),
     })
+}
+
+/// What a HELLO or an arrival brought.
+fn grant(words: &mut Words) -> Result<u32, Expected> {
+    let is_grant = |credit: u32| [0, 8, 16, 64].contains(&credit).then_some(credit);
+    words.number_for("a grant of 0, 8, 16 or 64", is_grant)
 }
 
 fn opening(words: &mut Words) -> Result<Opening, Expected> {

@@ -1,12 +1,14 @@
 //! Words for people: lines above the plain format, each of which stands for plain calls.
 //!
 //! What such a line stands for is fixed when it is read, but for what the network says at the time:
-//! a board's number, where a board is named as a destination or for a reply, and which Steps
-//! `settle` makes.
+//! a board's number, where a board is named as a destination or for a reply, which Steps `settle`
+//! makes, and what is on the lines of a cable on which HELLO is said. A HELLO of such a line, where it
+//! is not refused, is followed by line steps until both lines of its cable are empty: who says it means
+//! that the link is greeted and has its credit by then.
 
 mod reading;
 
-use bench::{raw, Destination, Kind, LinkEnd, Looks, Refusal, Setting, StepRecord};
+use bench::{raw, Destination, Kind, LinkEnd, Looks, Refusal, Setting};
 
 use crate::answer::Answer;
 use crate::call::Call;
@@ -14,7 +16,7 @@ use crate::names::{END, READC, WRITEC};
 pub use reading::read_words;
 
 /// The words as a line has them, by the first of them.
-pub const FORMS: [(&str, &str); 11] = [
+pub const FORMS: [(&str, &str); 12] = [
     ("fresh", "fresh BOARDS"),
     ("blank", "blank BOARDS"),
     (
@@ -43,6 +45,7 @@ pub const FORMS: [(&str, &str); 11] = [
         "receive BOARD.CHANNELEND: TOKEN TOKEN .., or receive BOARD.CHANNELEND: nothing",
     ),
     ("step", "step BOARD.PORT COUNT times"),
+    ("line", "line BOARD.LINK COUNT times"),
     ("settle", "settle"),
 ];
 
@@ -86,8 +89,8 @@ pub enum Word {
         bits: (u32, u32),
         direction: u32,
     },
-    /// So many Steps of a port.
-    Steps { record: StepRecord, count: usize },
+    /// So many Steps of a port, or of a line.
+    Times { step: Call, count: usize },
     /// A board's settings; a name for it, where this line gives it one.
     Board {
         name: Option<String>,
@@ -111,7 +114,7 @@ pub enum Word {
     },
     /// Inputs, and what they must answer: these tokens, or that nothing is held.
     Receive { end: End, tokens: Option<Vec<Put>> },
-    /// Rounds of Steps, until nothing changes.
+    /// Rounds of Steps, of ports and of lines, until nothing changes.
     Settle,
 }
 
@@ -122,17 +125,20 @@ impl Word {
     }
 }
 
-/// A start of so many boards, with the memory that these need.
+/// A start of so many boards, with the memories that these need.
 pub fn start(name: &str, nodes: usize) -> Call {
     let memory_words = nodes.saturating_mul(raw::memory_words());
+    let line_words = nodes.saturating_mul(raw::line_words());
     match name {
         "fresh" => Call::Fresh {
             nodes,
             memory_words,
+            line_words,
         },
         _ => Call::Blank {
             nodes,
             memory_words,
+            line_words,
         },
     }
 }
@@ -146,8 +152,7 @@ pub fn board(slot: usize, settings: &[Setting]) -> Vec<Call> {
     settings.iter().map(set).collect()
 }
 
-/// The cable, both ends enabled, HELLO from both. A cable on which things travel would be emptied
-/// behind that.
+/// The cable, both ends enabled, HELLO from both.
 pub fn cable(one: LinkEnd, other: LinkEnd) -> Vec<Call> {
     let enabled = |LinkEnd { slot, link }| {
         let setting = Setting::Enable { link, value: 1 };
@@ -156,6 +161,16 @@ pub fn cable(one: LinkEnd, other: LinkEnd) -> Vec<Call> {
     let hello = |LinkEnd { slot, link }| Call::Hello { slot, link };
     let wire = Call::Wire { one, other };
     vec![wire, enabled(one), enabled(other), hello(one), hello(other)]
+}
+
+/// The lines of the cable at a link, its own first; none where there is no cable.
+pub fn lines_at(looks: Looks, end: LinkEnd) -> Vec<LinkEnd> {
+    let far = looks.link(end.slot, end.link).far();
+    let far = far.map(|(slot, link)| LinkEnd {
+        slot: slot as usize,
+        link: link as usize,
+    });
+    far.into_iter().flat_map(|far| [end, far]).collect()
 }
 
 impl Whose {

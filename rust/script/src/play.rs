@@ -3,7 +3,7 @@
 use std::fmt;
 use std::io;
 
-use bench::StepRecord;
+use bench::LinkEnd;
 
 use crate::answer::Answer;
 use crate::call::Call;
@@ -14,7 +14,7 @@ use crate::reader::{read, Entry, Said, Script};
 use crate::settle::{Settled, Settling};
 
 /// What a trace begins with: the Asks of document 02 that it was made with. A comment to every reader.
-pub const HEAD: &str = "// asks 1,7";
+pub const HEAD: &str = "// asks 1,4,7";
 
 /// Why a script was not run to its end.
 #[derive(Debug)]
@@ -91,8 +91,8 @@ pub trait Watch {
         Ok(())
     }
 
-    /// A call is about to be made. Of a round of `settle` this is said of every Step, also of those
-    /// that then change nothing.
+    /// A call is about to be made. Of a round of `settle`, and where lines are emptied, this is said of
+    /// every Step, also of those that then change nothing.
     fn makes(&mut self, _before: &Host, _call: &Call) {}
 
     /// A call was made.
@@ -202,10 +202,8 @@ impl<'w, W: Watch> Playing<'w, W> {
                 network,
                 request,
             } => people::message(looks, from, to, network, request),
-            Word::Steps { record, count } => {
-                let StepRecord { slot, port } = record;
-                let steps = std::iter::repeat_n(Call::Step { slot, port }, count);
-                return self.make_all(line, steps);
+            Word::Times { step, count } => {
+                return self.make_all(line, std::iter::repeat_n(step, count));
             }
             Word::Receive { end, tokens } => {
                 return self.receive(line, people::receive(end, tokens))
@@ -215,15 +213,48 @@ impl<'w, W: Watch> Playing<'w, W> {
         self.make_all(line, calls)
     }
 
+    /// Calls of a line for people; behind a HELLO that is not refused the lines of its cable are
+    /// emptied.
     fn make_all(
         &mut self,
         line: usize,
         calls: impl IntoIterator<Item = Call>,
     ) -> Result<(), Fault> {
         for call in calls {
-            self.make(line, call)?;
+            let made = self.make(line, call)?;
+            if let (Call::Hello { slot, link }, Answer::Granted(_)) =
+                (&made.call, &made.found.answer)
+            {
+                let (slot, link) = (*slot, *link);
+                self.empty_lines(line, LinkEnd { slot, link })?;
+            }
         }
         Ok(())
+    }
+
+    /// Line steps of both lines of the cable at a link, in turns, until both are empty: what arrives
+    /// may put a credit on the other one, and a credit puts nothing.
+    fn empty_lines(&mut self, line: usize, end: LinkEnd) -> Result<(), Fault> {
+        let ends = people::lines_at(self.host.looks(), end);
+        loop {
+            let mut changed = false;
+            for LinkEnd { slot, link } in ends.iter().copied() {
+                changed |= self.make_if_it_changes(line, Call::Line { slot, link })?;
+            }
+            if !changed {
+                return Ok(());
+            }
+        }
+    }
+
+    /// Makes a call that is kept only where it changes something, and says whether it has.
+    fn make_if_it_changes(&mut self, line: usize, call: Call) -> Result<bool, Fault> {
+        self.watch.makes(&self.host, &call);
+        let made = self.host.make_if_it_changes(line, call);
+        if let Some(made) = &made {
+            self.watch.made(&self.host, made).map_err(Fault::Untold)?;
+        }
+        Ok(made.is_some())
     }
 
     /// Inputs that must answer so.
@@ -250,12 +281,8 @@ impl<'w, W: Watch> Playing<'w, W> {
     fn settle(&mut self, line: usize) -> Result<(), Fault> {
         let mut settling = Settling::of(self.host.looks());
         while let Some(call) = settling.next() {
-            self.watch.makes(&self.host, &call);
-            let made = self.host.make_if_it_changes(line, call);
-            settling.came_of(made.is_some());
-            if let Some(made) = made {
-                self.watch.made(&self.host, &made).map_err(Fault::Untold)?;
-            }
+            let changed = self.make_if_it_changes(line, call)?;
+            settling.came_of(changed);
         }
         let told = self.watch.settled(&self.host, settling.settled());
         told.map_err(Fault::Untold)

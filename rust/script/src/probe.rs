@@ -32,8 +32,8 @@ wires and ten transitions a token; fast, five wires and four transitions a seque
 digit, the number of the wire that changes. Every wire is low before the first.
 
   port     makes the calls of FILE and writes the tokens that a port then holds, oldest first
-  line     the same of the line that starts at a link. Tokens cross a cable at once, so that nothing
-           is ever on a line, and nothing is printed
+  line     the same of what is then on the line that starts at a link, the first to arrive first:
+           tokens, credits and HELLO
   write    writes tokens that come in on standard input: data 42 control 1 ..
   read     reads digits that come in on standard input; blanks and ends of lines are passed over
   tokens   reads a file that a probe or an analyser has recorded, VCD or CSV. The wires are named in
@@ -139,14 +139,11 @@ pub fn port(looks: Looks, asked: Asked) -> Result<Vec<u16>, String> {
     Ok(words_of(tokens))
 }
 
-/// The words of what is on the line that starts at a link. No call puts anything on a line, and no
-/// look shows what would be on it.
+/// The words of what is on the line that starts at a link, the first to arrive first.
 pub fn line(looks: Looks, asked: Asked) -> Result<Vec<u16>, String> {
     is_there(looks, asked, "link", LINKS)?;
-    match looks.line(asked.slot, asked.index).held {
-        0 => Ok(Vec::new()),
-        held => Err(format!("{held} on a line, which cannot be looked at")),
-    }
+    let on_line = looks.line_tokens(asked.slot, asked.index);
+    Ok(words_of(on_line))
 }
 
 /// Token words as the library takes them.

@@ -1,13 +1,13 @@
-//! Rounds of Steps: all ports of all boards, by slot and port, over and over.
+//! Rounds of Steps: all ports of all boards, then all lines, by slot and port, over and over.
 //!
-//! They are made in lists. A list ends with the port that is watched, wherever in the round it
-//! stands: so the network can be looked at before and behind every Step of that port, and a round is
-//! one call.
+//! The Steps of ports are made in lists, line steps one by one. A list ends with the port that is
+//! watched, wherever in the round it stands: so the network can be looked at before and behind every
+//! Step of that port, and all ports of a round are one call or two.
 
-use bench::sizes::PORTS;
-use bench::{Bench, StepRecord, StepResult, Stepped};
+use bench::sizes::{LINKS, PORTS};
+use bench::{Bench, LinkEnd, StepRecord, StepResult, Stepped};
 
-/// How many Steps are made, and no more.
+/// How many Steps are made, and no more. Those of lines count as those of ports do.
 pub const MOST_STEPS: usize = 65_536;
 
 /// A port of a board.
@@ -17,10 +17,20 @@ pub struct Place {
     pub port: usize,
 }
 
-/// How a list of Steps ended.
+/// What of a round is watched.
+#[derive(Clone, Copy, Debug, PartialEq, Eq)]
+pub enum Watched {
+    Port(Place),
+    /// The line that starts at a link.
+    Line(LinkEnd),
+}
+
+/// How Steps ended that were made up to what is watched.
 pub enum Listed {
     /// With what this Step of the watched port answered.
     Made(Stepped),
+    /// With a step of the watched line, and whether that took something off.
+    Taken(bool),
     /// A whole round of Steps has changed nothing.
     AtRest,
     /// No more Steps are to be made.
@@ -30,11 +40,12 @@ pub enum Listed {
 /// A network on which rounds of Steps are made.
 pub struct Rounds {
     bench: Bench,
-    /// The ports of a round twice, so that as many as a round has can be listed from any of them.
+    /// The ports of a round, and the lines that are stepped behind them.
     ports: Vec<StepRecord>,
-    /// As many as a round has.
+    lines: Vec<LinkEnd>,
+    /// As many as there are ports.
     results: Vec<StepResult>,
-    /// Which port of the round is stepped next.
+    /// Which port of the round is stepped next or, counted behind all ports, which line.
     next: usize,
     /// How many Steps have been made.
     steps: usize,
@@ -45,12 +56,16 @@ pub struct Rounds {
 impl Rounds {
     pub fn of(bench: Bench) -> Rounds {
         let slots = 0..bench.looks().nodes();
-        let round = slots.flat_map(|slot| (0..PORTS).map(move |port| StepRecord { slot, port }));
-        let round: Vec<StepRecord> = round.collect();
+        let ports = slots
+            .clone()
+            .flat_map(|slot| (0..PORTS).map(move |port| StepRecord { slot, port }));
+        let ports: Vec<StepRecord> = ports.collect();
+        let lines = slots.flat_map(|slot| (0..LINKS).map(move |link| LinkEnd { slot, link }));
         Rounds {
             bench,
-            ports: round.repeat(2),
-            results: vec![StepResult::default(); round.len()],
+            lines: lines.collect(),
+            results: vec![StepResult::default(); ports.len()],
+            ports,
             next: 0,
             steps: 0,
             changed: false,
@@ -61,39 +76,78 @@ impl Rounds {
         &self.bench
     }
 
-    /// Makes the Steps up to and with the next one of this port, as one list.
-    pub fn up_to(&mut self, place: Place) -> Listed {
-        let wanted = self.distance(place);
-        let many = wanted.min(MOST_STEPS - self.steps);
+    /// Makes the Steps up to and with the next one of what is watched.
+    pub fn up_to(&mut self, watched: Watched) -> Listed {
+        let wanted = self.place_of(watched);
+        while self.steps < MOST_STEPS {
+            let (last, made) = match self.next < self.ports.len() {
+                true => self.list(wanted),
+                false => self.line(),
+            };
+            if self.ends_at_rest() {
+                return Listed::AtRest;
+            }
+            if last == wanted {
+                return made;
+            }
+        }
+        Listed::Out
+    }
+
+    /// Where in the round it stands.
+    fn place_of(&self, watched: Watched) -> usize {
+        match watched {
+            Watched::Port(Place { slot, port }) => slot * PORTS + port,
+            Watched::Line(LinkEnd { slot, link }) => self.ports.len() + slot * LINKS + link,
+        }
+    }
+
+    /// Makes the Steps of ports up to the wanted one, or to the last, as one list: where that ends,
+    /// and with what.
+    fn list(&mut self, wanted: usize) -> (usize, Listed) {
+        let all = self.next..self.ports.len();
+        let end = match all.contains(&wanted) {
+            true => wanted + 1,
+            false => all.end,
+        };
+        let many = (end - self.next).min(MOST_STEPS - self.steps);
         let list = &self.ports[self.next..self.next + many];
-        let made = self.bench.steps_into(list, &mut self.results[..many]);
+        let results = &mut self.results[..many];
+        let made = self.bench.steps_into(list, results);
         made.expect("there is a result for each Step");
-        if (0..many).any(|at| self.ends_at_rest(stepped(self.results[at]))) {
-            return Listed::AtRest;
+        let mut last = Stepped::Idle;
+        for result in results {
+            last = stepped(*result);
+            self.changed |= changes(last);
         }
-        match self.results[..many].last() {
-            Some(last) if many == wanted => Listed::Made(stepped(*last)),
-            _ => Listed::Out,
-        }
+        (self.count(many), Listed::Made(last))
     }
 
-    /// How many Steps there are up to and with the next one of this port: at most a round.
-    fn distance(&self, place: Place) -> usize {
-        let round = self.results.len();
-        let last = place.slot * PORTS + place.port;
-        (last + round - self.next) % round + 1
+    /// Makes the next line's step. One of a line with nothing on it is Idle: it is counted, and not
+    /// made.
+    fn line(&mut self) -> (usize, Listed) {
+        let LinkEnd { slot, link } = self.lines[self.next - self.ports.len()];
+        let is_taken = self.bench.looks().line(slot, link).held > 0;
+        if is_taken {
+            // Proved: `never-unsound` in bench/proofs/Lasts.antt; the link is there.
+            let taken = self.bench.line(slot, link);
+            taken.expect("no line step is refused on a network that calls have made");
+            self.changed = true;
+        }
+        (self.count(1), Listed::Taken(is_taken))
     }
 
-    /// Counts a Step; true where it ends a round that has changed nothing. What the list has made
-    /// beyond has then changed nothing either: the same Steps, from the same state.
-    fn ends_at_rest(&mut self, stepped: Stepped) -> bool {
-        self.steps += 1;
-        self.next = (self.next + 1) % self.results.len();
-        self.changed |= changes(stepped);
-        let ends = self.next == 0;
-        let at_rest = ends && !self.changed;
-        self.changed &= !ends;
-        at_rest
+    /// Counts Steps; the place of the last of them.
+    fn count(&mut self, many: usize) -> usize {
+        let last = self.next + many - 1;
+        self.steps += many;
+        self.next = (last + 1) % (self.ports.len() + self.lines.len());
+        last
+    }
+
+    /// Whether a round has just ended that has changed nothing.
+    fn ends_at_rest(&mut self) -> bool {
+        self.next == 0 && !std::mem::take(&mut self.changed)
     }
 }
 

@@ -13,8 +13,9 @@ follows it
 
 The END goes from the lowest channel-end of the board in SLOT that has no circuit open to CHANNEL of
 NUMBER (`control` for the control unit) on NETWORK, 0 if not given. It is sent on a copy of the
-network, by Aim and Output; then all ports are stepped, by slot and port, in rounds. Each switch that
-it comes to is a line, with the link that it takes there; the last line says how it ends:
+network, by Aim and Output; then all ports are stepped, and behind them all lines, by slot and port, in
+rounds. Each switch that it comes to is a line, with the link that it takes there; the last line says
+how it ends:
 
   arrived      a board of that number got it
   Elsewhere    a board of another number got it

@@ -1,9 +1,9 @@
-//! `settle`: rounds of Steps until a whole round changes nothing.
+//! `settle`: rounds of Steps of all ports, then of all lines, until a whole round changes nothing.
 //!
 //! A Step that is Idle, Waiting or refused changes nothing, so a run without it is the same run:
 //! only those that changed something are kept as calls.
 
-use bench::sizes::PORTS;
+use bench::sizes::{LINKS, PORTS};
 use bench::Looks;
 
 use crate::answer::Answer;
@@ -33,12 +33,15 @@ pub struct Settling {
     so_far: Settled,
 }
 
-/// The calls of a round: a Step of every port, by slot and port. What travels on cables would be
-/// moved behind them, by slot and link.
+/// The calls of a round: a Step of every port, by slot and port; behind them one of every line, by
+/// slot and link, also of links that have no cable.
 fn round(looks: Looks) -> Vec<Call> {
     let slots = 0..looks.nodes();
-    let ports = slots.flat_map(|slot| (0..PORTS).map(move |port| Call::Step { slot, port }));
-    ports.collect()
+    let ports = slots
+        .clone()
+        .flat_map(|slot| (0..PORTS).map(move |port| Call::Step { slot, port }));
+    let lines = slots.flat_map(|slot| (0..LINKS).map(move |link| Call::Line { slot, link }));
+    ports.chain(lines).collect()
 }
 
 /// Whether a call of a round that answers so has changed something.

@@ -1,7 +1,7 @@
 //! `bench show`: the state in words.
 
 use bench::sizes::{CHANNEL_ENDS, LINKS, PORTS};
-use bench::{Bench, Link, Looks};
+use bench::{Bench, Looks};
 
 use crate::facts;
 use crate::names::{letter, links, port};
@@ -11,8 +11,9 @@ bench show FILE: makes the calls of FILE and prints the state that they leave, i
 
 Each line is one fact, and begins with its place: a board by its slot, and a link, port, channel-end
 or control unit of it. Boards come by slot, and on a board its settings, links A..H, ports,
-channel-ends and control unit. Links with no cable that are alike share a line. A wait is found by a
-Step on a copy.
+channel-ends and control unit. Of an enabled link with a cable it is said what it has issued and not
+yet received, and what is on the line that starts there, the first to arrive first. Links with no cable
+that are alike share a line. A wait is found by a Step on a copy.
 
 Left out is what is at rest: disabled links with no cable that nobody has set, ports and channel-ends
 with nothing in them, bits that lead to direction 0 where no enabled link has direction 0.
@@ -65,7 +66,7 @@ fn placed(place: &str, facts: impl IntoIterator<Item = String>) -> Vec<String> {
 fn link_facts(looks: Looks, slot: usize) -> Vec<(Vec<usize>, Vec<String>)> {
     let mut all: Vec<(Vec<usize>, Vec<String>)> = Vec::new();
     for index in 0..LINKS {
-        let facts = link(&looks.link(slot, index));
+        let facts = link(looks, slot, index);
         match all.iter_mut().find(|(_, known)| *known == facts) {
             Some((alike, _)) => alike.push(index),
             None => all.push((vec![index], facts)),
@@ -74,15 +75,17 @@ fn link_facts(looks: Looks, slot: usize) -> Vec<(Vec<usize>, Vec<String>)> {
     all
 }
 
-fn link(seen: &Link) -> Vec<String> {
+fn link(looks: Looks, slot: usize, index: usize) -> Vec<String> {
+    let seen = looks.link(slot, index);
     match seen.far() {
         Some((far, end)) => {
             let cable = format!("cable to board {far} link {}", letter(end as usize));
-            let settings = facts::link_settings(seen);
+            let settings = facts::link_settings(&seen);
             let facts = [cable, settings].into_iter();
-            facts.chain(facts::link_credit(seen)).collect()
+            let facts = facts.chain(facts::link_credit(&seen));
+            facts.chain(facts::line(looks, slot, index)).collect()
         }
-        None if seen.enabled == 1 || facts::is_set(seen) => vec![facts::link_state(seen)],
+        None if seen.enabled == 1 || facts::is_set(&seen) => vec![facts::link_state(&seen)],
         None => Vec::new(),
     }
 }

@@ -9,7 +9,7 @@ mod story;
 
 use std::io::{self, Write};
 
-use bench::{Kind, LinkEnd, Setting};
+use bench::{Freight, Kind, LinkEnd, Setting};
 
 use crate::answer::Answer;
 use crate::boards::Boards;
@@ -29,7 +29,8 @@ bench tell FILE: makes the calls of FILE and tells the run in words
 
 The script's own comments are the headings. Below them stands what came of the calls, a line for each
 place with all that was done there in a row, and for each circuit of a port: how it opened or was
-refused, and how many tokens were moved, handed, heard or dropped. A call that was refused has a line
+refused, and how many tokens were moved, handed, heard or dropped; and for each line what has arrived
+at its far end. A call that was refused has a line
 of its own, with its number and name and what to do about it. Behind settle stands what still waits,
 and for what; of one settle at most 60 lines are told.
 
@@ -165,7 +166,7 @@ impl<'a, W: Write> Telling<'a, W> {
             Said::Plain { call, .. } => Some(call),
             _ => None,
         };
-        let is_step = matches!(call, Some(Call::Step { .. } | Call::Steps { .. }));
+        let is_step = call.is_some_and(steps);
         if !(is_step && self.in_steps) {
             self.story.next_line();
         }
@@ -218,6 +219,7 @@ impl<'a, W: Write> Telling<'a, W> {
                 slot, channel_end, ..
             } => self.channel_end(slot, channel_end),
             Call::Step { slot, port } => stepping::place(self.boards, slot, port),
+            Call::Line { slot, link } => stepping::line_place(self.boards, LinkEnd { slot, link }),
             Call::Steps { .. } => "list of Steps".to_owned(),
         }
     }
@@ -232,7 +234,7 @@ impl<'a, W: Write> Telling<'a, W> {
     }
 
     /// What a call that was not refused has done, where it is no Step.
-    fn done(&self, call: &Call, answer: &Answer) -> Fact {
+    fn done(&self, call: &Call, answer: &Answer, after: &Host) -> Fact {
         let said = match *call {
             Call::Fresh { nodes, .. } => {
                 let boards = counted(nodes, "board");
@@ -255,11 +257,8 @@ impl<'a, W: Write> Telling<'a, W> {
                 };
                 return Fact::token("takes", kind, value);
             }
-            Call::Hello { .. } => match answer {
-                Answer::Granted(credit) => format!("says HELLO and is granted {credit}"),
-                other => other.to_string(),
-            },
-            Call::Step { .. } | Call::Steps { .. } => answer.to_string(),
+            Call::Hello { slot, link } => hello(after, slot, link).to_owned(),
+            Call::Step { .. } | Call::Line { .. } | Call::Steps { .. } => answer.to_string(),
         };
         Fact::Said(said)
     }
@@ -279,6 +278,24 @@ impl Telling<'_, Vec<u8>> {
         self.out.clear();
         let lines: Vec<&str> = text.lines().map(str::trim).collect();
         Ok(lines.join("; "))
+    }
+}
+
+/// Whether a call steps ports or a line.
+fn steps(call: &Call) -> bool {
+    matches!(
+        call,
+        Call::Step { .. } | Call::Line { .. } | Call::Steps { .. }
+    )
+}
+
+/// A HELLO that was said. It is on the line behind the call, or lost.
+fn hello(after: &Host, slot: usize, link: usize) -> &'static str {
+    let on_line = after.looks().line_tokens(slot, link);
+    let mut on_line = on_line.filter_map(Freight::from_word);
+    match on_line.any(|thing| thing == Freight::Hello) {
+        true => "says HELLO",
+        false => "says HELLO, which nobody hears",
     }
 }
 
@@ -334,7 +351,7 @@ impl<W: Write> Watch for Telling<'_, W> {
         self.calls += 1;
         match (&made.call, &made.found.answer) {
             (_, Answer::No(_)) => self.refusal(made),
-            (Call::Step { .. } | Call::Steps { .. }, _) => {
+            (call, _) if steps(call) => {
                 let told = self.steps.told(self.boards, after, made);
                 for (place, fact, tone) in told {
                     self.refused += usize::from(matches!(fact, Fact::Refused(_)));
@@ -343,7 +360,7 @@ impl<W: Write> Watch for Telling<'_, W> {
                 Ok(())
             }
             (call, answer) => {
-                let fact = self.done(call, answer);
+                let fact = self.done(call, answer, after);
                 self.add(self.place(call), fact, Tone::Plain)
             }
         }

@@ -3,7 +3,8 @@
 use std::fmt;
 
 use bench::sizes::{CHANNELS, LINKS, TILE_LINKS, TILE_PORTS};
-use bench::{Bench, Destination, Hop, Kind, Looks, Peer, Stepped, Token, Width};
+use bench::{Bench, Destination, Freight, Hop, Kind, LinkEnd, Looks, Peer};
+use bench::{Stepped, Token, Width};
 
 use crate::names::{channel, counted, letter, peer, port};
 use crate::ways::{ways, Ways};
@@ -42,11 +43,16 @@ pub enum Lack {
     /// The link at the cable's other end is disabled.
     FarEnd,
     Hello,
-    /// The port at the cable's other end holds too many tokens.
+    /// Its HELLO is on the line.
+    HelloOnLine,
+    /// Credit for it is on the line from the cable's other end.
+    CreditOnLine,
+    /// The port at the cable's other end holds too many tokens, with those that are on the line to it.
     Room {
         slot: u32,
         port: u32,
         held: u32,
+        coming: usize,
     },
 }
 
@@ -74,18 +80,43 @@ fn wait_of(looks: Looks, slot: usize, port: usize) -> Wait {
 }
 
 fn credit(looks: Looks, slot: usize, link: usize) -> Wait {
-    let seen = looks.link(slot, link);
-    let lacks = match seen.far() {
+    let lacks = match looks.link(slot, link).far() {
         None => Lack::Cable,
-        Some((far, end)) if looks.link(far as usize, end as usize).enabled == 0 => Lack::FarEnd,
-        Some(_) if seen.greeted == 0 => Lack::Hello,
-        Some((far, end)) => Lack::Room {
-            slot: far,
-            port: end,
-            held: looks.port(far as usize, end as usize).held,
-        },
+        Some(far) => lack(looks, LinkEnd { slot, link }, far),
     };
     Wait::Credit { link, lacks }
+}
+
+/// Why a link has no credit from the other end of its cable.
+fn lack(looks: Looks, near: LinkEnd, (slot, port): (u32, u32)) -> Lack {
+    let far = LinkEnd {
+        slot: slot as usize,
+        link: port as usize,
+    };
+    let is_credit = |thing: &Freight| matches!(thing, Freight::Credit(_));
+    let is_token = |thing: &Freight| matches!(thing, Freight::Token(_));
+    if looks.link(far.slot, far.link).enabled == 0 {
+        Lack::FarEnd
+    } else if on_line(looks, near).any(|thing| thing == Freight::Hello) {
+        Lack::HelloOnLine
+    } else if looks.link(near.slot, near.link).greeted == 0 {
+        Lack::Hello
+    } else if on_line(looks, far).any(|thing| is_credit(&thing)) {
+        Lack::CreditOnLine
+    } else {
+        Lack::Room {
+            slot,
+            port,
+            held: looks.port(far.slot, far.link).held,
+            coming: on_line(looks, near).filter(is_token).count(),
+        }
+    }
+}
+
+/// What is on the line that starts at a link.
+fn on_line(looks: Looks<'_>, end: LinkEnd) -> impl Iterator<Item = Freight> + use<'_> {
+    let words = looks.line_tokens(end.slot, end.link);
+    words.filter_map(Freight::from_word)
 }
 
 /// The destination of the whole header at the front.
@@ -198,13 +229,20 @@ impl fmt::Display for Lack {
             Lack::Cable => f.write_str("which has no cable"),
             Lack::FarEnd => f.write_str("the other end of its cable is disabled"),
             Lack::Hello => f.write_str("which has not said HELLO to an enabled link"),
+            Lack::HelloOnLine => f.write_str("its HELLO is on the line"),
+            Lack::CreditOnLine => f.write_str("which is on the line to it"),
             Lack::Room {
                 slot,
                 port: index,
                 held,
+                coming,
             } => {
                 let held = counted(held as usize, "token");
-                write!(f, "board {slot} {} holds {held}", port(index as usize))
+                write!(f, "board {slot} {} holds {held}", port(index as usize))?;
+                match coming {
+                    0 => Ok(()),
+                    some => write!(f, ", with {} on the line to it", counted(some, "token")),
+                }
             }
         }
     }

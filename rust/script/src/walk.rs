@@ -1,18 +1,18 @@
 //! An END sent on a copy of the network and followed from switch to switch.
 //!
-//! Every fact comes from real calls: Aim, Output and then Steps of all ports, by slot and port, in
-//! rounds. What is followed is the place of the END's first header token, so that other streams in
-//! the same buffers are not mistaken for it.
+//! Every fact comes from real calls: Aim, Output and then Steps of all ports and of all lines, by slot
+//! and port, in rounds. What is followed is the place of the END's first header token, in a port or on
+//! a line, so that other streams in the same buffers are not mistaken for it.
 //!
-//! The Steps are made in lists, each of which ends with that of the port where the END is. So the
-//! network is looked at before and behind every Step that can move it, and a round is one call.
+//! The Steps are made up to that of the port or line where the END is. So the network is looked at
+//! before and behind every Step that can move it.
 
 use bench::sizes::{CHANNEL_ENDS, TILE_PORTS};
-use bench::{Bench, Cause, Hop, Kind, Looks, Opening, Refusal, Stepped, Token, Width};
+use bench::{Bench, Cause, Hop, Kind, LinkEnd, Looks, Opening, Refusal, Stepped, Token, Width};
 
 use crate::names::END;
 use crate::question::Question;
-use crate::rounds::{changes, Listed, Rounds};
+use crate::rounds::{changes, Listed, Rounds, Watched};
 pub use crate::rounds::{Place, MOST_STEPS};
 use crate::waits::{wait, Wait};
 
@@ -110,6 +110,7 @@ fn straight(question: Question) -> Ending {
 fn follow(bench: Bench, slot: usize, port: usize) -> (Vec<Switch>, Ending) {
     let mut chase = Chase {
         front: Place { slot, port },
+        line: None,
         ahead: 0,
         switches: Vec::new(),
         rounds: Rounds::of(bench),
@@ -120,9 +121,11 @@ fn follow(bench: Bench, slot: usize, port: usize) -> (Vec<Switch>, Ending) {
 
 /// An END that is being followed.
 struct Chase {
-    /// Where its first token is, the header's while there is one.
+    /// The port where its first token is, the header's while there is one, or that it comes to.
     front: Place,
-    /// How many tokens stand before that in the same port.
+    /// The line that it is on, while it is on one.
+    line: Option<LinkEnd>,
+    /// How much stands before it in the same port, or on the same line.
     ahead: usize,
     switches: Vec<Switch>,
     rounds: Rounds,
@@ -133,9 +136,14 @@ impl Chase {
     fn end(&mut self) -> Ending {
         loop {
             let oldest = self.oldest();
-            let end = match self.rounds.up_to(self.front) {
+            let watched = self.line.map_or(Watched::Port(self.front), Watched::Line);
+            let end = match self.rounds.up_to(watched) {
                 Listed::Made(stepped) if changes(stepped) => self.advance(stepped, oldest),
-                Listed::Made(_) => None,
+                Listed::Taken(true) => {
+                    self.arrive();
+                    None
+                }
+                Listed::Made(_) | Listed::Taken(false) => None,
                 Listed::AtRest => Some(self.waiting()),
                 Listed::Out => Some(Ending::Steps),
             };
@@ -149,6 +157,18 @@ impl Chase {
     fn oldest(&self) -> Option<u32> {
         let Place { slot, port } = self.front;
         self.rounds.bench().looks().port_tokens(slot, port).next()
+    }
+
+    /// The line that the END is on has brought one thing to its far end.
+    fn arrive(&mut self) {
+        if self.ahead > 0 {
+            self.ahead -= 1;
+            return;
+        }
+        let Place { slot, port } = self.front;
+        let held = self.rounds.bench().looks().port(slot, port).held as usize;
+        self.line = None;
+        self.ahead = held.saturating_sub(1);
     }
 
     /// The port where the END is has made a Step that changed something.
@@ -184,10 +204,13 @@ impl Chase {
         let looks = self.rounds.bench().looks();
         match self.switches.last()?.hop {
             Hop::Link(link) => {
-                let (far, port) = looks.link(slot, link as usize).far()?;
-                let (slot, port) = (far as usize, port as usize);
-                self.front = Place { slot, port };
-                self.ahead = looks.port(slot, port).held as usize - 1;
+                let link = link as usize;
+                let (far, port) = looks.link(slot, link).far()?;
+                let (far, port) = (far as usize, port as usize);
+                let on_line = looks.line(slot, link).held as usize;
+                self.front = Place { slot: far, port };
+                self.line = Some(LinkEnd { slot, link });
+                self.ahead = on_line.saturating_sub(1);
                 None
             }
             Hop::Channel(channel) => {
@@ -201,6 +224,7 @@ impl Chase {
         }
     }
 
+    /// Nothing is on a line at rest: the END is in a port.
     fn waiting(&self) -> Ending {
         Ending::Waiting {
             place: self.front,

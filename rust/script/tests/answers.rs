@@ -7,14 +7,16 @@ use std::sync::atomic::{AtomicUsize, Ordering};
 use common::{bench, file, text};
 
 /// Two boards, numbers 0 and 1, a cable between links A, greeted at both ends.
-const TWO_BOARDS: &str = "blank 2 1664\nset 1 number 0 1\nwire 0 0 1 0\nset 0 enable 0 1\n\
-                          set 1 enable 0 1\nset 0 hello 0 0\nset 1 hello 0 0\n";
+const TWO_BOARDS: &str =
+    "blank 2 1664 lines 1056\nset 1 number 0 1\nwire 0 0 1 0\nset 0 enable 0 1\n\
+                          set 1 enable 0 1\nset 0 hello 0 0\nline 0 0\nline 1 0\n\
+                          set 1 hello 0 0\nline 1 0\nline 0 0\n";
 
 /// One board of number 0.
-const ONE_BOARD: &str = "blank 1 832\n";
+const ONE_BOARD: &str = "blank 1 832 lines 528\n";
 
 /// The same as the boot ROM leaves it.
-const BOOTED_BOARD: &str = "fresh 1 832\n";
+const BOOTED_BOARD: &str = "fresh 1 832 lines 528\n";
 
 fn times(count: usize, line: &str) -> String {
     format!("{line}\n").repeat(count)
@@ -58,7 +60,7 @@ fn assert_wait(script: &str, expected: &str) {
 
 #[test]
 fn a_short_header_waits_for_its_rest() {
-    let script = "aim 0 0 channel 1 7 0\noutput 0 0 data 5\nstep 0 8\nstep 0 8\n";
+    let script = "aim 0 0 channel 1 7 0\noutput 0 0 data 5\nstep 0 8\nstep 0 8\nline 0 0\n";
     assert_wait(
         &on_two(script),
         "board 1 port 0 (in by link A): waits for the rest of its header",
@@ -90,10 +92,29 @@ fn a_circuit_waits_for_credit() {
             "which has not said HELLO to an enabled link",
         ),
     ];
+    let boards = "blank 2 1664 lines 1056\n";
     for (cable, lack) in cases {
-        let script = format!("blank 2 1664\n{cable}set 0 enable 0 1\nset 1 number 0 1\n{sent}");
+        let script = format!("{boards}{cable}set 0 enable 0 1\nset 1 number 0 1\n{sent}");
         assert_wait(&script, &format!("{place} {lack}"));
     }
+}
+
+/// What has been sent for it and has not arrived is named: its HELLO, and the credit.
+#[test]
+fn a_circuit_waits_for_what_is_on_a_line() {
+    let boards = "blank 2 1664 lines 1056\nset 1 number 0 1\nwire 0 0 1 0\n\
+                  set 0 enable 0 1\nset 1 enable 0 1\n";
+    let sent = "aim 0 0 channel 1 7 0\noutput 0 0 data 5\nstep 0 8\nset 0 hello 0 0\n";
+    let place = "board 0 port 8 (from the tile): waits for credit on link A,";
+    let script = format!("{boards}{sent}");
+    assert_wait(&script, &format!("{place} its HELLO is on the line"));
+    let arrived = script.clone() + "line 0 0\n";
+    assert_wait(&arrived, &format!("{place} which is on the line to it"));
+    let shown = said("show", &script, &[]);
+    assert!(shown.contains("board 0 link A: issued 0, 1 on its line: HELLO\n"));
+    let shown = said("show", &arrived, &[]);
+    assert!(shown.contains("board 0 link A: issued 0, nothing on its line\n"));
+    assert!(shown.contains("board 1 link A: issued 64, 1 on its line: CREDIT64\n"));
 }
 
 /// Four messages for number 1, each from a port of its own, and what its first Step has done.
@@ -138,15 +159,22 @@ fn a_circuit_waits_for_room_at_the_far_end() {
     let fill = times(61, "output 0 0 data 5\nstep 0 8");
     let script = format!("aim 0 0 channel 1 7 0\noutput 0 0 data 5\nstep 0 8\n{fill}");
     let rest = times(3, "step 0 8") + "output 0 0 data 5\n";
-    let shown = said("show", &on_two(&(script + &rest)), &[]);
-    let wait = "waits for credit on link A, board 1 port 0 (in by link A) holds 64 tokens\n";
-    assert!(shown.contains(wait), "{shown}");
+    let script = on_two(&(script + &rest));
+    let wait = "waits for credit on link A, board 1 port 0 (in by link A) holds";
+    for (arrived, held) in [
+        (64, "64 tokens"),
+        (63, "63 tokens, with 1 token on the line to it"),
+        (0, "0 tokens, with 64 tokens on the line to it"),
+    ] {
+        let shown = said("show", &(script.clone() + &times(arrived, "line 0 0")), &[]);
+        assert!(shown.contains(&format!("{wait} {held}\n")), "{shown}");
+    }
 }
 
 #[test]
 fn a_circuit_waits_for_room_in_a_channel_end() {
     let sent = times(9, "output 0 0 data 5");
-    let steps = times(13, "step 0 8") + &times(9, "step 1 0");
+    let steps = times(13, "step 0 8") + &times(12, "line 0 0") + &times(9, "step 1 0");
     assert_wait(
         &on_two(&format!("aim 0 0 channel 1 7 0\n{sent}{steps}")),
         "board 1 port 0 (in by link A): waits for channel-end 7, which holds 8 tokens",
@@ -158,7 +186,11 @@ fn a_header_waits_for_a_claimed_channel() {
     let own = "aim 1 3 channel 1 7 0\noutput 1 3 data 1\n";
     let sent = "aim 0 0 channel 1 7 0\noutput 0 0 data 5\n";
     assert_wait(
-        &on_two(&format!("{own}{sent}{}", times(5, "step 0 8"))),
+        &on_two(&format!(
+            "{own}{sent}{}{}",
+            times(5, "step 0 8"),
+            times(4, "line 0 0")
+        )),
         "board 1 port 0 (in by link A): waits for channel-end 7, which channel-end 3 has claimed",
     );
 }
@@ -177,6 +209,7 @@ fn a_header_waits_for_a_tile_link() {
     }
     script += "aim 0 0 channel 1 7 0\noutput 0 0 data 5\n";
     script += &times(5, "step 0 8");
+    script += &times(4, "line 0 0");
     assert_wait(
         &script,
         "board 1 port 0 (in by link A): waits for a tile link, all four are in use",
@@ -242,11 +275,13 @@ fn links_that_are_alike_share_a_line() {
         "board 0 link A: cable to board 0 link E",
         "board 0 link A: enabled, direction 0, network 0",
         "board 0 link A: not greeted, so no credit",
+        "board 0 link A: issued 0, nothing on its line",
         "board 0 links B C: disabled, direction 3, network 0",
         "board 0 links D G: enabled, direction 0, network 0, no cable",
         "board 0 link E: cable to board 0 link A",
         "board 0 link E: enabled, direction 0, network 0",
         "board 0 link E: not greeted, so no credit",
+        "board 0 link E: issued 0, nothing on its line",
         "board 0 link F: enabled, direction 2, network 0, no cable",
     ];
     assert!(lines.eq(expected), "{shown}");
@@ -348,8 +383,8 @@ fn a_stream_before_it_is_not_taken_for_it() {
 #[test]
 fn a_cable_of_one_board_leads_back_to_it() {
     let script = on_one(
-        "wire 0 0 0 1\nset 0 enable 0 1\nset 0 enable 1 1\nset 0 hello 0 0\nset 0 hello 1 0\n\
-         set 0 linkdirection 0 4\n",
+        "wire 0 0 0 1\nset 0 enable 0 1\nset 0 enable 1 1\nset 0 hello 0 0\nline 0 0\nline 0 1\n\
+         set 0 hello 1 0\nline 0 1\nline 0 0\nset 0 linkdirection 0 4\n",
     );
     assert_eq!(ending(&script, "0 1 0"), "ends: Steps, after 65536 of them");
 }
@@ -374,7 +409,7 @@ fn the_sink_and_the_control_unit_arrive() {
 /// A script that makes no network has nothing to show.
 #[test]
 fn no_network_is_no_answer() {
-    let path = script_file("fresh 17 0\nblank 17 0\n");
+    let path = script_file("fresh 17 0 lines 0\nblank 17 0 lines 0\n");
     for words in [&["show", &path][..], &["draw", &path], &["matrix", &path]] {
         let output = bench(words);
         assert_eq!(output.status.code(), Some(2));

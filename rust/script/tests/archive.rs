@@ -19,11 +19,13 @@ fn form(call: &Call) -> (&'static str, Vec<usize>) {
         Call::Fresh {
             nodes,
             memory_words,
-        } => ("fresh", vec![nodes, memory_words]),
+            line_words,
+        } => ("fresh", vec![nodes, memory_words, line_words]),
         Call::Blank {
             nodes,
             memory_words,
-        } => ("blank", vec![nodes, memory_words]),
+            line_words,
+        } => ("blank", vec![nodes, memory_words, line_words]),
         Call::Wire { one, other } => ("wire", vec![one.slot, one.link, other.slot, other.link]),
         Call::Set { slot, setting } => set_form(slot, setting),
         Call::Hello { slot, link } => ("hello", vec![slot, link]),
@@ -38,27 +40,29 @@ fn form(call: &Call) -> (&'static str, Vec<usize>) {
             channel_end,
             kind,
             value,
-        } => {
-            let name = by_kind(kind, "output_data", "output_control");
-            (name, vec![slot, channel_end, value.into()])
-        }
+        } => (output_name(kind), vec![slot, channel_end, value.into()]),
         Call::Input {
             slot,
             channel_end,
             kind,
-        } => {
-            let name = by_kind(kind, "input_data", "input_control");
-            (name, vec![slot, channel_end])
-        }
+        } => (input_name(kind), vec![slot, channel_end]),
         Call::Step { slot, port } => ("step", vec![slot, port]),
+        Call::Line { slot, link } => ("line_step", vec![slot, link]),
         Call::Steps { results, ref list } => list_form(results, list),
     }
 }
 
-fn by_kind(kind: Kind, data: &'static str, control: &'static str) -> &'static str {
+fn output_name(kind: Kind) -> &'static str {
     match kind {
-        Kind::Data => data,
-        Kind::Control => control,
+        Kind::Data => "output_data",
+        Kind::Control => "output_control",
+    }
+}
+
+fn input_name(kind: Kind) -> &'static str {
+    match kind {
+        Kind::Data => "input_data",
+        Kind::Control => "input_control",
     }
 }
 
@@ -186,16 +190,21 @@ impl Written<'_> {
         u64::from_le_bytes(self.take())
     }
 
+    /// So many words of 16 bits.
+    fn halves(&mut self, count: u64) -> Vec<u16> {
+        (0..count)
+            .map(|_| u16::from_le_bytes(self.take()))
+            .collect()
+    }
+
     /// A call's answer and the network behind it, as a script has them.
     fn outcome(&mut self, call: &Call) -> String {
         let answer = answer(self.number());
-        let [words, tokens, room] = [(); 3].map(|()| self.number());
+        let [words, tokens, things, room] = [(); 4].map(|()| self.number());
         let state: Vec<u32> = (0..words)
             .map(|_| u32::from_le_bytes(self.take()))
             .collect();
-        let memory: Vec<u16> = (0..tokens)
-            .map(|_| u16::from_le_bytes(self.take()))
-            .collect();
+        let [memory, lines] = [tokens, things].map(|count| self.halves(count));
         let results: Vec<u64> = (0..room).map(|_| self.number()).collect();
         let answer = match (call, answer) {
             (Call::Steps { .. }, Answer::Done) => {
@@ -206,7 +215,7 @@ impl Written<'_> {
                 refused
             }
         };
-        let looks = Looks::over(&state, &memory);
+        let looks = Looks::over(&state, &memory, &lines);
         let digest = if words == 0 { 0 } else { looks.digest() };
         format!("{answer} # {digest:016x}")
     }

@@ -36,8 +36,8 @@ fn the_scripts_beside_it_agree() {
 }
 
 #[rustfmt::skip]
-const ANSWERS: [&str; 18] = [
-    "done", "granted 0", "granted 8", "granted 16", "granted 64", "token 77", "idle", "waiting",
+const ANSWERS: [&str; 19] = [
+    "done", "granted 0", "moved 0", "moved 8", "moved 16", "moved 64", "token 77", "idle", "waiting",
     "moved", "opened link 0", "opened channel", "opened control", "refused split",
     "refused noroute", "dropped split", "dropped noroute", "malformed", "unheard",
 ];
@@ -57,7 +57,7 @@ fn the_scripts_beside_it_have_every_answer() {
 
 /// The numbers for no that document 01 has for each call.
 #[rustfmt::skip]
-const REFUSALS: [(&str, &[u32]); 15] = [
+const REFUSALS: [(&str, &[u32]); 16] = [
     ("fresh", &[1, 2]),
     ("blank", &[1, 2]),
     ("wire", &[1, 2, 3, 4]),
@@ -72,6 +72,7 @@ const REFUSALS: [(&str, &[u32]); 15] = [
     ("output", &[1, 2, 5, 7, 8, 9, 10]),
     ("input", &[1, 2, 11, 12]),
     ("step", &[1, 2]),
+    ("line", &[1, 2]),
     // Unsound is each record's own.
     ("steps", &[2]),
 ];
@@ -133,7 +134,8 @@ fn what_is_printed_is_a_script() {
 
 #[test]
 fn a_line_that_differs_is_named() {
-    let good = "fresh 1 832\n\n// a comment\nset 0 width 0 1 -> done # b0ab0d38d8ff1d36\n";
+    let good =
+        "fresh 1 832 lines 528\n\n// a comment\nset 0 width 0 1 -> done # b0ab0d38d8ff1d36\n";
     let path = file("digest.txt", good);
     let output = bench(&["check", &path]);
     assert_eq!(output.status.code(), Some(1));
@@ -158,7 +160,7 @@ fn a_bad_line_is_named() {
         ),
         (
             "jump 1",
-            "column 1: expected fresh, blank, wire, set, aim, output, input, step, steps, board, cable, \
+            "column 1: expected fresh, blank, wire, set, aim, output, input, step, line, steps, board, cable, \
              route, link, send, message, receive or settle, found jump\n",
         ),
         (
@@ -174,12 +176,12 @@ fn a_bad_line_is_named() {
             "column 11: expected data or control, found text (input SLOT",
         ),
         (
-            "fresh 1 832 -> done",
-            "column 16: expected ANSWER # DIGEST behind ->, found done",
+            "fresh 1 832 lines 528 -> done",
+            "column 26: expected ANSWER # DIGEST behind ->, found done",
         ),
     ];
     for (line, expected) in cases {
-        let path = file("bad.txt", &format!("fresh 1 832\n\n{line}\n"));
+        let path = file("bad.txt", &format!("fresh 1 832 lines 528\n\n{line}\n"));
         for verb in ["run", "check"] {
             let output = bench(&[verb, &path]);
             assert_eq!(output.status.code(), Some(2), "{line}");
@@ -202,12 +204,14 @@ fn a_later_start_replaces_the_network() {
         let ends = lines.lines().filter_map(|line| line.split_once(" -> "));
         ends.map(|(_, end)| end.to_owned()).collect::<Vec<_>>()
     };
-    let starts = ["fresh 2 1664\n", "blank 2 1664\n"];
+    let starts = ["fresh 2 1664 lines 1056\n", "blank 2 1664 lines 1056\n"];
     let alone = starts.map(|start| printed(start).remove(0));
     assert_ne!(alone[0], alone[1], "links E..H are enabled or are not");
     for first in starts {
         for (later, expected) in starts.iter().zip(&alone) {
-            let before = format!("{first}set 1 number 0 5\nfresh 3 1664\nblank 17 1664\n");
+            let before = format!(
+                "{first}set 1 number 0 5\nfresh 3 1664 lines 1584\nblank 17 1664 lines 0\n"
+            );
             let made = printed(&(before + later));
             assert_eq!(made[4], *expected, "{first}{later}");
             let (_, kept) = made[1].split_once(' ').expect("a digest");
@@ -218,7 +222,7 @@ fn a_later_start_replaces_the_network() {
 }
 
 /// A board's message to its own control unit; nobody is named for the reply.
-const MESSAGE: &str = "fresh 1 832\n\
+const MESSAGE: &str = "fresh 1 832 lines 528\n\
                        aim 0 0 control 0 0 0\n\
                        output 0 0 control 0xC1\n\
                        output 0 0 control 1\n\
@@ -238,14 +242,14 @@ fn the_end_of_a_message_is_answered() {
 
 #[test]
 fn an_unsound_memory_is_explained() {
-    let path = file("unsound.txt", "fresh 1 831\nset 0 width 0 1\n");
+    let path = file("unsound.txt", "fresh 1 831 lines 528\nset 0 width 0 1\n");
     let output = bench(&["run", &path]);
     assert!(output.status.success());
-    let expected = "// asks 1,7\n\
-                    fresh 1 831 -> no 1 # 0000000000000000\n\
+    let expected = "// asks 1,4,7\n\
+                    fresh 1 831 lines 528 -> no 1 # 0000000000000000\n\
                     set 0 width 0 1 -> no 1 # 0000000000000000\n";
     assert_eq!(text(&output.stdout), expected);
-    let clause = "unsound memory, clause 1: both memories have the lengths of 1 to 16 nodes";
+    let clause = "unsound memory, clause 1: the memories have the lengths of 1 to 16 nodes";
     let expected = format!("{path}: line 1: {clause}\n{path}: line 2: {clause}\n");
     assert_eq!(text(&output.stderr), expected);
 }
@@ -260,12 +264,12 @@ fn an_unsound_memory_is_explained_for_a_list() {
     );
     let output = bench(&["run", &path]);
     assert!(output.status.success());
-    let expected = "// asks 1,7\n\
+    let expected = "// asks 1,4,7\n\
                     steps 0 -> results # 0000000000000000\n\
                     steps 1 0 8 0 8 -> no 2 # 0000000000000000\n\
                     steps 2 0 8 0 8 -> results no 1; no 1 # 0000000000000000\n";
     assert_eq!(text(&output.stdout), expected);
-    let clause = "unsound memory, clause 1: both memories have the lengths of 1 to 16 nodes";
+    let clause = "unsound memory, clause 1: the memories have the lengths of 1 to 16 nodes";
     assert_eq!(text(&output.stderr), format!("{path}: line 3: {clause}\n"));
 }
 
@@ -273,7 +277,7 @@ fn an_unsound_memory_is_explained_for_a_list() {
 #[test]
 fn a_list_that_differs_is_named() {
     let line = "steps 2 0 8 0 13";
-    let path = file("list.txt", &format!("fresh 1 832\n{line}\n"));
+    let path = file("list.txt", &format!("fresh 1 832 lines 528\n{line}\n"));
     let printed = text(&bench(&["run", &path]).stdout);
     assert!(printed.contains(&format!("{line} -> results idle; no 2 # ")));
     let path = file("list-states.txt", &printed);
@@ -301,8 +305,9 @@ fn other_words() {
     assert!(text(&missing.stderr).starts_with("no-such-file: "));
     let help = bench(&["--help"]);
     assert!(help.status.success());
-    assert!(text(&help.stdout).contains("  fresh NODES MEMORY_WORDS\n"));
-    assert!(text(&help.stdout).contains("  blank NODES MEMORY_WORDS\n"));
+    assert!(text(&help.stdout).contains("  fresh NODES MEMORY_WORDS lines LINE_WORDS\n"));
+    assert!(text(&help.stdout).contains("  blank NODES MEMORY_WORDS lines LINE_WORDS\n"));
     assert!(text(&help.stdout).contains("  wire SLOT LINK SLOT LINK\n"));
+    assert!(text(&help.stdout).contains("  line SLOT LINK\n"));
     assert!(text(&help.stdout).contains("  steps RESULTS SLOT PORT SLOT PORT ..\n"));
 }

@@ -8,10 +8,11 @@ use common::{bench, file, text};
 
 /// Three boards in a row, numbers 0, 1 and 2, by links A and B; both ends of each cable greeted. Board 0
 /// sends all out by A, board 2 all by B, board 1 number 2 by A and number 0 by B.
-const ROW: &str = "blank 3 2496\nset 1 number 0 1\nset 2 number 0 2\n\
+const ROW: &str = "blank 3 2496 lines 1584\nset 1 number 0 1\nset 2 number 0 2\n\
                    wire 0 0 1 1\nwire 1 0 2 1\n\
                    set 0 enable 0 1\nset 1 enable 0 1\nset 1 enable 1 1\nset 2 enable 1 1\n\
-                   set 0 hello 0 0\nset 1 hello 0 0\nset 1 hello 1 0\nset 2 hello 1 0\n\
+                   set 0 hello 0 0\nline 0 0\nline 1 1\nset 1 hello 0 0\nline 1 0\nline 2 1\n\
+                   set 1 hello 1 0\nline 1 1\nline 0 0\nset 2 hello 1 0\nline 2 1\nline 1 0\n\
                    set 1 linkdirection 1 2\nset 1 direction 0 2\n";
 
 /// A file of its own for each script: tests run side by side.
@@ -61,9 +62,15 @@ fn the_same_network() {
 #[test]
 fn what_is_under_way() {
     let own = "aim 0 3 channel 0 7 0\noutput 0 3 data 5\n";
-    let over = "aim 0 3 channel 1 7 0\noutput 0 3 control 1\nsteps 5 0 8 0 8 0 8 0 8 0 8\nsteps 2 1 1 1 1\n\
-                input 1 7 control\n";
-    for (sent, where_it_differs) in [(own, "board 0"), (over, "board 0")] {
+    let over = "aim 0 3 channel 1 7 0\noutput 0 3 control 1\nsteps 5 0 8 0 8 0 8 0 8 0 8\n\
+                line 0 0\nline 0 0\nline 0 0\nline 0 0\nsteps 2 1 1 1 1\ninput 1 7 control\n";
+    // A credit that has not arrived, for a link that has its greeting once more.
+    let on_line = "set 1 hello 0 0\nline 1 0\n";
+    for (sent, where_it_differs) in [
+        (own, "board 0"),
+        (over, "board 0"),
+        (on_line, "boards 1..2"),
+    ] {
         let (said, status) = said(ROW, &(ROW.to_owned() + sent), &[]);
         assert_eq!(status, 0, "{said}");
         assert!(
@@ -126,7 +133,8 @@ fn each_setting() {
 /// A link that is disabled and enabled again has lost its greeting, and so has the far end.
 #[test]
 fn a_hello_that_was_not_said() {
-    let said = changed("set 0 enable 0 0\nset 0 enable 0 1\nset 1 hello 1 0\n");
+    let calls = "set 0 enable 0 0\nset 0 enable 0 1\nset 1 hello 1 0\nline 1 1\nline 0 0\n";
+    let said = changed(calls);
     let settings = ["board 0 link A: greeted, now not greeted"];
     assert_eq!(group(&said, "settings that differ:"), settings);
     let lost =
@@ -162,7 +170,8 @@ fn what_is_alike_is_told_once() {
 #[test]
 fn cables_and_ways() {
     let other = ROW.replace("wire 1 0 2 1", "wire 1 2 2 3");
-    let calls = "set 1 enable 2 1\nset 2 enable 3 1\nset 1 hello 2 0\nset 2 hello 3 0\n\
+    let calls = "set 1 enable 2 1\nset 2 enable 3 1\nset 1 hello 2 0\nline 1 2\nline 2 3\n\
+                 set 2 hello 3 0\nline 2 3\nline 1 2\n\
                  set 1 enable 0 0\nset 2 enable 1 0\n";
     let (said, status) = said(ROW, &(other + calls), &[]);
     assert_eq!(status, 1);
@@ -212,7 +221,7 @@ fn another_reason() {
 
 #[test]
 fn more_boards_and_fewer() {
-    let five = ROW.replace("blank 3 2496", "blank 5 4160");
+    let five = ROW.replace("blank 3 2496 lines 1584", "blank 5 4160 lines 2640");
     for (before, after, what) in [(ROW, five.as_str(), "new"), (&five, ROW, "gone")] {
         let (said, status) = said(before, after, &[]);
         assert_eq!(status, 1);
@@ -247,11 +256,12 @@ fn another_channel_and_network() {
 /// Two boards with two cables, on which a number that neither has goes round, out by one link of each
 /// and in by the other; and a third board, of that number, without a cable.
 fn round(out: usize, back: usize) -> String {
-    let mut script = "blank 3 2496\nset 1 number 0 1\nset 2 number 0 8\n".to_owned();
+    let mut script = "blank 3 2496 lines 1584\nset 1 number 0 1\nset 2 number 0 8\n".to_owned();
     for link in [0, 1] {
         script +=
             &format!("wire 0 {link} 1 {link}\nset 0 enable {link} 1\nset 1 enable {link} 1\n");
-        script += &format!("set 0 hello {link} 0\nset 1 hello {link} 0\n");
+        script += &format!("set 0 hello {link} 0\nline 0 {link}\nline 1 {link}\n");
+        script += &format!("set 1 hello {link} 0\nline 1 {link}\nline 0 {link}\n");
     }
     script + &format!("set 0 linkdirection {back} 1\nset 1 linkdirection {out} 1\n")
 }
@@ -268,7 +278,7 @@ fn a_way_round() {
 
 #[test]
 fn what_cannot_be_compared() {
-    let (good, none) = (script_file(ROW), script_file("blank 17 0\n"));
+    let (good, none) = (script_file(ROW), script_file("blank 17 0 lines 0\n"));
     let bad = script_file("jump\n");
     let cases = [
         (&none, "no network: no fresh or blank of it succeeds"),

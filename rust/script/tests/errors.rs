@@ -14,8 +14,8 @@ fn all_of_it(script: &str) -> Result<usize, Box<dyn Error>> {
     Question::read(&["0", "1", "7"])?;
     let mut bench = Bench::fresh(2)?;
     bench.set(1, Setting::Number(1))?;
-    let (state, memory) = bench.into_parts();
-    if let Some(clause) = Looks::over(&state, &memory).failing_clause() {
+    let (state, memory, lines) = bench.into_parts();
+    if let Some(clause) = Looks::over(&state, &memory, &lines).failing_clause() {
         Err(clause)?;
     }
     Ok(compared)
@@ -23,7 +23,7 @@ fn all_of_it(script: &str) -> Result<usize, Box<dyn Error>> {
 
 #[test]
 fn each_goes_by_a_question_mark() {
-    assert_eq!(all_of_it("fresh 1 832\n").ok(), Some(0));
+    assert_eq!(all_of_it("fresh 1 832 lines 528\n").ok(), Some(0));
     let error = all_of_it("fresh 1 x\n").expect_err("a bad line");
     assert!(error
         .to_string()
@@ -38,7 +38,8 @@ fn each_says_what_it_is() {
     let unread = source::read("no-such-file".as_ref()).expect_err("no file");
     let unasked = Question::read(&["x"]).expect_err("no slot");
     let refused = Bench::fresh(17).expect_err("17 boards");
-    let fails = Looks::over(&[], &[]).failing_clause().expect("no memory");
+    let fails = Looks::over(&[], &[], &[]).failing_clause();
+    let fails = fails.expect("no memory");
     let errors: [&dyn Error; 4] = [&unread, &unasked, &refused, &fails];
     let said = errors.map(|error| error.to_string());
     assert!(said[0].starts_with("No such file"), "{said:?}");

@@ -43,7 +43,7 @@ mod no_text {
     #[test]
     fn as_a_word() {
         let word = OsStr::from_bytes(b"ru\xFFn\n");
-        let path = file("no-text-word.txt", "blank 1 832\n");
+        let path = file("no-text-word.txt", "blank 1 832 lines 528\n");
         let words = |words: &[&OsStr]| command().args(words).output().expect("an output");
         let text = OsStr::new;
         for given in [&[word][..], &[word, word], &[text("help"), word]] {
@@ -67,7 +67,7 @@ mod no_text {
     #[test]
     fn as_a_file_name() {
         let path = room(OsStr::from_bytes(b"no-text-\xFF.txt"));
-        fs::write(&path, "blank 1 832\n").expect("a file");
+        fs::write(&path, "blank 1 832 lines 528\n").expect("a file");
         for verb in VERBS {
             let output = command().arg(verb).arg(&path).output();
             let output = output.expect("an output");
@@ -79,7 +79,7 @@ mod no_text {
 #[test]
 fn a_file_that_is_no_text() {
     let path = room("no-text.txt");
-    fs::write(&path, b"blank 1 832\n\nstep \xFF 8\n").expect("a file");
+    fs::write(&path, b"blank 1 832 lines 528\n\nstep \xFF 8\n").expect("a file");
     for verb in VERBS {
         let output = bench(&[verb, path.to_str().expect("a path")]);
         assert_unread(&output, "no-text.txt: line 3: no text in UTF-8");
@@ -103,7 +103,7 @@ fn a_file_that_is_too_long() {
 #[test]
 fn a_file_of_the_limit() {
     let path = room("limit.txt");
-    let script = "blank 1 832\n//";
+    let script = "blank 1 832 lines 528\n//";
     let mut lengthened = script.as_bytes().to_vec();
     lengthened.resize(MOST_BYTES as usize, b'-');
     fs::write(&path, &lengthened).expect("a file");
@@ -147,7 +147,7 @@ fn a_file_that_is_no_script() {
 #[test]
 fn numbers_that_are_too_large() {
     let (highest, beyond) = ("18446744073709551615", "18446744073709551616");
-    let path = file("large.txt", "blank 1 832\n");
+    let path = file("large.txt", "blank 1 832 lines 528\n");
     for words in [
         &["route", &path, beyond, "0", "0"][..],
         &["route", &path, "0", "4294967296", "0"],
@@ -163,7 +163,8 @@ fn numbers_that_are_too_large() {
     let output = bench(&["route", &path, highest, "4294967295", "4294967295"]);
     assert_eq!(output.status.code(), Some(1), "{output:?}");
     assert!(text(&output.stdout).ends_with("ends: Aim is refused, no 2, NoSuch\n"));
-    let calls = format!("fresh {highest} {highest}\nsteps {highest} {highest} {highest}\n");
+    let calls =
+        format!("fresh {highest} {highest} lines {highest}\nsteps {highest} {highest} {highest}\n");
     let path = file("large-calls.txt", &calls);
     let output = bench(&["run", &path]);
     assert!(output.status.success(), "{output:?}");
@@ -172,7 +173,7 @@ fn numbers_that_are_too_large() {
 /// A script whose answers are more than a pipe holds.
 fn long_script(name: &str) -> String {
     let calls = "step 0 8\n".repeat(20_000);
-    file(name, &format!("blank 1 832\n{calls}"))
+    file(name, &format!("blank 1 832 lines 528\n{calls}"))
 }
 
 /// The first bytes that it prints are read, and no more.
@@ -183,12 +184,12 @@ fn a_reader_that_goes_away() {
     command.args(["run", &path]);
     let pipes = command.stdout(Stdio::piped()).stderr(Stdio::piped());
     let mut child = pipes.spawn().expect("the command");
-    let mut first = [0; 12];
+    let mut first = [0; 14];
     let mut printed = child.stdout.take().expect("its output");
     printed.read_exact(&mut first).expect("its first line");
     drop(printed);
     let ended = child.wait_with_output().expect("its end");
-    assert_eq!(&first, b"// asks 1,7\n");
+    assert_eq!(&first, b"// asks 1,4,7\n");
     assert_eq!(
         (ended.status.code(), text(&ended.stderr)),
         (Some(0), String::new())
@@ -198,7 +199,7 @@ fn a_reader_that_goes_away() {
 /// A verb that asks has its own exit status, whoever reads.
 #[test]
 fn nobody_reads() {
-    let path = file("unread.txt", "blank 2 1664\nset 1 number 0 1\n");
+    let path = file("unread.txt", "blank 2 1664 lines 1056\nset 1 number 0 1\n");
     let cases = [
         (&["show", &path][..], 0),
         (&["draw", &path], 0),
@@ -237,7 +238,7 @@ fn nothing_can_be_written() {
         let silent = command.args([verb, &path]).stdout(full()).stderr(full());
         assert_eq!(silent.status().expect("an end").code(), Some(2), "{verb}");
     }
-    let unsound = file("unsound-unread.txt", "blank 1 1\n");
+    let unsound = file("unsound-unread.txt", "blank 1 1 lines 528\n");
     let ended = command()
         .args(["run", &unsound])
         .stdout(Stdio::null())

@@ -27,7 +27,7 @@ fn calls(lines: &str) -> Vec<String> {
     let expanded = text(&output.stdout);
     let plain = expanded.lines().filter(|line| !line.starts_with("//"));
     let plain: Vec<String> = plain.map(str::to_owned).collect();
-    assert_eq!(plain[..2], ["fresh 2 1664", "set 1 number 0 9"]);
+    assert_eq!(plain[..2], ["fresh 2 1664 lines 1056", "set 1 number 0 9"]);
     plain[2..].to_vec()
 }
 
@@ -52,7 +52,11 @@ fn boards_cables_and_routes() {
             "set 0 enable 0 1",
             "set 1 enable 3 1",
             "set 0 hello 0 0",
+            "line 0 0",
+            "line 1 3",
             "set 1 hello 3 0",
+            "line 1 3",
+            "line 0 0",
         ],
     );
     stands_for(
@@ -75,12 +79,12 @@ fn boards_cables_and_routes() {
 #[test]
 fn starts() {
     for (line, call) in [
-        ("fresh 3", "fresh 3 2496"),
-        ("blank 16", "blank 16 13312"),
-        ("fresh 3 7", "fresh 3 7"),
+        ("fresh 3", "fresh 3 2496 lines 1584"),
+        ("blank 16", "blank 16 13312 lines 8448"),
+        ("fresh 3 7 lines 5", "fresh 3 7 lines 5"),
         (
             "fresh 18446744073709551615",
-            "fresh 18446744073709551615 18446744073709551615",
+            "fresh 18446744073709551615 18446744073709551615 lines 18446744073709551615",
         ),
     ] {
         stands_for(line, &[call]);
@@ -153,6 +157,8 @@ fn plain_calls_with_names() {
         ("wire hub.E lane1 C", "wire 0 4 1 2"),
         ("set lane1 enable B 1", "set 1 enable 1 1"),
         ("set hub hello 5 0", "set 0 hello 5 0"),
+        ("line hub.E", "line 0 4"),
+        ("line lane1 9", "line 1 9"),
         ("input lane1.7 data", "input 1 7 data"),
         ("aim hub.2 channel 9 7 0", "aim 0 2 channel 9 7 0"),
     ] {
@@ -160,6 +166,46 @@ fn plain_calls_with_names() {
     }
     stands_for("step hub.A 3 times", &["step 0 0", "step 0 0", "step 0 0"]);
     stands_for("step hub.A 0 times", &[]);
+    stands_for("line hub.A 2 times", &["line 0 0", "line 0 0"]);
+}
+
+/// Behind a HELLO that words stand for the lines of its cable are emptied, of tokens too; behind a
+/// plain one they are not.
+#[test]
+fn a_hello_is_followed_to_its_end() {
+    let cabled = "wire hub.E lane1.E\n";
+    let wire = "wire 0 4 1 4";
+    for (line, hello) in [
+        (
+            "link hub.E hello",
+            vec!["set 0 hello 4 0", "line 0 4", "line 1 4"],
+        ),
+        ("set hub hello E 0", vec!["set 0 hello 4 0"]),
+        // The second is refused, as the first is on its way.
+        (
+            "set hub hello E 0\nlink lane1.E hello",
+            vec!["set 0 hello 4 0", "set 1 hello 4 0"],
+        ),
+    ] {
+        let expected = [vec![wire], hello].concat();
+        assert_eq!(calls(&format!("{cabled}{line}")), expected, "{line}");
+    }
+    let greeted = calls("cable hub.E lane1.E");
+    let sent =
+        "cable hub.E lane1.E\nsend hub.0 to lane1.7: 5\nstep hub.8 2 times\nlink hub.E hello";
+    let again = calls(sent);
+    let more = [
+        "aim 0 0 channel 9 7 0",
+        "output 0 0 data 5",
+        "step 0 8",
+        "step 0 8",
+        "set 0 hello 4 0",
+        // the header's first token, then HELLO, and the credit
+        "line 0 4",
+        "line 0 4",
+        "line 1 4",
+    ];
+    assert_eq!(again[greeted.len()..], more);
 }
 
 /// A comment may stand behind a line.
@@ -196,25 +242,26 @@ fn settle_makes_the_steps_that_change_something() {
     let path = script_file(&format!("{CROSSING}settle\nsettle\n"));
     let expanded = text(&bench(&["expand", &path]).stdout);
     let (_, settled) = expanded.split_once("//: settle\n").expect("a line");
-    // Round by round: both open; the third token of a header completes it, for board 1 in the same
-    // round, for board 0 in the next.
+    // Round by round: both open; each token of a header is put on its line, and arrives behind all
+    // ports; the third completes it, for the next round.
     let expected = "step 0 8\nstep 1 8\n\
-                    step 0 8\nstep 1 8\n\
-                    step 0 8\nstep 1 8\n\
-                    step 0 8\nstep 1 0\nstep 1 8\n\
-                    step 0 0\nstep 0 8\nstep 1 0\nstep 1 8\n\
-                    step 0 0\n\
-                    //: settled by 14 steps in 7 rounds\n\
+                    step 0 8\nstep 1 8\nline 0 0\nline 1 0\n\
+                    step 0 8\nstep 1 8\nline 0 0\nline 1 0\n\
+                    step 0 8\nstep 1 8\nline 0 0\nline 1 0\n\
+                    step 0 0\nstep 0 8\nstep 1 0\nstep 1 8\nline 0 0\nline 1 0\n\
+                    step 0 0\nstep 1 0\n\
+                    //: settled by 22 steps in 7 rounds\n\
                     //: settle\n\
                     //: settled by 0 steps in 1 round\n";
     assert_eq!(settled, expected);
 }
 
-/// All ports, over and over, by hand: the same network, whichever Steps were left out.
+/// All ports and all lines, over and over, by hand: the same network, whichever Steps were left out.
 #[test]
-fn settle_is_all_ports_in_rounds() {
-    let places = (0..2).flat_map(|slot| (0..13).map(move |port| format!("step {slot} {port}\n")));
-    let round: String = places.collect();
+fn settle_is_all_ports_and_all_lines_in_rounds() {
+    let ports = (0..2).flat_map(|slot| (0..13).map(move |port| format!("step {slot} {port}\n")));
+    let lines = (0..2).flat_map(|slot| (0..8).map(move |link| format!("line {slot} {link}\n")));
+    let round: String = ports.chain(lines).collect();
     let last_digest = |script: &str| {
         let path = script_file(script);
         let printed = text(&bench(&["run", &path]).stdout);
@@ -295,7 +342,7 @@ fn what_is_received_is_held() {
 
 /// A line, its column and what was expected, and what more is said of it.
 #[rustfmt::skip]
-const WRONG_WORDS: [(&str, &str, &str); 32] = [
+const WRONG_WORDS: [(&str, &str, &str); 34] = [
     ("setle", "1: ", "or settle, found setle, nearest is settle\n"),
     ("  recieve hub.7: 1", "3: ", "found recieve, nearest is receive\n"),
     ("cable hub.A hob.A", "13: expected a board's name or slot", "found hob, nearest is hub (cable BOARD.LINK BOARD.LINK)\n"),
@@ -325,7 +372,9 @@ const WRONG_WORDS: [(&str, &str, &str); 32] = [
     ("board new", "10: expected the slot of the board", "found nothing (board"),
     ("step hub.A 65537 times", "12: expected a count, at most 65536", "found 65537 (step"),
     ("step lane.8", "6: expected a board's name or slot", "found lane, nearest is lane1 (step SLOT PORT)\n"),
-    ("fresh", "6: expected a number of nodes", "found nothing (fresh NODES MEMORY_WORDS)\n"),
+    ("fresh", "6: expected a number of nodes", "found nothing (fresh NODES MEMORY_WORDS lines LINE_WORDS)\n"),
+    ("line hub.A 65537 times", "12: expected a count, at most 65536", "found 65537 (line"),
+    ("line hub.Q", "10: expected a link, a letter A..H or a number", "found Q (line SLOT LINK)\n"),
     ("fresh many", "7: expected a number of boards", "found many (fresh BOARDS)\n"),
     ("step hub.A -> wating # 0123456789abcdef", "15: expected an answer", "found wating, nearest is waiting\n"),
 ];
@@ -415,6 +464,8 @@ fn random_line(random: &mut impl FnMut(usize) -> usize) -> String {
         "send hub.0 to lane.7: 1 2 END",
         "settle",
         "step hub.8 3 times",
+        "line hub.A 2 times",
+        "line lane.A",
         "route lane bit 0..3 -> direction 1",
         "link lane.A direction 1 hello",
         "receive lane.7: nothing",

@@ -512,8 +512,8 @@ fn too_much_comes_in() {
 /// Words that ask for nothing: exit status 2, with what was expected or how it is written.
 #[test]
 fn what_is_not_asked() {
-    let script = file_of("blank 1 832\n");
-    let none = file_of("blank 17 0\n");
+    let script = file_of("blank 1 832 lines 528\n");
+    let none = file_of("blank 17 0 lines 0\n");
     let bad = file_of("jump\n");
     let port = |slot, port, form| ["probe", "port", &script, slot, port, form];
     let cases: [(&[&str], &str); 19] = [
@@ -582,15 +582,27 @@ fn what_is_not_asked() {
 
 /// Two boards and a cable, three tokens under way; the rest of the run is added.
 fn run_of(calls: &str) -> String {
-    let start = "blank 2 1664\nset 1 number 0 1\nwire 0 0 1 0\nset 0 enable 0 1\n\
-                 set 1 enable 0 1\nset 0 hello 0 0\nset 1 hello 0 0\n";
+    let start = "blank 2 1664 lines 1056\nset 1 number 0 1\nwire 0 0 1 0\nset 0 enable 0 1\n\
+                 set 1 enable 0 1\nset 0 hello 0 0\nline 0 0\nline 1 0\n\
+                 set 1 hello 0 0\nline 1 0\nline 0 0\n";
     file_of(&format!("{start}{calls}"))
 }
 
 const SENDS: &str = "aim 0 0 channel 1 7 0\noutput 0 0 data 42\noutput 0 0 control 1\n";
 
-/// What a run sends over link A of board 0, as tokens.
+/// What every run of it sends first over link A of board 0: its HELLO, and the credit for that of the
+/// other end.
+const GREETING: &str = "control 230 control 225";
+
+/// What a run sends behind that.
 fn captured(calls: &str) -> String {
+    let all = all_captured(calls);
+    let behind = all.strip_prefix(GREETING).unwrap_or(&all);
+    behind.trim_start().to_owned()
+}
+
+/// All that a run sends over link A of board 0, as tokens.
+fn all_captured(calls: &str) -> String {
     let path = run_of(calls);
     let digits = bench(&["capture", &path, "0", "0", "fast"]);
     assert!(digits.status.success(), "{}", text(&digits.stderr));
@@ -604,6 +616,7 @@ fn captured(calls: &str) -> String {
 fn what_a_run_sends() {
     let header = "data 0 data 1 data 7";
     let one_by_one = |count: usize| format!("{SENDS}{}", "step 0 8\n".repeat(count));
+    assert_eq!(all_captured(""), format!("{GREETING}\n"));
     assert_eq!(captured(SENDS), "");
     assert_eq!(
         captured(&one_by_one(1)),
@@ -613,6 +626,10 @@ fn what_a_run_sends() {
     assert_eq!(captured(&one_by_one(4)), format!("{header}\n"));
     let all = format!("{header} data 42 control 1\n");
     assert_eq!(captured(&one_by_one(9)), all);
+    // Once, whether or not it has arrived.
+    let arrived = one_by_one(4) + "line 0 0\nline 0 0\n" + &"step 0 8\n".repeat(5);
+    assert_eq!(captured(&arrived), all);
+    assert_eq!(captured(&(arrived + &"line 0 0\n".repeat(9))), all);
     let list = |results: usize| format!("{SENDS}steps {results}{}\n", " 0 8".repeat(6));
     assert_eq!(captured(&list(6)), all);
     assert_eq!(captured(&list(5)), "", "a list that is refused");
@@ -621,14 +638,14 @@ fn what_a_run_sends() {
         format!("{} {all}", all.trim())
     );
     // A start that is refused is none, and one that is done begins the run anew.
-    assert_eq!(captured(&(one_by_one(9) + "fresh 17 0\n")), all);
-    assert_eq!(captured(&(one_by_one(9) + "blank 1 832\n")), "");
+    assert_eq!(captured(&(one_by_one(9) + "fresh 17 0 lines 0\n")), all);
+    assert_eq!(captured(&(one_by_one(9) + "blank 1 832 lines 528\n")), "");
 }
 
 /// An unsound memory is explained as in every verb, and nothing is sent on it.
 #[test]
 fn an_unsound_memory() {
-    let path = file_of("blank 1 831\nblank 1 832\nstep 0 8\n");
+    let path = file_of("blank 1 831 lines 528\nblank 1 832 lines 528\nstep 0 8\n");
     let (status, printed, complaint) = answer(&["capture", &path, "0", "0", "fast"], &path);
     assert_eq!((status, printed.as_str()), (0, ""));
     assert!(complaint.starts_with("line 1: unsound memory, clause 1: "));
@@ -657,7 +674,7 @@ fn a_vcd_is_read_back() {
             text(&digits.stdout),
             std::fs::read_to_string(&vcd).expect("it")
         );
-        let expected = captured(calls);
+        let expected = all_captured(calls);
         assert_eq!(text(&back.stdout), expected, "{form}");
     }
 }

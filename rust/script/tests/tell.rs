@@ -85,14 +85,17 @@ fn a_circuit_is_a_line() {
             "hub, channel-end 0: aimed at number 1 channel 7, network 0; puts out 3 END",
             "hub, port 8 (from the tile): circuit opened, out by link A to lane, link A; 6 tokens \
              moved: header 00.01.07 1 2 END",
+            "hub, line from link A: 9 tokens arrived at lane, link A: header 00.01.07 1 2 END header \
+             00.01.07",
             "lane, port 0 (in by link A): circuit opened, to channel-end 7; 3 tokens handed to \
              channel-end 7: 1 2 END",
-            "hub, port 9 (from the tile): circuit opened, out by link A to lane, link A; 3 tokens \
-             moved: header 00.01.07",
+            "hub, port 9 (from the tile): circuit opened, out by link A to lane, link A; 4 tokens \
+             moved: header 00.01.07 3",
             "lane, port 0 (in by link A): circuit opened, to channel-end 7; 2 tokens handed to \
              channel-end 7: 3 END",
-            "hub, port 9 (from the tile): 2 tokens moved: 3 END",
-            "settled by 20 steps in 13 rounds",
+            "hub, line from link A: 2 tokens arrived at lane, link A: 3 END",
+            "hub, port 9 (from the tile): 1 token moved: END",
+            "settled by 31 steps in 14 rounds",
         ],
     );
 }
@@ -103,13 +106,45 @@ fn steps_one_by_one_and_as_a_list() {
     let sent = "send hub.0 to lane.7: END\n";
     let moved = "hub, port 8 (from the tile): circuit opened, out by link A to lane, link A; 2 \
                  tokens moved: header 00.01";
+    let arrived = "hub, line from link A: 2 tokens arrived at lane, link A: header 00.01";
     let waits = "lane, port 0 (in by link A): waits for the rest of its header";
     let aimed = "hub, channel-end 0: aimed at number 1 channel 7, network 0; puts out END";
-    let single = format!("{sent}step hub.8\nstep hub.8\nstep hub.8\nstep lane.A");
-    tells(&single, &[aimed, moved, waits]);
-    let listed = format!("{sent}steps 5 hub.8 hub.8 hub.8 lane.A lane.13");
+    let lines = "line hub.A\nline hub.A\n";
+    let single = format!("{sent}step hub.8\nstep hub.8\nstep hub.8\n{lines}step lane.A");
+    tells(&single, &[aimed, moved, arrived, waits]);
+    let listed = format!("{sent}steps 3 hub.8 hub.8 hub.8\n{lines}steps 2 lane.A lane.13");
     let refused = "lane, port 13: Step refused, no 2";
-    tells(&listed, &[aimed, moved, waits, refused]);
+    tells(&listed, &[aimed, moved, arrived, waits, refused]);
+}
+
+/// What a HELLO does on its way: it is said, it arrives and is granted, the credit arrives.
+#[test]
+fn what_lines_bring() {
+    let arrives = "hub, line from link A: HELLO arrives at lane, link A; lane, link A grants 64";
+    let credit = "lane, line from link A: credit for 64 tokens arrives at hub, link A";
+    tells(
+        "link hub.A hello",
+        &["hub, link A: says HELLO", arrives, credit],
+    );
+    tells(
+        "set hub hello A 0\nset lane hello A 0\nline hub.A 2 times\nline lane.A",
+        &[
+            "hub, link A: says HELLO",
+            "lane, link A: HELLO refused, no 4, Busy: the link is disabled, or a credit or a HELLO \
+             is on a line of its cable; enable it, or settle, first",
+            &format!("{arrives}; nothing is on it"),
+            credit,
+        ],
+    );
+    tells(
+        "link lane.B enable hello\nline lane.B\nline hub.9",
+        &[
+            "lane, link B: enabled; says HELLO, which nobody hears",
+            "lane, line from link B: nothing is on it",
+            "hub, line from link 9: line step refused, no 2, NoSuch: no such board, or no such link; \
+             boards count from 0, links are A..H",
+        ],
+    );
 }
 
 /// What is said once more of the same place is said once.

@@ -36,23 +36,26 @@ fn settings_in_words() {
 
 #[test]
 fn starts_wire_and_step_in_words() {
-    let (nodes, memory_words) = (2, 1664);
+    let (nodes, memory_words, line_words) = (2, 1664, 1056);
     let fresh = Call::Fresh {
         nodes,
         memory_words,
+        line_words,
     };
-    reads("fresh 2 1664", fresh);
+    reads("fresh 2 1664 lines 1056", fresh);
     let blank = Call::Blank {
         nodes,
         memory_words,
+        line_words,
     };
-    reads("blank 2 1664", blank);
+    reads("blank 2 1664 lines 1056", blank);
     let wire = Call::Wire {
         one: LinkEnd { slot: 0, link: 1 },
         other: LinkEnd { slot: 2, link: 3 },
     };
     reads("wire 0 1 2 3", wire);
     reads("step 3 12", Call::Step { slot: 3, port: 12 });
+    reads("line 3 8", Call::Line { slot: 3, link: 8 });
 }
 
 #[test]
@@ -123,6 +126,10 @@ fn every_answer_in_words() {
         "idle",
         "waiting",
         "moved",
+        "moved 0",
+        "moved 8",
+        "moved 16",
+        "moved 64",
         "opened link 7",
         "opened channel",
         "opened control",
@@ -154,7 +161,10 @@ fn every_answer_of_the_library_has_words() {
         };
         met += 1;
         let line = format!("step 0 0 -> {} # 00000000000000ff", Answer::from(answer));
-        let is_grant = matches!(answer, bench::Answer::Granted(_));
+        let is_grant = matches!(
+            answer,
+            bench::Answer::Granted(_) | bench::Answer::Arrived(_)
+        );
         let is_far = line.contains("opened link") && value > 7;
         assert_eq!(
             parse(&line).is_err(),
@@ -162,7 +172,7 @@ fn every_answer_of_the_library_has_words() {
             "{line}"
         );
     }
-    assert_eq!(met, 12 + 16 + 16 + 16 + 2 + 2 + 8);
+    assert_eq!(met, 12 + 16 + 16 + 16 + 16 + 2 + 2 + 8);
 }
 
 #[test]
@@ -184,7 +194,7 @@ fn lines_that_differ_in_spaces_and_digits_alone() {
 
 #[test]
 fn lines_are_counted_through() {
-    let text = "// a board\n\nfresh 1 832\n   \n  // set\nset 0 width 0 1\n";
+    let text = "// a board\n\nfresh 1 832 lines 528\n   \n  // set\nset 0 width 0 1\n";
     let lines = parse(text).expect("a script");
     let numbers: Vec<_> = lines.iter().map(|line| line.number).collect();
     assert_eq!(numbers, [3, 6]);
@@ -192,9 +202,9 @@ fn lines_are_counted_through() {
 
 /// Lines that are no call, and what was expected.
 #[rustfmt::skip]
-const BAD_LINES: [(&str, &str); 46] = [
-    ("jump 0 0", "expected fresh, blank, wire, set, aim, output, input, step or steps, found jump"),
-    ("-> done # 0000000000000000", "expected fresh, blank, wire, set, aim, output, input, step or steps, found nothing"),
+const BAD_LINES: [(&str, &str); 53] = [
+    ("jump 0 0", "expected fresh, blank, wire, set, aim, output, input, step, line or steps, found jump"),
+    ("-> done # 0000000000000000", "expected fresh, blank, wire, set, aim, output, input, step, line or steps, found nothing"),
     ("step 0", "expected a port, found nothing (step SLOT PORT)"),
     ("step 0 0 0", "expected no more words, found 0 (step SLOT PORT)"),
     ("step 0 x", "expected a port, found x (step SLOT PORT)"),
@@ -204,9 +214,15 @@ const BAD_LINES: [(&str, &str); 46] = [
     ("step 0xg 0", "expected a slot, found 0xg (step SLOT PORT)"),
     ("step 0X1 0", "expected a slot, found 0X1 (step SLOT PORT)"),
     ("step 18446744073709551616 0", "expected a slot, found 18446744073709551616 (step SLOT PORT)"),
-    ("fresh 1", "expected a number of memory words, found nothing (fresh NODES MEMORY_WORDS)"),
-    ("blank 1", "expected a number of memory words, found nothing (blank NODES MEMORY_WORDS)"),
-    ("blank 1 832 0", "expected no more words, found 0 (blank NODES MEMORY_WORDS)"),
+    ("fresh 1", "expected a number of memory words, found nothing (fresh NODES MEMORY_WORDS lines LINE_WORDS)"),
+    ("blank 1", "expected a number of memory words, found nothing (blank NODES MEMORY_WORDS lines LINE_WORDS)"),
+    ("fresh 1 0x340", "expected lines, found nothing (fresh NODES MEMORY_WORDS lines LINE_WORDS)"),
+    ("fresh 1 0x340 line 528", "expected lines, found line, nearest is lines (fresh NODES MEMORY_WORDS lines LINE_WORDS)"),
+    ("fresh 1 0x340 lines", "expected a number of words for lines, found nothing (fresh NODES MEMORY_WORDS lines LINE_WORDS)"),
+    ("line 0", "expected a link, found nothing (line SLOT LINK)"),
+    ("line 0 0 0", "expected no more words, found 0 (line SLOT LINK)"),
+    ("line 0 0 -> moved 4 # 0000000000000000", "expected a grant of 0, 8, 16 or 64, found 4"),
+    ("blank 1 832 lines 528 0", "expected no more words, found 0 (blank NODES MEMORY_WORDS lines LINE_WORDS)"),
     ("set 0 colour 0 0", "expected number, width, direction, linkdirection, network, enable or hello, found colour (set SLOT SETTING INDEX VALUE)"),
     ("set 0 number 1 0", "expected 0 as the index, found 1 (set SLOT SETTING INDEX VALUE)"),
     ("set 0 hello 1 1", "expected 0 as the value, found 1 (set SLOT SETTING INDEX VALUE)"),
@@ -233,8 +249,9 @@ const BAD_LINES: [(&str, &str); 46] = [
     ("steps 1 0; 8", "expected a slot, found 0; (steps RESULTS SLOT PORT SLOT PORT ..)"),
     ("steps 1 0 8 -> results moved; # 0000000000000000", "expected an answer, found nothing"),
     ("steps 1 0 8 -> results ; moved # 0000000000000000", "expected an answer, found nothing"),
-    ("steps 1 0 8 -> results moved moved # 0000000000000000", "expected no more words, found moved"),
+    ("steps 1 0 8 -> results moved moved # 0000000000000000", "expected a grant of 0, 8, 16 or 64, found moved"),
     ("steps 1 0 8 -> results results # 0000000000000000", "expected an answer, found results"),
+    ("steps 1 0 8 -> results moved 8 # 0000000000000000", "expected an answer of a Step, found moved 8"),
     ("steps 1 0 8 -> results done # 0000000000000000", "expected an answer of a Step, found done"),
     ("steps 1 0 8 -> results token 7 # 0000000000000000", "expected an answer of a Step, found token 7"),
     ("steps 1 0 8 -> results; moved # 0000000000000000", "expected an answer, found results;"),
@@ -244,7 +261,7 @@ const BAD_LINES: [(&str, &str); 46] = [
 #[test]
 fn bad_lines_are_named() {
     for (line, expected) in BAD_LINES {
-        let text = format!("fresh 1 832\n\n// next\n{line}\nnor is this\n");
+        let text = format!("fresh 1 832 lines 528\n\n// next\n{line}\nnor is this\n");
         let bad = parse(&text).expect_err(line);
         let (number, complaint) = (bad.line, bad.expected.to_string());
         assert_eq!(number, 4);

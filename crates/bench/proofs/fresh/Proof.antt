@@ -7,7 +7,7 @@ use Rattle.bench.proofs.fresh.Tie as tie
 
 returns : tie.Need-returns
 unfolding apply begin
-returns c = c .before .before .before .before .begin .ensures
+returns c = c .before .before .before .before .before .before .begin .ensures
 
 pub fresh-spec : {M : Type 1} → statement M
-fresh-spec = tie.close (tie.spec (λ c κs. search needs) (λ c. search needs) (λ c. search needs) returns)
+fresh-spec = tie.close (tie.spec (λ c κs. search needs) (λ c. search needs) (λ c. search needs) (λ c. search needs) returns)

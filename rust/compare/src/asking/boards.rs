@@ -1,8 +1,10 @@
 //! The two boards of a run that asks control units.
 
 use model::calls::Call;
-use model::network::{memory_words, LinkEnd, Network, Start};
+use model::network::{LinkEnd, Network, Start};
 use model::set::Setting;
+
+use crate::calls::beginning;
 
 pub(super) const NODES: usize = 2;
 
@@ -23,8 +25,7 @@ const TO_SELF: u32 = 2;
 pub(super) fn cabling(start: Start) -> Vec<Call> {
     let end = |slot, link| LinkEnd { slot, link };
     let wire = |one, other| Call::Wire { one, other };
-    let words = memory_words(NODES).unwrap_or(0);
-    let mut calls = vec![Call::beginning(start, NODES, words)];
+    let mut calls = vec![beginning(start, NODES)];
     calls.extend(JOINED.map(|link| wire(end(0, link), end(1, link))));
     calls.extend((0..NODES).map(|slot| wire(end(slot, OWN[0]), end(slot, OWN[1]))));
     calls
@@ -81,7 +82,8 @@ fn of_link((link, direction): (usize, u32)) -> Vec<Setting> {
     ]
 }
 
-/// Would this setting change anything that matters? A link that is greeted is not greeted again.
+/// Would this setting change anything that matters? A link that is greeted is not greeted again, and
+/// neither is one whose HELLO is on its way.
 pub(super) fn is_undone(network: &Option<Network>, call: &Call) -> bool {
     if let Call::Set {
         slot,
@@ -89,7 +91,10 @@ pub(super) fn is_undone(network: &Option<Network>, call: &Call) -> bool {
     } = *call
     {
         let end = network.as_ref().and_then(|network| network.nodes.get(slot));
-        return end.is_some_and(|node| !node.links[link].greeted);
+        return end.is_some_and(|node| {
+            let link = &node.links[link];
+            !link.greeted && !link.hello_on_line()
+        });
     }
     let mut after = network.clone();
     model::apply(&mut after, call);

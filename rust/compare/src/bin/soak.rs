@@ -9,8 +9,8 @@ use std::time::{Duration, Instant, SystemTime, UNIX_EPOCH};
 use compare::reduce::{report, report_by};
 use compare::soak::{thorough, watched, watched_lists, Figures, Found};
 use compare::watch::library;
-use compare::{asking, changing, filling};
-use model::{runs, Call};
+use compare::{asking, changing, filling, runs};
+use model::Call;
 
 const ABOUT: &str = "\
 soak: compares the proved bench with the model on random runs and damaged memories, and watches

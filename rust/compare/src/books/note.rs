@@ -9,7 +9,7 @@ use model::calls::Call;
 use model::{tokens, Answer};
 
 use super::words::{self, ends_circuit, is_pause, plain};
-use super::{Books, Cell, Circuit, Door, End, Fate, Happening, Port, Sender, Touched, Way};
+use super::{Books, Cell, Circuit, Door, End, Fate, Happening, Line, Port, Sender, Touched, Way};
 use crate::watch::{Broken, Glimpse, Seen, Sentence};
 
 /// How a watcher writes its books: [`note`], or another where it is to be wrong on purpose.
@@ -20,6 +20,7 @@ pub type Note = fn(&mut Books, &Seen) -> Result<Touched, Broken>;
 pub fn note(books: &mut Books, seen: &Seen) -> Result<Touched, Broken> {
     match (&seen.call, &seen.answer) {
         (&Call::Step { slot, port }, _) => super::step::step(books, seen, Port { slot, port }),
+        (&Call::Line { slot, link }, _) => super::line::step(books, seen, Line { slot, link }),
         (call, Answer::No(_)) => Ok(named(books, call)),
         (call, Answer::Done) if call.start().is_some() => {
             *books = Books::default();

@@ -198,14 +198,14 @@ impl Noting<'_, '_> {
         Ok(())
     }
 
-    /// Over the cable of the link that the circuit leaves by, into the port at its far end.
+    /// On to the line that starts at the link that the circuit leaves by, behind what is on it.
     fn carry(&mut self) -> Result<(), Broken> {
-        let Glimpse::Step { far: Some(far), .. } = self.seen.before else {
-            return self.odd("a token has crossed a cable that is not there");
+        let Glimpse::Step { out: Some(on), .. } = self.seen.before else {
+            return self.odd("a token has left by a cable that is not there");
         };
         let cell = self.take()?;
-        self.books.put(far, cell);
-        self.touched.ports.push(far);
+        self.books.lines.entry(on).or_default().push_back(cell);
+        self.touched.lines.push(on);
         let circuit = cell.circuit;
         self.touched
             .circuit(circuit, Happening::Carried { circuit });

@@ -36,6 +36,17 @@ pub fn ends_circuit(token: Token) -> bool {
     is_pause(token) || token == plain(Kind::Control, END)
 }
 
+/// "CREDIT8 0xE0", "CREDIT64 0xE1", "CREDIT16 0xE4", which are on lines alone.
+pub fn is_credit(token: Token) -> bool {
+    let credits = [0xE0, 0xE1, 0xE4].map(|value| plain(Kind::Control, value));
+    credits.contains(&token)
+}
+
+/// "HELLO 0xE6", which is on lines alone.
+pub fn is_hello(token: Token) -> bool {
+    token == plain(Kind::Control, 0xE6)
+}
+
 /// A width as Set has it, as the mark of a header token.
 pub fn width(bytes: u32) -> Option<Width> {
     match bytes {

@@ -32,9 +32,14 @@ fn links(network: &Network, is_meant: impl Fn(&Link) -> bool) -> Vec<LinkEnd> {
         .collect()
 }
 
+/// The ends at which lines start that have something on them.
+pub fn lines_in_use(network: &Network) -> Vec<LinkEnd> {
+    links(network, |link| !link.line.is_empty())
+}
+
 /// A cable for a link without one by which a circuit is to leave, often to another such, and what
-/// puts both ends to work behind it, HELLO left out now and then; nothing where there is no such
-/// link.
+/// puts both ends to work behind it, HELLO left out now and then, or left on its line; nothing where
+/// there is no such link.
 pub fn plug(random: &mut Random, network: Option<&Network>) -> Vec<Call> {
     let links = |is_meant: fn(&Link) -> bool| network.map(|network| links(network, is_meant));
     let free = links(|link| link.far.is_none()).unwrap_or_default();
@@ -55,8 +60,17 @@ pub fn plug(random: &mut Random, network: Option<&Network>) -> Vec<Call> {
     };
     let mut calls = vec![Call::Wire { one, other }];
     calls.extend([one, other].map(|end| set(end, enable(end))));
-    let hello = |end: LinkEnd| Setting::Hello { link: end.link };
-    let greeted = [one, other].into_iter().filter(|_| random.chance(85));
-    calls.extend(greeted.map(|end| set(end, hello(end))));
+    for (end, far) in [(one, other), (other, one)] {
+        if random.chance(85) {
+            calls.push(set(end, Setting::Hello { link: end.link }));
+        }
+        if random.chance(90) {
+            calls.extend([end, far].map(line));
+        }
+    }
     calls
+}
+
+fn line(LinkEnd { slot, link }: LinkEnd) -> Call {
+    Call::Line { slot, link }
 }

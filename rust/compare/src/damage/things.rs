@@ -1,26 +1,28 @@
-//! Damage by things and not by words: a state of the model with a circuit, a token, a cable or a
-//! credit that is not as it was. What comes of it is a state of the model, and more often nearly
+//! Damage by things and not by words: a state of the model with a circuit, a token, a cable, a
+//! credit or a line that is not as it was. What comes of it is a state of the model, and more often nearly
 //! sound than changed words are.
 
 use model::answers::Cause;
+use model::lines::credit;
 use model::network::{Aim, Claim, Hop, LinkEnd, Network, Node, Sending};
 use model::random::Random;
 use model::sizes::{
     CHANNELS, CHANNEL_ENDS, HIGHEST_NETWORK, HIGHEST_NUMBER, LINKS, PORTS, TILE_LINKS, TILE_PORTS,
 };
-use model::tokens::{header, Destination, Token, END, PAUSE, SINK};
+use model::tokens::{header, Destination, Token, END, HELLO, PAUSE, SINK};
 
 /// Changes one to three things.
 pub fn disturb(random: &mut Random, network: &mut Network) {
     for _ in 0..1 + random.below(3) {
         let slots = network.nodes.len();
         let slot = random.below(slots);
-        match random.below(6) {
+        match random.below(8) {
             0 => link(random, slots, &mut network.nodes[slot]),
             1 => hold(random, &mut network.nodes[slot]),
             2 => lose(random, &mut network.nodes[slot]),
             3 => port(random, &mut network.nodes[slot]),
             4 => hear(random, &mut network.nodes[slot]),
+            5 | 6 => line(random, &mut network.nodes[slot]),
             _ => channel_end(random, &mut network.nodes[slot]),
         }
     }
@@ -64,6 +66,44 @@ fn link(random: &mut Random, slots: usize, node: &mut Node) {
         5 => link.used_by = perhaps(random, user),
         _ => link.network = random.value_below(5),
     }
+}
+
+/// What is on a line, or what its link has issued: best of a line that has something on it.
+fn line(random: &mut Random, node: &mut Node) {
+    let used: Vec<usize> = (0..LINKS)
+        .filter(|link| !node.links[*link].line.is_empty())
+        .collect();
+    let any = random.below(LINKS);
+    let link = random.pick(&used).filter(|_| random.chance(80));
+    let link = &mut node.links[link.unwrap_or(any)];
+    let place = random.below(link.line.len() + 1);
+    match random.below(8) {
+        0 => link.issued = random.below(66),
+        1 => link.issued += 1,
+        2 => link.issued = link.issued.saturating_sub(1),
+        3 => drop(link.line.remove(place)),
+        4 => link.line.insert(place, Token::control(HELLO)),
+        5 => link.line.insert(place, credit(grant(random))),
+        6 => link.line.insert(place, Token::data(random.byte())),
+        _ => link.line.insert(place, any_on_line(random)),
+    }
+}
+
+fn grant(random: &mut Random) -> usize {
+    random.pick(&[8, 16, 64]).unwrap_or(8)
+}
+
+/// A token of a kind that may or may not stand on a line.
+fn any_on_line(random: &mut Random) -> Token {
+    let tokens = [
+        Token::control(random.byte()),
+        Token::control(END),
+        Token::control(PAUSE),
+        Token::data(random.byte()).in_header(3),
+        Token::data(random.byte()).in_header(1),
+        Token::control(HELLO).in_header(3),
+    ];
+    random.pick(&tokens).unwrap_or(tokens[0])
 }
 
 /// A stretch of tokens comes to stand at the end of a port or channel-end: a header, or a part of

@@ -6,6 +6,7 @@ use std::ops::AddAssign;
 
 use bench::Cause;
 use model::calls::Call;
+use model::network::Start;
 use model::Answer;
 
 use super::Seen;
@@ -41,7 +42,11 @@ pub enum Met {
     /// landed then.
     Joined,
     JoinedLanded,
+    /// Tokens that went on to lines, that came off them, and what else came off them.
     Carried,
+    Arrived,
+    Credited,
+    Greeted,
     Handed,
     Dropped,
     /// Circuits that a PAUSE ended, and such PAUSEs as came to a door.
@@ -75,7 +80,10 @@ impl Met {
             Met::Circles => "back into their own port",
             Met::Joined => "given a cable under way",
             Met::JoinedLanded => "landed over such a cable",
-            Met::Carried => "tokens over cables",
+            Met::Carried => "tokens on to lines",
+            Met::Arrived => "tokens off lines",
+            Met::Credited => "credits off lines",
+            Met::Greeted => "HELLOs off lines",
             Met::Handed => "tokens handed",
             Met::Dropped => "tokens dropped",
             Met::EndedByPause => "circuits ended by PAUSE",
@@ -113,14 +121,13 @@ impl Figures {
         self.add(Met::Calls);
         let refused = matches!(seen.answer, Answer::No(_));
         self.add_if(refused, Met::Refusals);
-        match seen.call {
-            Call::Fresh { .. } | Call::Blank { .. } if refused => self.add(Met::StartRefused),
-            Call::Fresh { .. } => self.add_if(seen.place > 0, Met::BegunAnew),
-            Call::Blank { .. } => {
+        match (seen.call.start(), &seen.call) {
+            (Some(_), _) if refused => self.add(Met::StartRefused),
+            (Some(start), _) => {
                 self.add_if(seen.place > 0, Met::BegunAnew);
-                self.add(Met::Blank);
+                self.add_if(start == Start::Blank, Met::Blank);
             }
-            Call::Output { .. } if !refused => {
+            (None, Call::Output { .. }) if !refused => {
                 let mut circuits = touched.circuits.iter();
                 let paused = circuits.any(|number| books.is_paused(*number));
                 self.add_if(paused, Met::EndedByPause);
@@ -145,6 +152,9 @@ impl Figures {
             Happening::Paused { .. } => self.add(Met::PausesAtDoors),
             Happening::Joined { .. } => self.add(Met::Joined),
             Happening::Carried { .. } => self.add(Met::Carried),
+            Happening::Arrived { .. } => self.add(Met::Arrived),
+            Happening::Credited => self.add(Met::Credited),
+            Happening::Greeted => self.add(Met::Greeted),
             Happening::TurnedBack { .. } => self.add(Met::TurnedBack),
             Happening::Circles { .. } => self.add(Met::Circles),
             Happening::Dropped { .. } => self.add(Met::Dropped),

@@ -7,7 +7,7 @@ use model::{answers, Answer};
 
 use super::{ties, Seen};
 use crate::books::words::{self, is_pause, shown};
-use crate::books::{Books, Circuit, Door, Fate, Happening, Port, Touched};
+use crate::books::{Books, Circuit, Door, Fate, Happening, Line, Port, Touched};
 
 /// What a sentence says of the run so far: nothing, or how it is broken.
 pub(super) type Held = Result<(), String>;
@@ -33,7 +33,7 @@ pub enum Sentence {
 
 /// What each says, in their order.
 const TEXTS: [&str; 13] = [
-    "a call answers as document 01 lets it, and the books have what it moves",
+    "a call answers as the documents let it, and the books have what it moves",
     "a circuit is refused as Split exactly when a switch of the other width reads its whole \
      header, and it hands nothing",
     "what a circuit handed is the first so many that were put out on it after its header, pauses \
@@ -48,7 +48,7 @@ const TEXTS: [&str; 13] = [
     "the streams of a channel-end's circuits are the tokens of its done Outputs",
     "a circuit hands at one place only, and each door has what its circuits handed",
     "what a channel-end was handed is what Input took, and then what it holds",
-    "the tokens of a port are those of the books",
+    "the tokens of a port, and those on a line, are those of the books",
     "header tokens keep their mark, and no other token bears one",
 ];
 
@@ -91,7 +91,7 @@ impl Sentence {
         }
     }
 
-    /// Holds it of these circuits, ports, channel-ends and units.
+    /// Holds it of these circuits, ports, lines, channel-ends and units.
     fn hold_over(self, books: &Books, looks: Looks, over: &Touched) -> Held {
         let circuits = |check: fn(&Circuit) -> Held| {
             all(&over.circuits, |number| circuit(books, *number, check))
@@ -113,9 +113,13 @@ impl Sentence {
             Sentence::Outputs => all(&over.ends, |end| ties::outputs(books, looks, *end)),
             Sentence::Places => all(&over.circuits, |number| ties::in_its_log(books, *number)),
             Sentence::Inputs => all(&over.ends, |end| ties::inputs(books, looks, *end)),
-            Sentence::Cells => all(&over.ports, |at| ties::cells(books, looks, *at)),
+            Sentence::Cells => {
+                all(&over.ports, |at| ties::cells(books, looks, *at))?;
+                all(&over.lines, |on| ties::on_line(books, looks, *on))
+            }
             Sentence::Marks => {
                 all(&over.ports, |at| ties::marks(books, looks, *at))?;
+                all(&over.lines, |on| ties::marks_on_line(books, looks, *on))?;
                 all(&over.ends, |end| ties::unmarked(looks, *end))
             }
         }
@@ -139,6 +143,10 @@ fn everything(books: &Books, looks: Looks) -> Touched {
         let ports = 0..bench::sizes::PORTS;
         ports.map(move |port| Port { slot, port })
     });
+    let lines = slots.clone().flat_map(|slot| {
+        let links = 0..bench::sizes::LINKS;
+        links.map(move |link| Line { slot, link })
+    });
     let ends = slots.clone().flat_map(|slot| {
         let ends = 0..bench::sizes::CHANNEL_ENDS;
         ends.map(move |end| crate::books::End { slot, end })
@@ -146,6 +154,7 @@ fn everything(books: &Books, looks: Looks) -> Touched {
     Touched {
         circuits: (0..books.circuits.len()).collect(),
         ports: books.cells.keys().copied().chain(ports).collect(),
+        lines: books.lines.keys().copied().chain(lines).collect(),
         ends: books.ends.keys().copied().chain(ends).collect(),
         units: books.hearing.keys().copied().chain(slots).collect(),
         ..Touched::default()

@@ -1,4 +1,4 @@
-//! What ties the books to the bench: ports, channel-ends, control units and doors, each held
+//! What ties the books to the bench: ports, lines, channel-ends, control units and doors, each held
 //! against what the looks show there.
 
 use std::collections::BTreeSet;
@@ -8,8 +8,8 @@ use bench::sizes::UNIT_BUFFER;
 use bench::{Looks, Peer, Token};
 
 use super::sentences::Held;
-use crate::books::words::{is_pause, shown};
-use crate::books::{Books, Circuit, Door, End, Fate, Port, Sender, Way};
+use crate::books::words::{is_credit, is_hello, is_pause, shown};
+use crate::books::{Books, Cell, Circuit, Door, End, Fate, Line, Port, Sender, Way};
 
 /// A token without its mark.
 fn bare(token: Token) -> Token {
@@ -37,25 +37,63 @@ fn found(tokens: Option<Vec<Token>>) -> String {
 /// Kinds and values of a port's tokens; [`marks`] has the marks.
 pub(super) fn cells(books: &Books, looks: Looks, at: Port) -> Held {
     let held = tokens(looks.port_tokens(at.slot, at.port));
+    same_tokens(at, held, books.cells.get(&at).into_iter().flatten())
+}
+
+/// The same of the tokens on a line.
+pub(super) fn on_line(books: &Books, looks: Looks, on: Line) -> Held {
+    same_tokens(
+        on,
+        tokens_on(looks, on),
+        books.lines.get(&on).into_iter().flatten(),
+    )
+}
+
+/// What is on a line and of a circuit: neither credit nor HELLO.
+fn tokens_on(looks: Looks, Line { slot, link }: Line) -> Option<Vec<Token>> {
+    let things = tokens(looks.line_tokens(slot, link))?.into_iter();
+    let of_circuits = things.filter(|token| !is_credit(*token) && !is_hello(*token));
+    Some(of_circuits.collect())
+}
+
+fn same_tokens<'a>(
+    place: impl Display,
+    held: Option<Vec<Token>>,
+    cells: impl Iterator<Item = &'a Cell>,
+) -> Held {
     let held: Option<Vec<_>> = held.map(|held| held.into_iter().map(bare).collect());
-    let cells = books.cells.get(&at).into_iter().flatten();
     let written: Vec<_> = cells.map(|cell| bare(cell.token)).collect();
     match held {
         Some(held) if held == written => Ok(()),
-        held => differ(at, found(held), shown(&written)),
+        held => differ(place, found(held), shown(&written)),
     }
 }
 
 /// The mark of each token of a port is that of its place in its circuit's stream.
 pub(super) fn marks(books: &Books, looks: Looks, at: Port) -> Held {
-    let cells = books.cells.get(&at).into_iter().flatten();
-    for (word, cell) in looks.port_tokens(at.slot, at.port).zip(cells) {
-        let found = Token::from_word(word).and_then(|token| token.header);
+    let held = tokens(looks.port_tokens(at.slot, at.port)).unwrap_or_default();
+    same_marks(books, at, held, books.cells.get(&at).into_iter().flatten())
+}
+
+/// The same of the tokens on a line.
+pub(super) fn marks_on_line(books: &Books, looks: Looks, on: Line) -> Held {
+    let there = tokens_on(looks, on).unwrap_or_default();
+    same_marks(books, on, there, books.lines.get(&on).into_iter().flatten())
+}
+
+fn same_marks<'a>(
+    books: &Books,
+    place: impl Display,
+    held: Vec<Token>,
+    cells: impl Iterator<Item = &'a Cell>,
+) -> Held {
+    for (token, cell) in held.into_iter().zip(cells) {
+        let found = token.header;
         let circuit = books.circuits.get(cell.circuit);
         let expected = circuit.and_then(|circuit| circuit.mark(cell.position));
         if found != expected {
             let (number, position) = (cell.circuit, cell.position);
-            let which = format!("token {position} of circuit {number} in {at}");
+            let which = format!("token {position} of circuit {number} in {place}");
             return differ(which, format!("{found:?}"), format!("{expected:?}"));
         }
     }

@@ -122,6 +122,15 @@ impl Runner {
         self.links(|link| link.far.is_some() && link.freight().any(&is_meant))
     }
 
+    /// By line every start lends a second memory, also one that is refused.
+    pub(super) fn lend(&self, call: &mut Call) {
+        let begins = call.begins();
+        let lends_none = begins.is_some_and(|beginning| beginning.line_words.is_none());
+        if self.tide.is_some() && lends_none {
+            lend_lines(call);
+        }
+    }
+
     /// A start that is refused for the length of its second memory, or for its first.
     fn odd_start_with_lines(&mut self) -> Call {
         let mut call = self.odd_start();
@@ -175,11 +184,11 @@ fn has_own_cable(plan: &Plan) -> bool {
     calls.any(|call| matches!(call, Call::Wire { one, other } if one.slot == other.slot))
 }
 
-/// Lends a start its second memory.
+/// Lends a start its second memory. Counts of nodes that have no such length are refused at any.
 pub fn lend_lines(call: &mut Call) {
     if let Some(beginning) = call.begins() {
         *call = Call::from(Beginning {
-            line_words: line_words(beginning.nodes),
+            line_words: line_words(beginning.nodes).or(Some(usize::MAX)),
             ..beginning
         });
     }

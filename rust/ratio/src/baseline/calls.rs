@@ -1,8 +1,8 @@
 //! The door: every call but the two starts tests the state first.
 
-use std::ops::Range;
-
-use model::sizes::{BOOT_LINKS, MOST_NODES};
+use compare::layout::{NODE_LINES, NODE_TOKENS};
+use model::calls::Beginning;
+use model::sizes::MOST_NODES;
 use model::tokens::THREE_BYTES;
 use model::{Answer, Call, No, StepRecord};
 
@@ -11,15 +11,11 @@ use super::records::{Network, Node};
 impl Network {
     /// Makes a call. A refused call changes nothing.
     pub fn make(&mut self, call: &Call) -> Answer {
+        if let Some(beginning) = call.begins() {
+            let begun = self.start(beginning);
+            return begun.unwrap_or_else(Answer::No);
+        }
         let made = match *call {
-            Call::Fresh {
-                nodes,
-                memory_words,
-            } => self.start(BOOT_LINKS, nodes, memory_words),
-            Call::Blank {
-                nodes,
-                memory_words,
-            } => self.start(0..0, nodes, memory_words),
             Call::Steps {
                 results,
                 ref records,
@@ -32,9 +28,11 @@ impl Network {
 
     fn make_on_sound(&mut self, call: &Call) -> Result<Answer, No> {
         match *call {
-            Call::Fresh { .. } | Call::Blank { .. } | Call::Steps { .. } => Err(No::Unsound),
-            // Here tokens cross at once.
-            Call::WithLines { .. } | Call::Line { .. } => Err(No::Unsound),
+            // They ask nothing of the state, and are not made here.
+            Call::Fresh { .. }
+            | Call::Blank { .. }
+            | Call::WithLines { .. }
+            | Call::Steps { .. } => Err(No::Unsound),
             Call::Wire { one, other } => self.wire(one, other),
             Call::Set { slot, setting } => self.set(slot, setting),
             Call::Aim {
@@ -55,6 +53,7 @@ impl Network {
                 kind,
             } => self.input(slot, channel_end, kind),
             Call::Step { slot, port } => self.step(slot, port).map(Answer::from),
+            Call::Line { slot, link } => self.line_step(slot, link),
         }
     }
 
@@ -67,24 +66,22 @@ impl Network {
         Ok(Answer::Results(each.collect()))
     }
 
-    /// A start that leaves these links of every node enabled.
-    fn start(
-        &mut self,
-        enabled: Range<usize>,
-        nodes: usize,
-        memory_words: usize,
-    ) -> Result<Answer, No> {
+    /// A start, which leaves links E to H of every node enabled or none. One that says nothing of lines
+    /// lends no words for them.
+    fn start(&mut self, beginning: Beginning) -> Result<Answer, No> {
+        let Beginning { start, nodes, .. } = beginning;
         if !(1..=MOST_NODES).contains(&nodes) {
             return Err(No::NoSuch);
         }
-        if model::network::memory_words(nodes) != Some(memory_words) {
+        let lent = (beginning.memory_words, beginning.line_words.unwrap_or(0));
+        if lent != (nodes * NODE_TOKENS, nodes * NODE_LINES) {
             return Err(No::Unsound);
         }
         self.count = nodes;
         for node in &mut self.nodes[..nodes] {
             *node = Node::default();
             node.width = THREE_BYTES;
-            for link in &mut node.links[enabled.clone()] {
+            for link in &mut node.links[start.enabled()] {
                 link.enabled = 1;
             }
         }

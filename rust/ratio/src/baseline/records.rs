@@ -2,8 +2,8 @@
 
 use model::answers::Cause;
 use model::sizes::{
-    CHANNELS, CHANNEL_ENDS, CHANNEL_END_CAPACITY, HEARD, LINKS, MOST_NODES, PORTS, PORT_CAPACITY,
-    TILE_LINKS,
+    CHANNELS, CHANNEL_ENDS, CHANNEL_END_CAPACITY, HEARD, LINE_CAPACITY, LINKS, MOST_NODES, PORTS,
+    PORT_CAPACITY, TILE_LINKS,
 };
 use model::tokens::SINK;
 
@@ -87,12 +87,13 @@ pub struct Unit {
     pub tokens: [u32; HEARD],
 }
 
-/// The line that starts at a link, and what that link has issued.
-#[derive(Clone, Copy, Debug, Default, PartialEq, Eq)]
+/// The line that starts at a link with its ring of words, and what that link has issued.
+#[derive(Clone, Copy, Debug, PartialEq, Eq)]
 pub struct Line {
     pub head: u32,
     pub held: u32,
     pub issued: u32,
+    pub words: [u16; LINE_CAPACITY],
 }
 
 #[derive(Clone, Copy, Debug, Default, PartialEq, Eq)]
@@ -194,6 +195,42 @@ impl Port {
 
     fn at(&self, place: u32) -> usize {
         (self.head + place) as usize % PORT_CAPACITY
+    }
+}
+
+impl Default for Line {
+    fn default() -> Line {
+        Line {
+            head: 0,
+            held: 0,
+            issued: 0,
+            words: [0; LINE_CAPACITY],
+        }
+    }
+}
+
+impl Line {
+    /// Puts a token, a credit or a HELLO behind what is on the line; there is room.
+    pub fn put(&mut self, word: u16) {
+        let place = self.head + self.held;
+        self.words[place as usize % LINE_CAPACITY] = word;
+        self.held += 1;
+    }
+
+    /// Takes what is first on a line that has something on it, and clears its word.
+    pub fn take(&mut self) -> u16 {
+        let word = std::mem::take(&mut self.words[self.head as usize]);
+        self.head = (self.head + 1) % LINE_CAPACITY as u32;
+        self.held -= 1;
+        word
+    }
+
+    /// What is on a line whose counts hold, the first to arrive first.
+    pub fn on_it(&self) -> impl Iterator<Item = &u16> + Clone {
+        let (wrapped, first) = self.words.split_at(self.head as usize);
+        let held = self.held as usize;
+        let first = &first[..held.min(first.len())];
+        first.iter().chain(&wrapped[..held - first.len()])
     }
 }
 

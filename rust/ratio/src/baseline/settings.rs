@@ -1,11 +1,12 @@
-//! Wire and Set, and the credits of links.
+//! Wire and Set.
 
 use model::network::LinkEnd;
 use model::set::Setting;
-use model::sizes::{BITS, HIGHEST_DIRECTION, HIGHEST_NETWORK, HIGHEST_NUMBER, MOST_CREDIT};
+use model::sizes::{BITS, HIGHEST_DIRECTION, HIGHEST_NETWORK, HIGHEST_NUMBER};
 use model::tokens::{ONE_BYTE, THREE_BYTES};
 use model::{Answer, No};
 
+use super::lines::HELLO;
 use super::records::{Link, Network, Node};
 
 impl Network {
@@ -60,59 +61,35 @@ impl Network {
             if far_in_use || self.is_in_use((end.slot, end.link)) {
                 return Err(No::Busy);
             }
-            self.link(end)?.forget_credit();
+            self.nodes[end.slot].forget_credit(end.link);
             if let Some((slot, link)) = link.far() {
-                self.nodes[slot].links[link].forget_credit();
+                self.nodes[slot].forget_credit(link);
             }
         }
         self.link(end)?.enabled = value;
         Ok(())
     }
 
-    /// A link end in whose buffer a token is held, or one of whose directions is in a circuit.
+    /// A link end in whose buffer a token is held, one of whose directions is in a circuit, or with
+    /// something on its line.
     fn is_in_use(&self, (slot, link): (usize, usize)) -> bool {
         let node = &self.nodes[slot];
-        node.ports[link].is_taken() || node.links[link].user.kind != 0
+        node.ports[link].is_taken() || node.links[link].user.kind != 0 || node.lines[link].held > 0
     }
 
+    /// HELLO goes on to the line where somebody is there to hear it, and grants nothing yet.
     fn hello(&mut self, end: LinkEnd) -> Result<Answer, No> {
         let link = *self.link(end)?;
-        if link.enabled == 0 {
+        let far = link.far();
+        let signalled = |(slot, link): (usize, usize)| self.nodes[slot].lines[link].is_signalled();
+        if link.enabled == 0 || signalled((end.slot, end.link)) || far.is_some_and(signalled) {
             return Err(No::Busy);
         }
-        let heard = link
-            .far()
-            .is_some_and(|(slot, far)| self.nodes[slot].links[far].enabled == 1);
-        let link = self.link(end)?;
-        link.credit = 0;
-        link.greeted = u32::from(heard);
-        let granted = self.consider_grant((end.slot, end.link));
-        Ok(Answer::Granted(granted as usize))
-    }
-
-    /// A grant is considered on a link, and given.
-    pub(super) fn consider_grant(&mut self, (slot, place): (usize, usize)) -> u32 {
-        let link = &self.nodes[slot].links[place];
-        let Some((far_slot, far_link)) = link.far().filter(|_| link.greeted == 1) else {
-            return 0;
-        };
-        let held = self.nodes[far_slot].ports[far_link].held;
-        let granted = grant(link.credit, held);
-        self.nodes[slot].links[place].credit += granted;
-        granted
-    }
-}
-
-/// The largest of 64, 16, 8 that there is room for, to a credit below 8.
-fn grant(credit: u32, held: u32) -> u32 {
-    if credit >= 8 {
-        return 0;
-    }
-    match MOST_CREDIT as u32 - held - credit {
-        64.. => 64,
-        16.. => 16,
-        8.. => 8,
-        _ => 0,
+        self.link(end)?.credit = 0;
+        if far.is_some_and(|(slot, far)| self.nodes[slot].links[far].enabled == 1) {
+            self.nodes[end.slot].lines[end.link].put(HELLO);
+        }
+        Ok(Answer::Granted(0))
     }
 }
 
@@ -139,14 +116,15 @@ impl Link {
         self.network = value;
         Ok(())
     }
-
-    fn forget_credit(&mut self) {
-        self.credit = 0;
-        self.greeted = 0;
-    }
 }
 
 impl Node {
+    fn forget_credit(&mut self, link: usize) {
+        self.links[link].credit = 0;
+        self.links[link].greeted = 0;
+        self.lines[link].issued = 0;
+    }
+
     fn set_direction(&mut self, bit: usize, value: u32) -> Result<(), No> {
         let value = within(value, HIGHEST_DIRECTION)?;
         if bit >= BITS {

@@ -6,6 +6,7 @@ use model::sizes::{
 };
 use model::tokens::SINK;
 
+use super::lines::is_token;
 use super::records::{
     is_channel, ChannelEnd, Circuit, Hop, Line, Link, Network, Node, Peer, Port, Unit, END,
     NO_ROUTE, OUTWARD, PAUSE, TO_CHANNEL, TO_UNIT,
@@ -31,25 +32,36 @@ enum Stage {
 impl Network {
     pub fn is_sound(&self) -> bool {
         (1..=MOST_NODES).contains(&self.count)
-            && (0..)
-                .zip(&self.nodes[..self.count])
-                .all(|(slot, node)| self.links_are_sound(slot, node) && node.is_sound())
+            && (0..).zip(&self.nodes[..self.count]).all(|(slot, node)| {
+                self.links_are_sound(slot, node) && node.is_sound() && self.ports_are_sound(node)
+            })
+    }
+
+    /// The ports of a node whose cables are known to lead somewhere, each with the line to it behind.
+    fn ports_are_sound(&self, node: &Node) -> bool {
+        (0..).zip(&node.ports).all(|(place, port)| {
+            let far = node.links.get(place).and_then(Link::far);
+            let coming = far.map(|(slot, link)| &self.nodes[slot].lines[link]);
+            node.port_is_sound(place, port, coming.filter(|line| line.held > 0))
+        })
     }
 
     fn links_are_sound(&self, slot: usize, node: &Node) -> bool {
         let mut links = (0..).zip(&node.links);
         links.all(|(place, link)| {
             link.counts_hold()
+                && node.lines[place].counts_hold()
                 && (link.credit == 0 || link.greeted == 1)
                 && node.user_agrees(place, link)
-                && self.cable_is_sound((slot, place), link)
+                && self.cable_is_sound((slot, place), link, &node.lines[place])
         })
     }
 
-    /// Where a cable leads, what it leads to, and what its credit and greeting stand on.
-    fn cable_is_sound(&self, here: (usize, usize), link: &Link) -> bool {
+    /// Where a cable leads, what it leads to, what its credit and greeting stand on, and what is on the
+    /// lines between.
+    fn cable_is_sound(&self, here: (usize, usize), link: &Link, line: &Line) -> bool {
         let Some((slot, place)) = link.far() else {
-            return link.greeted == 0;
+            return link.greeted == 0 && line.held == 0 && line.issued == 0;
         };
         let Some(far_node) = self.nodes[..self.count].get(slot) else {
             return false;
@@ -57,11 +69,23 @@ impl Network {
         let Some(far) = far_node.links.get(place) else {
             return false;
         };
+        let back = &far_node.lines[place];
         far.far() == Some(here)
             && (slot, place) != here
             && (link.greeted == 0 || (link.enabled == 1 && far.enabled == 1))
-            && far_node.ports[place].held <= MOST_CREDIT as u32 - link.credit
+            && back.counts_hold()
+            && lines_are_sound(link, line, back, far_node.ports[place].held)
     }
+}
+
+/// Few enough on a line, room for all that is to come, and the receiver's count of it.
+fn lines_are_sound(link: &Link, line: &Line, back: &Line, held: u32) -> bool {
+    let (sent, coming) = (line.load(), back.load().credit);
+    let on_its_way = link.credit + coming + sent.tokens;
+    sent.credits <= 1
+        && sent.hellos <= 1
+        && held + on_its_way <= MOST_CREDIT as u32
+        && (sent.hellos > 0 || back.issued == on_its_way)
 }
 
 impl Node {
@@ -70,13 +94,9 @@ impl Node {
             && (self.width == 1 || self.width == 3)
             && self.unit_is_sound(&self.unit)
             && (0..)
-                .zip(&self.ports)
-                .all(|(p, x)| self.port_is_sound(p, x))
-            && (0..)
                 .zip(&self.tile_users)
                 .all(|(t, x)| self.tile_is_sound(t, *x))
             && (0..).zip(&self.ends).all(|(c, x)| self.end_is_sound(c, x))
-            && self.lines.iter().all(Line::is_empty)
     }
 
     fn user_agrees(&self, place: usize, link: &Link) -> bool {
@@ -114,11 +134,11 @@ impl Node {
                     .is_some_and(|port| port.circuit.kind == TO_CHANNEL && port.tile == place))
     }
 
-    fn port_is_sound(&self, place: usize, port: &Port) -> bool {
+    fn port_is_sound(&self, place: usize, port: &Port, coming: Option<&Line>) -> bool {
         port.counts_hold(place)
             && self.hop_agrees(place, port)
             && self.sender_agrees(place, port.sender)
-            && port.tokens_are_legal()
+            && port.tokens_are_legal(coming)
     }
 
     /// "a port's output names that port back and no other", and its channel is claimed for it.
@@ -213,8 +233,8 @@ impl Port {
             && (self.network <= HIGHEST_NETWORK || !TILE_PORTS.contains(&place) || !self.is_taken())
     }
 
-    /// What may stand in a port, from the oldest token to the last.
-    fn tokens_are_legal(&self) -> bool {
+    /// What may stand in a port, from the oldest token to the last, and on the line to it behind.
+    fn tokens_are_legal(&self, coming: Option<&Line>) -> bool {
         let (wrapped, first) = self.tokens.split_at(self.head as usize);
         let held = self.held as usize;
         let first = &first[..held.min(first.len())];
@@ -225,7 +245,14 @@ impl Port {
             Hop::Channel(_) | Hop::Unit => Some(Stage::Body),
             Hop::Outward(_) | Hop::Dropped(_) => due(tokens.clone()),
         };
-        begin.is_some_and(|begin| tokens.try_fold(begin, after).is_some())
+        let end = begin.and_then(|begin| tokens.try_fold(begin, after));
+        match (end, coming) {
+            (Some(end), Some(line)) => {
+                let mut tokens = line.on_it().filter(|word| is_token(**word));
+                tokens.try_fold(end, after).is_some()
+            }
+            (end, _) => end.is_some(),
+        }
     }
 }
 
@@ -280,9 +307,8 @@ fn may_be_kept(token: u32) -> bool {
 }
 
 impl Line {
-    /// Tokens cross at once, so that nothing is on a line and nothing issued is on its way.
-    fn is_empty(&self) -> bool {
-        self.head < LINE_CAPACITY && self.held == 0 && self.issued == 0
+    fn counts_hold(&self) -> bool {
+        self.head < LINE_CAPACITY && self.held <= LINE_CAPACITY && self.issued <= MOST_CREDIT as u32
     }
 }
 

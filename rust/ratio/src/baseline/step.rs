@@ -116,12 +116,11 @@ impl Network {
         }
     }
 
-    /// Takes the oldest token of a port; the link that feeds the port has a grant considered.
+    /// Takes the oldest token of a port; where that is behind a link, it considers a grant.
     fn take(&mut self, slot: usize, place: usize) -> u16 {
-        let node = &mut self.nodes[slot];
-        let token = node.ports[place].take();
-        if let Some(far) = node.links.get(place).and_then(|link| link.far()) {
-            self.consider_grant(far);
+        let token = self.nodes[slot].ports[place].take();
+        if place < LINKS {
+            self.consider_grant((slot, place));
         }
         token
     }
@@ -139,12 +138,9 @@ impl Network {
             return Stepped::Waiting;
         }
         let token = self.take_and_close(slot, place);
-        let out = &mut self.nodes[slot].links[link];
-        out.credit -= 1;
-        if let Some((far_slot, far_link)) = out.far() {
-            self.nodes[far_slot].ports[far_link].put(token);
-        }
-        self.consider_grant((slot, link));
+        let node = &mut self.nodes[slot];
+        node.links[link].credit -= 1;
+        node.lines[link].put(token);
         Stepped::Moved
     }
 

@@ -1,39 +1,48 @@
 //! A network read from the lent words of the proved library, and written as them.
 
-use model::sizes::{MOST_NODES, PORT_CAPACITY};
+use model::sizes::{LINE_CAPACITY, MOST_NODES, PORT_CAPACITY};
 
-use compare::layout::{NODE_TOKENS, NODE_WORDS};
+use compare::calls::Lent;
+use compare::layout::{NODE_LINES, NODE_TOKENS, NODE_WORDS};
 
 use super::records::{ChannelEnd, Circuit, Line, Link, Network, Node, Port, Unit};
 
 impl Network {
     /// The network of these words; none where their lengths are not those of 1 to 16 nodes.
-    pub fn read(state: &[u32], memory: &[u16]) -> Option<Box<Network>> {
-        let count = state.len() / NODE_WORDS;
-        let fits = state.len() == count * NODE_WORDS && memory.len() == count * NODE_TOKENS;
+    pub fn read(lent: &Lent) -> Option<Box<Network>> {
+        let count = lent.state.len() / NODE_WORDS;
+        let lengths = [lent.state.len(), lent.memory.len(), lent.lines.len()];
+        let fits = lengths == [NODE_WORDS, NODE_TOKENS, NODE_LINES].map(|words| words * count);
         if !fits || !(1..=MOST_NODES).contains(&count) {
             return None;
         }
         let mut network = Box::<Network>::default();
         network.count = count;
-        let words = state.chunks(NODE_WORDS).zip(memory.chunks(NODE_TOKENS));
-        for (node, (words, tokens)) in network.nodes.iter_mut().zip(words) {
+        let nodes = network.nodes.iter_mut();
+        for (node, words) in nodes.zip(lent.state.chunks(NODE_WORDS)) {
             *node = read_node(&mut words.iter().copied());
-            for (port, ring) in node.ports.iter_mut().zip(tokens.chunks(PORT_CAPACITY)) {
-                port.tokens.copy_from_slice(ring);
-            }
+        }
+        let ports = network.nodes.iter_mut().flat_map(|node| &mut node.ports);
+        for (port, ring) in ports.zip(lent.memory.chunks(PORT_CAPACITY)) {
+            port.tokens.copy_from_slice(ring);
+        }
+        let lines = network.nodes.iter_mut().flat_map(|node| &mut node.lines);
+        for (line, ring) in lines.zip(lent.lines.chunks(LINE_CAPACITY)) {
+            line.words.copy_from_slice(ring);
         }
         Some(network)
     }
 
-    /// State and token memory.
-    pub fn write(&self) -> (Vec<u32>, Vec<u16>) {
+    /// The three memories.
+    pub fn write(&self) -> Lent {
         let nodes = &self.nodes[..self.count];
-        let rings = nodes.iter().flat_map(|node| &node.ports);
-        (
-            nodes.iter().flat_map(node_words).collect(),
-            rings.flat_map(|port| port.tokens).collect(),
-        )
+        let ports = nodes.iter().flat_map(|node| &node.ports);
+        let lines = nodes.iter().flat_map(|node| &node.lines);
+        Lent {
+            state: nodes.iter().flat_map(node_words).collect(),
+            memory: ports.flat_map(|port| port.tokens).collect(),
+            lines: lines.flat_map(|line| line.words).collect(),
+        }
     }
 }
 
@@ -80,6 +89,7 @@ fn read_line(words: &mut impl Words) -> Line {
         head: words.word(),
         held: words.word(),
         issued: words.word(),
+        ..Line::default()
     }
 }
 

@@ -25,14 +25,16 @@ fn other_credit(both: Both, slot: usize) -> bool {
     })
 }
 
-/// Circuits, tokens, aims and claims of a board, each as it is shown.
+/// Circuits, tokens, aims and claims of a board, and what is on its lines, each as it is shown. What a
+/// link has issued follows from that and from credit.
 fn facts_of(looks: Looks, slot: usize) -> Vec<String> {
+    let lines = (0..LINKS).flat_map(|link| placed(link, facts::on_line(looks, slot, link)));
     let ports = (0..PORTS).flat_map(|port| placed(port, facts::port_facts(looks, slot, port)));
     let ends = (0..CHANNEL_ENDS).flat_map(|end| {
         let aim = facts::aim(looks, slot, end).into_iter();
         placed(end, aim.chain(facts::end_facts(looks, slot, end)))
     });
-    let all = ports.chain(ends);
+    let all = lines.chain(ports).chain(ends);
     all.chain(facts::unit(looks, slot)).collect()
 }
 

@@ -184,8 +184,9 @@
   };
 
   const fill = {
-    l: (row, [far, , , words]) => {
+    l: (row, [far, , , words, line]) => {
       if (far) row.append(" to " + nameOf(far[0]) + " " + LETTERS[far[1]]);
+      if (line.length) row.append(" ", chips(line));
       say(row, words);
     },
     p: (row, [circuit, words, refused, tokens], name) => {

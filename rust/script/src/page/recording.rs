@@ -40,12 +40,15 @@ pub struct Recording<'a> {
 
 /// What is known before a call that steps.
 enum Before {
-    Step(Option<Hop>, Option<u32>),
+    /// Where the port's circuit goes.
+    Step(Option<Hop>),
+    /// What is to arrive.
+    Line(Option<u32>),
     /// A list's Steps are made one by one on a copy.
     Steps(Host),
 }
 
-/// A token that has crossed a cable: from which link of which board.
+/// What a line step has brought over a cable: from which link of which board.
 type Crossed = (usize, usize, u32);
 
 impl<'a> Recording<'a> {
@@ -82,51 +85,49 @@ impl<'a> Recording<'a> {
         format!("{{{}}}", parts.join(",\n"))
     }
 
-    /// Follows a Step; the token that has crossed a cable, if one has.
-    fn follow(&mut self, record: StepRecord, answer: &Answer, after: &Host) -> Option<Crossed> {
-        let Some(Before::Step(hop, oldest)) = self.before.take() else {
-            return None;
-        };
-        let StepRecord { slot, port } = record;
-        self.ways.step((slot, port), hop, answer, after.looks());
-        match (answer, hop) {
-            (Answer::Moved, Some(Hop::Link(link))) => Some((slot, link as usize, oldest?)),
+    /// Follows a call; what it has brought over a cable, if it is a line step that has.
+    fn follow(&mut self, made: &Made, after: &Host) -> Option<Crossed> {
+        let answer = &made.found.answer;
+        match (&made.call, self.before.take()?) {
+            (Call::Step { slot, port }, Before::Step(hop)) => {
+                self.ways.step((*slot, *port), hop, answer, after.looks());
+                None
+            }
+            (Call::Line { slot, link }, Before::Line(arriving)) => match answer {
+                Answer::Arrived(_) => Some((*slot, *link, arriving?)),
+                _ => None,
+            },
+            (Call::Steps { list, .. }, Before::Steps(copy)) => {
+                self.follow_list(list, copy);
+                None
+            }
             _ => None,
         }
     }
 
-    fn follow_call(&mut self, made: &Made, after: &Host) -> Vec<Crossed> {
-        match (&made.call, self.before.take()) {
-            (Call::Fresh { .. } | Call::Blank { .. }, _) if made.found.answer == Answer::Done => {
-                self.ways.clear();
-                Vec::new()
-            }
-            (Call::Step { slot, port }, before) => {
-                self.before = before;
-                let (slot, port) = (*slot, *port);
-                let crossed = self.follow(StepRecord { slot, port }, &made.found.answer, after);
-                crossed.into_iter().collect()
-            }
-            (Call::Steps { list, .. }, Some(Before::Steps(mut copy))) => {
-                let mut crossed = Vec::new();
-                for record in list {
-                    let StepRecord { slot, port } = *record;
-                    self.before = Some(before_step(&copy, slot, port));
-                    let made = copy.make(made.line, Call::Step { slot, port });
-                    crossed.extend(self.follow(*record, &made.found.answer, &copy));
-                }
-                crossed
-            }
-            _ => Vec::new(),
+    fn follow_list(&mut self, list: &[StepRecord], mut copy: Host) {
+        for StepRecord { slot, port } in list.iter().copied() {
+            let hop = copy.looks().port(slot, port).hop();
+            let made = copy.make(0, Call::Step { slot, port });
+            let answer = &made.found.answer;
+            self.ways.step((slot, port), hop, answer, copy.looks());
+        }
+    }
+
+    /// A start that is done makes the network anew, and there is no way in it.
+    fn start_anew(&mut self, made: &Made) {
+        let is_start = matches!(made.call, Call::Fresh { .. } | Call::Blank { .. });
+        if is_start && made.found.answer == Answer::Done {
+            self.ways.clear();
         }
     }
 
     /// The call as the page has it: its line, itself, its answer, the sentence, how that is meant, what
     /// has changed, and what has crossed a cable.
-    fn take_down(&mut self, bench: &Bench, made: &Made, said: &str, crossed: &[Crossed]) {
+    fn take_down(&mut self, bench: &Bench, made: &Made, said: &str, crossed: Option<Crossed>) {
         let now = snapshot(bench, &self.ways);
-        let crossed = crossed.iter().map(|(slot, link, word)| {
-            let token = chips(std::iter::once(*word)).pop();
+        let crossed = crossed.map(|(slot, link, word)| {
+            let token = chips(std::iter::once(word)).pop();
             let (kind, text) = token.unwrap_or(("d", String::new()));
             let token = strings([kind, text.as_str()]);
             array([slot.to_string(), link.to_string(), token])
@@ -148,12 +149,6 @@ impl<'a> Recording<'a> {
         self.calls.push(array(parts));
         self.last = now;
     }
-}
-
-fn before_step(host: &Host, slot: usize, port: usize) -> Before {
-    let looks = host.looks();
-    let hop = looks.port(slot, port).hop();
-    Before::Step(hop, looks.port_tokens(slot, port).next())
 }
 
 /// How an answer is meant: of a list as its worst one.
@@ -202,7 +197,11 @@ impl Watch for Recording<'_> {
     fn makes(&mut self, before: &Host, call: &Call) {
         self.telling.makes(before, call);
         self.before = match *call {
-            Call::Step { slot, port } => Some(before_step(before, slot, port)),
+            Call::Step { slot, port } => Some(Before::Step(before.looks().port(slot, port).hop())),
+            Call::Line { slot, link } => {
+                let mut on_line = before.looks().line_tokens(slot, link);
+                Some(Before::Line(on_line.next()))
+            }
             Call::Steps { .. } => Some(Before::Steps(before.clone())),
             _ => None,
         };
@@ -215,8 +214,9 @@ impl Watch for Recording<'_> {
         }
         self.telling.made(after, made)?;
         let said = self.telling.drain()?;
-        let crossed = self.follow_call(made, after);
-        self.take_down(&after.copy(), made, &said, &crossed);
+        self.start_anew(made);
+        let crossed = self.follow(made, after);
+        self.take_down(&after.copy(), made, &said, crossed);
         Ok(())
     }
 

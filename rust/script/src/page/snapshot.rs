@@ -45,7 +45,10 @@ fn board(looks: Looks, slot: usize, parts: &mut Snapshot) {
         let seen = looks.link(slot, index);
         let is_drawn = seen.wired == 1 || seen.user.peer().is_some() || facts::is_set(&seen);
         match is_drawn {
-            true => drop(parts.insert(format!("l{slot}.{index}"), link(&seen))),
+            true => {
+                let on_line = tokens(looks.line_tokens(slot, index));
+                parts.insert(format!("l{slot}.{index}"), link(&seen, on_line));
+            }
             false if seen.enabled == 1 => rest.push(index),
             false => {}
         }
@@ -60,8 +63,8 @@ fn board(looks: Looks, slot: usize, parts: &mut Snapshot) {
 }
 
 /// Where its cable leads, whether it is enabled, whether a circuit leaves by it and from which port,
-/// and all of its settings in words.
-fn link(seen: &Link) -> String {
+/// all of its settings in words, and what is on the line that starts there.
+fn link(seen: &Link, on_line: String) -> String {
     let far = match seen.far() {
         Some((slot, link)) => array([slot.to_string(), link.to_string()]),
         None => "null".to_owned(),
@@ -71,7 +74,7 @@ fn link(seen: &Link) -> String {
         _ => "null".to_owned(),
     };
     let words = string(&facts::link_state(seen));
-    array([far, seen.enabled.to_string(), user, words])
+    array([far, seen.enabled.to_string(), user, words, on_line])
 }
 
 /// Its circuit's number, where that goes in words, whether it is refused, and the tokens held.

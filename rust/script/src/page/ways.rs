@@ -25,7 +25,8 @@ pub struct Ways {
     /// How many circuits there have been.
     count: usize,
     open: BTreeMap<Place, Open>,
-    /// Headers that came to a port and have not been read, oldest first.
+    /// Headers that have been sent to a port, on the line to it or there, and have not been read, oldest
+    /// first.
     coming: BTreeMap<Place, VecDeque<usize>>,
 }
 
@@ -57,7 +58,8 @@ impl Ways {
         self.open.insert(place, Open { circuit, begun });
     }
 
-    /// The first token over a cable is the header's: its circuit has come to the far port.
+    /// The first token that goes over a cable is the header's: its circuit comes to the far port, by a
+    /// line that keeps the order.
     fn moves(&mut self, place: Place, before: Option<Hop>, after: Looks) {
         let Some(Hop::Link(link)) = before else {
             return;

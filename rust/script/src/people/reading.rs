@@ -1,6 +1,6 @@
 //! Reading a line of words for people.
 
-use bench::{Kind, LinkEnd, Setting};
+use bench::{Kind, LinkEnd, Setting, StepRecord};
 
 use super::{start, End, Put, Request, Whose, Word, FORMS};
 use crate::boards::{is_name, Boards};
@@ -36,12 +36,13 @@ fn all_names() -> Vec<&'static str> {
     plain.chain(words).collect()
 }
 
-/// Some words are plain calls too: a start that has its memory's length, a single Step.
+/// Some words are plain calls too: a start that has its memories' lengths, a single Step of a port or
+/// of a line.
 fn is_for_people(name: &str, line: &str) -> bool {
     let mut words = line.split_whitespace();
     match name {
         "fresh" | "blank" => words.count() == 2,
-        "step" => words.next_back() == Some("times"),
+        "step" | "line" => words.next_back() == Some("times"),
         _ => true,
     }
 }
@@ -59,7 +60,7 @@ fn word_named(name: &str, line: &str, mut words: Words) -> Result<Word, Expected
         },
         "route" => route(&mut words)?,
         "link" => link(&mut words)?,
-        "step" => steps(&mut words)?,
+        "step" | "line" => times(name, &mut words)?,
         "settle" => Word::Settle,
         // The others have a colon.
         _ => return with_tokens(name, line, words),
@@ -169,13 +170,22 @@ fn link_call(slot: usize, link: usize, words: &mut Words) -> Result<Call, Expect
     Ok(Call::Set { slot, setting })
 }
 
-/// `BOARD.PORT COUNT times`.
-fn steps(words: &mut Words) -> Result<Word, Expected> {
-    let record = record(words)?;
+/// `BOARD.PORT COUNT times`, or with a link, of a line.
+fn times(name: &str, words: &mut Words) -> Result<Word, Expected> {
+    let step = match name {
+        "step" => {
+            let StepRecord { slot, port } = record(words)?;
+            Call::Step { slot, port }
+        }
+        _ => {
+            let LinkEnd { slot, link } = link_end(words)?;
+            Call::Line { slot, link }
+        }
+    };
     let most = |count: u32| (count as usize <= MOST_STEPS).then_some(count as usize);
     let count = words.number_for(&format!("a count, at most {MOST_STEPS}"), most)?;
     words.exactly("times")?;
-    Ok(Word::Steps { record, count })
+    Ok(Word::Times { step, count })
 }
 
 /// `BOARD.CHANNELEND`.

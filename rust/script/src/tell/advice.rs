@@ -16,6 +16,7 @@ pub fn name(call: &Call) -> &'static str {
         Call::Output { .. } => "Output",
         Call::Input { .. } => "Input",
         Call::Step { .. } => "Step",
+        Call::Line { .. } => "line step",
         Call::Steps { .. } => "list",
     }
 }
@@ -52,8 +53,8 @@ pub fn advice(call: &Call, refusal: Refusal) -> &'static str {
 fn unsound(call: &Call) -> &'static str {
     match call {
         Call::Fresh { .. } | Call::Blank { .. } => {
-            "the memory has another length than so many boards need; leave its length out, and the \
-             right one is lent"
+            "a memory has another length than so many boards need; leave the lengths out, and the \
+             right ones are lent"
         }
         _ => "there is no network; begin with fresh or blank",
     }
@@ -62,7 +63,7 @@ fn unsound(call: &Call) -> &'static str {
 fn no_such(call: &Call) -> &'static str {
     match call {
         Call::Fresh { .. } | Call::Blank { .. } => "a network has 1 to 16 boards",
-        Call::Wire { .. } | Call::Hello { .. } | Call::Set { .. } => {
+        Call::Wire { .. } | Call::Hello { .. } | Call::Set { .. } | Call::Line { .. } => {
             "no such board, or no such link; boards count from 0, links are A..H"
         }
         Call::Aim { .. } | Call::Output { .. } | Call::Input { .. } => {
@@ -91,14 +92,17 @@ fn value(call: &Call) -> &'static str {
 fn busy(call: &Call) -> &'static str {
     match call {
         Call::Wire { .. } => "one of the two links has a cable already",
-        Call::Hello { .. } => "the link is disabled; enable it first",
+        Call::Hello { .. } => {
+            "the link is disabled, or a credit or a HELLO is on a line of its cable; enable it, or \
+             settle, first"
+        }
         Call::Set {
             setting: Setting::Network { .. },
             ..
         } => "the link is enabled; disable it first",
         _ => {
             "tokens or circuits are under way on it; let them end, with the ports at both ends of \
-             the cable empty"
+             the cable and both of its lines empty"
         }
     }
 }

@@ -1,6 +1,6 @@
 //! What came of Steps.
 
-use bench::{Hop, Looks};
+use bench::{Freight, Hop, LinkEnd, Looks};
 
 use super::story::{Fact, Tone};
 use crate::answer::{Answer, Opening};
@@ -8,7 +8,7 @@ use crate::boards::Boards;
 use crate::call::Call;
 use crate::facts;
 use crate::host::{Host, Made};
-use crate::names::{channel, letter, port};
+use crate::names::{channel, letter, link, port};
 use crate::route::why;
 use crate::words::printable;
 
@@ -35,6 +35,8 @@ impl Before {
 #[derive(Clone, Debug, Default)]
 pub struct Steps {
     before: Before,
+    /// Of a line step: what is to arrive.
+    arriving: Option<u32>,
     /// Of a list: the network, on which its Steps are made one by one.
     copy: Option<Host>,
 }
@@ -48,12 +50,15 @@ impl Steps {
     pub fn before(&mut self, host: &Host, call: &Call) {
         match *call {
             Call::Step { slot, port } => self.before = Before::of(host.looks(), slot, port),
+            Call::Line { slot, link } => {
+                self.arriving = host.looks().line_tokens(slot, link).next();
+            }
             Call::Steps { .. } => self.copy = Some(host.clone()),
             _ => {}
         }
     }
 
-    /// What came of a Step, or of each of a list.
+    /// What came of a Step, of a line step, or of each of a list.
     pub fn told(&mut self, boards: &Boards, after: &Host, made: &Made) -> Vec<Told> {
         match (&made.call, self.copy.take()) {
             (Call::Steps { list, .. }, Some(mut copy)) => {
@@ -67,6 +72,13 @@ impl Steps {
             }
             (Call::Step { slot, port }, _) => {
                 vec![self.step(boards, after, *slot, *port, &made.found.answer)]
+            }
+            (Call::Line { slot, link }, _) => {
+                let end = LinkEnd {
+                    slot: *slot,
+                    link: *link,
+                };
+                self.line(boards, after.looks(), end, &made.found.answer)
             }
             _ => Vec::new(),
         }
@@ -106,9 +118,50 @@ impl Steps {
         (place(boards, slot, port), fact, tone)
     }
 
+    /// What a line has brought to its far end, and what that has granted for it.
+    fn line(&self, boards: &Boards, looks: Looks, end: LinkEnd, answer: &Answer) -> Vec<Told> {
+        let Answer::Arrived(grant) = *answer else {
+            let nothing = Fact::Said("nothing is on it".to_owned());
+            return vec![(line_place(boards, end), nothing, Tone::Plain)];
+        };
+        let far = far_end(boards, looks, end);
+        let arrived = match self.arriving.and_then(Freight::from_word) {
+            Some(Freight::Hello) => Fact::Said(format!("HELLO arrives at {far}")),
+            Some(Freight::Credit(credit)) => {
+                Fact::Said(format!("credit for {credit} tokens arrives at {far}"))
+            }
+            _ => Fact::Counted {
+                what: format!("arrived at {far}"),
+                words: self.arriving.into_iter().collect(),
+            },
+        };
+        let granted = (grant > 0).then(|| Fact::Said(format!("{far} grants {grant}")));
+        let facts = std::iter::once(arrived).chain(granted);
+        facts
+            .map(|fact| (line_place(boards, end), fact, Tone::Plain))
+            .collect()
+    }
+
     fn counted(&self, what: String) -> Fact {
         let words = self.before.oldest.into_iter().collect();
         Fact::Counted { what, words }
+    }
+}
+
+/// The line that starts at a link.
+pub fn line_place(boards: &Boards, end: LinkEnd) -> String {
+    let board = printable(&boards.called(end.slot));
+    format!("{board}, line from {}", link(end.link))
+}
+
+/// The other end of a cable.
+fn far_end(boards: &Boards, looks: Looks, end: LinkEnd) -> String {
+    match looks.link(end.slot, end.link).far() {
+        Some((slot, far)) => {
+            let board = printable(&boards.called(slot as usize));
+            format!("{board}, {}", link(far as usize))
+        }
+        None => "the far end".to_owned(),
     }
 }
 

@@ -155,10 +155,8 @@ impl Story {
     pub fn is_elsewhere(&self, place: &str, fact: &Fact) -> bool {
         let is_there = self.lines.iter().any(|line| line.place == place);
         let goes_on = self.lines.last().is_some_and(|line| line.place == place);
-        match fact {
-            Fact::Begins(_) => is_there,
-            _ => self.at_boundary && !goes_on,
-        }
+        let begins = matches!(fact, Fact::Begins(_));
+        (self.at_boundary && !goes_on) || (begins && is_there)
     }
 
     pub fn add(&mut self, place: String, fact: Fact, tone: Tone) {

@@ -27,21 +27,21 @@ no-rest ws =
 
 returns : tie.Need-returns
 unfolding shaped view
-returns c = let ws = c .before .before .before .before .args .st .now in rw (no-rest ws, ne-eqb (length ws % stride) 0 (c .if1 .taken))
+returns c = let ws = c .before .before .before .before .before .args .st .now in rw (no-rest ws, ne-eqb (length ws % stride) 0 (c .if1 .taken))
 
 returns-2 : tie.Need-returns-2
 unfolding shaped view
 returns-2 c =
-    let ws = c .before .before .before .before .before .args .st .now in
+    let ws = c .before .before .before .before .before .before .args .st .now in
     rw (no-rest ws, eq-eqb (length ws % stride) 0 (c .before .if1 .left), lt-leb (nodesIn ws) nodes (omega arith), and-false)
 
 returns-3 : tie.Need-returns-3
 unfolding shaped view
 returns-3 c =
-    let ws = c .before .before .before .before .before .args .st .now in
+    let ws = c .before .before .before .before .before .before .args .st .now in
     rw (no-rest ws, eq-eqb (length ws % stride) 0 (c .before .if1 .left), le-leb (nodesIn ws) nodes (omega arith), c .before .before .nodes .ensures)
 
 pub shaped-spec : {M : Type 1} → statement M
 shaped-spec =
     tie.close
-    (tie.spec (λ c κs. search needs) returns returns-2 (λ c. search needs) returns-3)
+    (tie.spec (λ c κs. search needs) returns returns-2 (λ c. search needs) (λ c. search needs) returns-3)

@@ -3,6 +3,7 @@ use mathlib.Core.Path.{_∙_}
 use borrow.Author.Needs.{needs}
 use Rattle.cells.specs.World.{world}
 use Rattle.sound.proofs.Facts.{node-facts}
+use Rattle.ends.specs.Needs.{withLines}
 use Rattle.ends.proofs.Possibles.{plan-possible}
 use Rattle.ends.proofs.Sent.{token-refused, token-passes}
 use Rattle.ends.proofs.output.send.Statement.{statement}
@@ -17,7 +18,7 @@ plan-of-requires : tie.Need-plan-of-requires
 plan-of-requires c κs =
     let entry = c .before .before .before .before .before .before in
     let a = entry .args in
-    node-facts (world (a .st .now) (a .mem .now)) (entry .pre .all) (a .slot .0) (entry .pre .node) .0
+    node-facts (withLines (world (a .st .now) (a .mem .now)) (entry .pre .sure .lines)) (entry .pre .sure .all) (a .slot .0) (entry .pre .node) .0
 
 carry-requires : tie.Need-carry-requires
 carry-requires c κs =

@@ -5,7 +5,8 @@ use Rattle.host.proofs.call.tarvelgyo_fresh.Statement.{statement}
 use Rattle.host.proofs.call.tarvelgyo_fresh.Tie as tie
 
 returns : tie.Need-returns
-returns c = crosses (c .answer-number .ensures) (c .before .before .before .before .before .fresh .ensures)
+returns c = crosses (c .answer-number .ensures) (c .before .before .before .before .before .before .before .fresh .ensures)
 
 pub tarvelgyo-fresh-spec : {M : Type 1} → statement M
-tarvelgyo-fresh-spec = tie.close (tie.spec (λ c κs. search needs) (λ c κs. search needs) (λ c. search needs) (λ c. search needs) returns)
+tarvelgyo-fresh-spec =
+    tie.close (tie.spec (λ c κs. search needs) (λ c κs. search needs) (λ c. search needs) (λ c. search needs) (λ c. search needs) returns)

@@ -5,7 +5,7 @@ use Rattle.host.proofs.call.tarvelgyo_hello.Statement.{statement}
 use Rattle.host.proofs.call.tarvelgyo_hello.Tie as tie
 
 returns : tie.Need-returns
-returns c = crosses (c .answer-number .ensures) (c .before .before .before .set .ensures)
+returns c = crosses (c .answer-number .ensures) (c .before .before .before .before .before .set .ensures)
 
 pub tarvelgyo-hello-spec : {M : Type 1} → statement M
-tarvelgyo-hello-spec = tie.close (tie.spec (λ c κs. search needs) (λ c κs. search needs) (λ c. search needs) returns)
+tarvelgyo-hello-spec = tie.close (tie.spec (λ c κs. search needs) (λ c κs. search needs) (λ c. search needs) (λ c. search needs) returns)

@@ -8,4 +8,5 @@ returns : tie.Need-returns
 returns c = crosses (c .answer-number .ensures) (c .before .before .before .before .before .output .ensures)
 
 pub tarvelgyo-output-control-spec : {M : Type 1} → statement M
-tarvelgyo-output-control-spec = tie.close (tie.spec (λ c κs. search needs) (λ c κs. search needs) (λ c. search needs) (λ c. search needs) returns)
+tarvelgyo-output-control-spec =
+    tie.close (tie.spec (λ c κs. search needs) (λ c κs. search needs) (λ c. search needs) (λ c. search needs) returns)

@@ -5,7 +5,8 @@ use Rattle.host.proofs.call.tarvelgyo_set_number.Statement.{statement}
 use Rattle.host.proofs.call.tarvelgyo_set_number.Tie as tie
 
 returns : tie.Need-returns
-returns c = crosses (c .answer-number .ensures) (c .before .before .before .set .ensures)
+returns c = crosses (c .answer-number .ensures) (c .before .before .before .before .before .set .ensures)
 
 pub tarvelgyo-set-number-spec : {M : Type 1} → statement M
-tarvelgyo-set-number-spec = tie.close (tie.spec (λ c κs. search needs) (λ c κs. search needs) (λ c. search needs) returns)
+tarvelgyo-set-number-spec =
+    tie.close (tie.spec (λ c κs. search needs) (λ c κs. search needs) (λ c. search needs) (λ c. search needs) returns)

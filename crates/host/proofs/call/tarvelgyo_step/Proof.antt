@@ -5,7 +5,8 @@ use Rattle.host.proofs.call.tarvelgyo_step.Statement.{statement}
 use Rattle.host.proofs.call.tarvelgyo_step.Tie as tie
 
 returns : tie.Need-returns
-returns c = crosses (c .answer-number .ensures) (c .before .before .before .before .before .step .ensures)
+returns c = crosses (c .answer-number .ensures) (c .before .before .before .before .before .before .before .step .ensures)
 
 pub tarvelgyo-step-spec : {M : Type 1} → statement M
-tarvelgyo-step-spec = tie.close (tie.spec (λ c κs. search needs) (λ c κs. search needs) (λ c. search needs) (λ c. search needs) returns)
+tarvelgyo-step-spec =
+    tie.close (tie.spec (λ c κs. search needs) (λ c κs. search needs) (λ c. search needs) (λ c. search needs) (λ c. search needs) returns)

@@ -4,12 +4,7 @@ use Rattle.line_clauses.proofs.loads.room_to.Statement.{statement}
 use Rattle.line_clauses.proofs.loads.room_to.Tie as tie
 
 returns : tie.Need-returns
-returns c =
-    let going = c .before in
-    let far = going .before .before in
-    rw (c .fits2 .ensures, going .load-on2 .ensures, going .before .load-on .ensures, far .at2 .ensures, far .before .at .ensures)
+returns c = rw (c .room-with .ensures, c .before .load-on2 .ensures, c .before .before .load-on .ensures)
 
 pub room-to-spec : {M : Type 1} → statement M
-room-to-spec =
-    tie.close
-    (tie.spec (λ c κs. search needs) (λ c κs. search needs) (λ c κs. search needs) (λ c κs. search needs) (λ c κs. search needs) returns)
+room-to-spec = tie.close (tie.spec (λ c κs. search needs) (λ c κs. search needs) (λ c κs. search needs) returns)

@@ -5,7 +5,7 @@ use Rattle.messages.proofs.write.write_one.Statement.{statement}
 use Rattle.messages.proofs.write.write_one.Tie as tie
 
 returns : tie.Need-returns
-returns c = one _ _ _ (c .before .before .tried .ensures .0) (c .before .before .tried .ensures .1)
+returns c = let t = c .before .before .before .before .tried .ensures in one _ _ _ (t .0) (t .1)
 
 pub write-one-spec : {M : Type 1} → statement M
-write-one-spec = tie.close (tie.spec (λ c κs. search needs) (λ c. search needs) returns)
+write-one-spec = tie.close (tie.spec (λ c κs. search needs) (λ c. search needs) (λ c. search needs) returns)

@@ -1,27 +1,48 @@
 -- `settings::made::make` meets its contract. Assumes nothing.
 use native.Mathlib.Omega.{arith}
 use borrow.Author.Needs.{needs}
+use Rattle.settings.proofs.Settled.{hello-room}
 use Rattle.settings.proofs.made.make.Statement.{statement}
 use Rattle.settings.proofs.made.make.Tie as tie
 
 -- a number has sixteen bits
-cast-t18 : tie.Need-cast-t18
-cast-t18 c = let small = rw (c .before .before .x .given .1) at (c .before .before .before .before .before .pre .1) in omega (arith, small)
+cast-t19 : tie.Need-cast-t19
+cast-t19 c =
+    let known = c .before .before in
+    let small = rw (known .x .given .1) at (known .before .before .before .before .pre .1) in
+    omega (arith, small)
 
 set-link-direction-requires : tie.Need-set-link-direction-requires
-set-link-direction-requires c κs = (c .before .before .before .before .before .pre .0, rw (c .before .before .x4 .given .1) at (c .before .before .before .before .before .pre .1))
+set-link-direction-requires c κs =
+    let known = c .before .before in
+    let entry = known .before .before .before .before in
+    (entry .pre .0, rw (known .x4 .given .1) at (entry .pre .1))
 
 set-network-requires : tie.Need-set-network-requires
-set-network-requires c κs = (c .before .before .before .before .before .pre .0, rw (c .before .before .x5 .given .1) at (c .before .before .before .before .before .pre .1))
+set-network-requires c κs =
+    let known = c .before .before in
+    let entry = known .before .before .before .before in
+    (entry .pre .0, rw (known .x5 .given .1) at (entry .pre .1))
 
 set-enable-requires : tie.Need-set-enable-requires
-set-enable-requires c κs = let h = c .before .before .before .before .before .pre in let l = rw (c .before .before .x6 .given .1) at (h .1) in (h .0, l, h .2 _ _ (h .0) l)
+set-enable-requires c κs =
+    let known = c .before .before in
+    let entry = known .before .before .before .before in
+    let l = rw (known .x6 .given .1) at (entry .pre .1) in
+    (entry .pre .0, l, entry .pre .2 _ _ (entry .pre .0) l .cabled)
 
 hello-requires : tie.Need-hello-requires
-hello-requires c κs = (c .before .before .before .before .before .pre .0, rw (c .before .before .x7 .given .1) at (c .before .before .before .before .before .pre .1))
+hello-requires c κs =
+    let known = c .before .before .before in
+    let entry = known .before .before .before .before in
+    let l = rw (known .x7 .given .1) at (entry .pre .1) in
+    let ready = entry .pre .2 _ _ (entry .pre .0) l in
+    (ready .line, hello-room _ _ _ ready (rw (known .x7 .given .1) at (entry .pre .3)))
 
 returns : tie.Need-returns
-returns c = rw (c .before .before .before .before .before .x7 .given .1, c .before .before .hello .ensures .0, c .before .before .hello .ensures .1)
+returns c =
+    let said = c .before .before .before .before in
+    rw (said .before .before .before .before .x7 .given .1, said .hello .ensures)
 
 returns-2 : tie.Need-returns-2
 returns-2 c = rw (c .before .before .set-number .ensures, c .before .before .before .before .before .x .given .1)
@@ -46,7 +67,7 @@ make-spec =
     tie.close
     (tie.spec
     (λ c. search needs)
-    cast-t18
+    cast-t19
     (λ c κs. search needs)
     (λ c. search needs)
     (λ c κs. search needs)
@@ -60,6 +81,7 @@ make-spec =
     set-enable-requires
     (λ c. search needs)
     hello-requires
+    (λ c. search needs)
     (λ c. search needs)
     returns
     (λ c. search needs)

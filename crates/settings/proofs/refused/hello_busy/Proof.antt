@@ -4,7 +4,7 @@ use Rattle.settings.proofs.refused.hello_busy.Statement.{statement}
 use Rattle.settings.proofs.refused.hello_busy.Tie as tie
 
 returns : tie.Need-returns
-returns c = rw (c .before .at .ensures)
+returns c = rw (c .cable-signalled .ensures, c .before .before .at .ensures)
 
 pub hello-busy-spec : {M : Type 1} → statement M
-hello-busy-spec = tie.close (tie.spec (λ c κs. search needs) returns)
+hello-busy-spec = tie.close (tie.spec (λ c κs. search needs) (λ c κs. search needs) returns)

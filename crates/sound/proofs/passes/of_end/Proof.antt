@@ -1,6 +1,6 @@
 -- `sound::passes::of_end` meets its contract. Assumes nothing.
 use borrow.Author.Needs.{needs}
-use Rattle.cells.specs.World.{world}
+use Rattle.cells.specs.World.{lent}
 use Rattle.sound.proofs.Alone.{end-alone}
 use Rattle.sound.proofs.passes.of_end.Statement.{statement}
 use Rattle.sound.proofs.passes.of_end.Tie as tie
@@ -10,9 +10,9 @@ returns c =
     let held = c .before .before .before in
     let counted = held .before in
     let read = counted .before in
-    let a = read .before .before .before .args in
+    let a = read .before .before .before .before .args in
     rw (held .held-tokens .ensures, counted .end-counts .ensures, read .at .ensures)
-    (end-alone (world (a .st .now) (a .mem .now)) (a .slot .0) (a .c) (rw (read .at .ensures) at (c .if1 .taken)))
+    (end-alone (lent (a .st .now) (a .mem .now) (a .ls .now)) (a .slot .0) (a .c) (rw (read .at .ensures) at (c .if1 .taken)))
 
 returns-2 : tie.Need-returns-2
 returns-2 c =

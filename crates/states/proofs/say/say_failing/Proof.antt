@@ -8,7 +8,7 @@ use lib.Dec.{eqb}
 use borrow.Author.Needs.{needs}
 use borrow.Author.Tests.{ne-eqb, not-true}
 use Rattle.laws.specs.Pick.{pick}
-use Rattle.cells.specs.World.{world}
+use Rattle.cells.specs.World.{lent}
 use Rattle.sound.proofs.Sounds.{next-past}
 use Rattle.states.proofs.say.say_failing.Statement.{statement}
 use Rattle.states.proofs.say.say_failing.Tie as tie
@@ -21,18 +21,18 @@ falls : (a b : ℕ) → eqb a 0 ≡ false → a < 0x100000000 → (b ≡ 0) ⊎ 
 falls a b e l h = rw e (⊎-elim (λ z. rw z (omega arith)) (λ g. rw (ne-eqb b 0 (λ z. omega arith)) (omega arith)) h)
 
 abbrev Inv-loop : tie.InvT-loop
-Inv-loop st mem clause₀ t4 clause = clause < 0x100000000
+Inv-loop st mem ls clause₀ t4 clause = clause < 0x100000000
 
 abbrev μ-loop : tie.MeasureT-loop
-μ-loop st mem clause₀ t4 clause = left clause
+μ-loop st mem ls clause₀ t4 clause = left clause
 
 loop-less : tie.Need-loop-less Inv-loop μ-loop
 loop-less c =
     let turn = c .before .before .before .before in
     let l = turn .before .loop in
-    let a = turn .before .before .before .before .before .args in
+    let a = turn .before .before .before .before .before .before .args in
     falls (l .clause) (c .clause-after2 .result) (not-true _ (turn .loop-test .taken)) (l .inv)
-    (rw (c .clause-after2 .ensures) (next-past (world (a .st .now) (a .mem .now)) (l .clause)))
+    (rw (c .clause-after2 .ensures) (next-past (lent (a .st .now) (a .mem .now) (a .ls .now)) (l .clause)))
 
 pub say-failing-spec : {M : Type 1} → statement M
 say-failing-spec =

@@ -8,9 +8,12 @@ use Rattle.travel.proofs.line.hello.Tie as tie
 
 put-requires : tie.Need-put-requires
 put-requires c κs =
-    let lost = c .before .before .before .before .before in
-    let entry = lost .before .before .before .before .before .before .before .before in
-    rw (lost .lose-credit .ensures) (there-net refl refl (entry .pre .0), entry .pre .1)
+    let test = c .before .before in
+    let lost = test .before .before .before in
+    let far = lost .before .before in
+    let heard = sym (rw (far .before .before .at .ensures) at (far .far-enabled .ensures)) ∙ test .if1 .taken in
+    let entry = far .before .before .before .before .before .before in
+    rw (lost .lose-credit .ensures) (there-net refl refl (entry .pre .0), entry .pre .1 heard)
 
 returns : tie.Need-returns
 unfolding saysHello

@@ -1,2 +1,0 @@
--- Laws of credits on a link.
-pub mod Links
