@@ -20,7 +20,7 @@ use Rattle.cells.specs.declared.link.Far.{Far}
 use Rattle.cells.specs.declared.link.Far.the-variants.{Nowhere, At}
 use Rattle.clauses.specs.Cables.{onFar}
 use Rattle.clauses.specs.Contents.{back, contents}
-use Rattle.line_clauses.specs.Lines.{clearOf, aloneOf, walkedOn, reachedFrom, reached, holdsOver}
+use Rattle.line_clauses.specs.Lines.{clearOf, nothingComes, walkedOn, reachedFrom, reached, holdsOver}
 use Rattle.line_clauses.proofs.Readies.{readies}
 
 pub walk-next : (s : Stage) (x : ℕ) (q : List ℕ) → walk (walk s (tokensOf (x ∷ []))) (tokensOf q) ≡ walk s (tokensOf (x ∷ q))
@@ -44,14 +44,14 @@ come-none : (w : World) (s : Stage) (f : Far) → onFar f true (clearOf (w .net)
 come-none w s Nowhere e = refl
 come-none w s (At m k) e = walked-clear w (m .0) k e s
 
-reached-alone : (w : World) (n p : ℕ) → aloneOf (w .net) (length (w .lineMemory) / (links * lineCapacity)) n p ≡ true
+reached-still : (w : World) (n p : ℕ) → nothingComes (w .net) (length (w .lineMemory) / (links * lineCapacity)) n p ≡ true
     → reached w n p ≡ back w n p
 unfolding reached
-reached-alone w n p e =
+reached-still w n p e =
     by-test (ltb p links)
     (λ t. rw t (come-none w (back w n p) (farOf (w .net .links .cables n p)) (rw t at e)))
     (λ t. rw t)
 
-pub holds-alone : (w : World) (n p : ℕ) → aloneOf (w .net) (length (w .lineMemory) / (links * lineCapacity)) n p ≡ true
+pub holds-still : (w : World) (n p : ℕ) → nothingComes (w .net) (length (w .lineMemory) / (links * lineCapacity)) n p ≡ true
     → holdsOver w n p ≡ contents w n p
-holds-alone w n p e = ap (λ (s : Stage). not (isBad s)) (reached-alone w n p e)
+holds-still w n p e = ap (λ (s : Stage). not (isBad s)) (reached-still w n p e)

@@ -94,8 +94,8 @@ clearOf s many n l =
     ltb n many && (ltb l links && (ltb (c .head) lineCapacity && eqb (c .held) 0))
 
 -- nothing is on its way to a port: it has no line to it, or one on which there is nothing
-abbrev pub aloneOf : Net → ℕ → ℕ → ℕ → Bool
-aloneOf s many n p = pick (ltb p links) (onFar (farOf (s .links .cables n p)) true (clearOf s many)) true
+abbrev pub nothingComes : Net → ℕ → ℕ → ℕ → Bool
+nothingComes s many n p = pick (ltb p links) (onFar (farOf (s .links .cables n p)) true (clearOf s many)) true
 
 -- what a port holds, with the line to it behind: where its tokens end once those on the line have come. What is left of a header is read
 -- from the port's own tokens alone (`front`)

@@ -22,7 +22,7 @@ ghost use Rattle.lines.specs.Load.{tokensOf};
 ghost use Rattle.grammar.specs.Walk.{walk};
 ghost use Rattle.cells.specs.View.{view};
 ghost use Rattle.cells.specs.World.{lined, lent};
-ghost use Rattle.line_clauses.specs.Lines.{walkedOn, reachedFrom, reached, clearOf, aloneOf, holdsOver};
+ghost use Rattle.line_clauses.specs.Lines.{walkedOn, reachedFrom, reached, clearOf, nothingComes, holdsOver};
 
 // One thing on a line: a token leads on, a credit or a HELLO does not.
 fn step_on(s: Stage, word: u16) -> Stage
@@ -88,8 +88,8 @@ fn is_clear(st: &[u32], lined: usize, slot: Slot, l: usize) -> bool
 }
 
 // Nothing is on its way to a port: it has no line to it, or one on which there is nothing. The lines' memory is for so many nodes.
-pub fn is_alone(st: &[u32], lined: usize, slot: Slot, p: usize) -> bool
-    ensures { λ r. ⌜ r ≡ aloneOf (view (now (st .entry))) lined (slot .0) p ⌝ }
+pub fn nothing_comes(st: &[u32], lined: usize, slot: Slot, p: usize) -> bool
+    ensures { λ r. ⌜ r ≡ nothingComes (view (now (st .entry))) lined (slot .0) p ⌝ }
 {
     if p >= LINKS {
         return true;

@@ -28,7 +28,7 @@ use clauses::pairs::open_end;
 use clauses::pairs::silent;
 use line_clauses::loads::lines_at;
 use line_clauses::reached::holds_over;
-use line_clauses::reached::is_alone;
+use line_clauses::reached::nothing_comes;
 use names::Slot;
 ghost use mathlib.Core.Path.{_≡_};
 ghost use Rattle.names.specs.Size.{links, ports, tileLinks, ends};
@@ -66,7 +66,7 @@ pub fn of_port(st: &[u32], mem: &[u16], ls: &[u16], slot: Slot, p: usize) -> boo
 {
     let k = port::at(st, slot, p);
     let counts = port_counts(k, p);
-    let held = if is_alone(st, ls.len() / LINE_WORDS, slot, p) {
+    let held = if nothing_comes(st, ls.len() / LINE_WORDS, slot, p) {
         contents(st, mem, slot, p)
     } else {
         holds_over(st, mem, ls, slot, p)

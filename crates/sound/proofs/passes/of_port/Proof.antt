@@ -4,7 +4,7 @@ use mathlib.Core.Logic.{⊎-elim}
 use borrow.Author.Needs.{needs}
 use Rattle.cells.specs.World.{World, lent}
 use Rattle.line_clauses.specs.Lines.{holdsOver}
-use Rattle.line_clauses.proofs.Walks.{holds-alone}
+use Rattle.line_clauses.proofs.Walks.{holds-still}
 use Rattle.sound.proofs.Alone.{port-alone}
 use Rattle.sound.proofs.passes.of_port.Statement.{statement}
 use Rattle.sound.proofs.passes.of_port.Tie as tie
@@ -21,7 +21,7 @@ held : (c : tie.Joined1) → c .if1 .held ≡ holdsOver (given c) (start c .args
 held c =
     let a = start c .args in
     ⊎-elim
-    (λ x. x .2 ∙ x .1 .ensures ∙ sym (holds-alone (given c) (a .slot .0) (a .p) (sym (c .before .is-alone .ensures) ∙ x .0 .taken)))
+    (λ x. x .2 ∙ x .1 .ensures ∙ sym (holds-still (given c) (a .slot .0) (a .p) (sym (c .before .nothing-comes .ensures) ∙ x .0 .taken)))
     (λ x. x .2 ∙ x .1 .ensures)
     (c .if1 .came)
 
