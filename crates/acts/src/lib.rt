@@ -1,4 +1,6 @@
 // What the calls are composed of: each act changes one record, and at most one word of token memory.
+#![tactic(auto)]
+
 pub mod circuit;
 
 ghost use Rattle.std.specs.Prelude.{◌≡◌, ◌+◌, ◌<◌};
@@ -43,6 +45,7 @@ pub fn number_at(st: &[u32], slot: Slot) -> NodeNumber
 }
 
 // Puts a token into a port, behind those held.
+#[tactic(auto, unfolding(crate::specs::Acts::pushed))]
 pub fn push(st: &mut [u32], mem: &mut [u16], slot: Slot, p: usize, word: u16)
     requires { Room (world st.old mem.old) slot.0 p 1 }
     ensures { world st.new mem.new ≡ pushed (world st.old mem.old) slot.0 p word }
@@ -53,6 +56,7 @@ pub fn push(st: &mut [u32], mem: &mut [u16], slot: Slot, p: usize, word: u16)
 }
 
 // Puts a header's words into a port, in order.
+#[tactic(auto, using(crate::proofs::Pushes::less, crate::proofs::Pushes::room_after))]
 pub fn push_header(st: &mut [u32], mem: &mut [u16], slot: Slot, p: usize, h: Header)
     requires { Room (world st.old mem.old) slot.0 p 3 }
     ensures { world st.new mem.new
@@ -70,6 +74,7 @@ pub fn push_header(st: &mut [u32], mem: &mut [u16], slot: Slot, p: usize, h: Hea
 }
 
 // The i-th token of a port, oldest first.
+#[tactic(auto, using(laws::proofs::Row::row_at, laws::proofs::Row::row_long))]
 pub fn word_at(st: &[u32], mem: &[u16], slot: Slot, p: usize, i: u32) -> u16
     requires { Holds (world st.now mem.now) slot.0 p (i + 1) }
     ensures { result ≡ word_at (world st.now mem.now) slot.0 p i }
@@ -81,6 +86,7 @@ pub fn word_at(st: &[u32], mem: &[u16], slot: Slot, p: usize, i: u32) -> u16
 }
 
 // Takes the oldest token of a port.
+#[tactic(auto, unfolding(crate::specs::Acts::popped))]
 pub fn pop(st: &mut [u32], mem: &mut [u16], slot: Slot, p: usize) -> u16
     requires { Holds (world st.old mem.old) slot.0 p 1 }
     ensures { (result ≡ first_at (world st.old mem.old) slot.0 p)

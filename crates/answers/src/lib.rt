@@ -1,11 +1,13 @@
 // What a call answers. One type serves all calls: a list of calls has then a list of answers, and there is
 // one number for an answer wherever words are lent for it.
+#![tactic(auto)]
+
 ghost use Rattle.std.specs.Prelude.{◌≡◌};
 ghost use Rattle.answers.specs.Answer.{number_of, case_of, cause_of, answer_value, packed, answer_number};
 
 use circuits::Cause;
 
-#[derive(Drop)]
+#[derive(Clone, Copy)]
 pub enum Answer {
     // refused, by the paper's number: nothing is changed
     No(u8),

@@ -1,6 +1,8 @@
 // The bench's public calls (document 01, "Calls"): for any arguments, any memory lent, any words in it.
 // Each contract gives the one answer and every word of all three memories after the call, refused or not:
 // `apply`, in specs/Calls.antt.
+#![tactic(auto)]
+
 ghost use Rattle.std.specs.Prelude.{◌≡◌};
 ghost use Rattle.answers.specs.Out.{out};
 ghost use Rattle.cells.specs.World.{lent};
@@ -22,7 +24,7 @@ use travel::arrive::line_step;
 // A record of a list of steps, as a host lends it: the list's own call is crate host's, and what it means
 // is `Steps` in specs/Calls.antt.
 #[repr(C)]
-#[derive(Drop)]
+#[derive(Clone, Copy)]
 pub struct StepRecord {
     pub slot: usize,
     pub port: usize,

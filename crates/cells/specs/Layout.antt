@@ -21,7 +21,7 @@ abbrev pub port : Kind
 port = record { many = Size.ports; from = after link; size = port_own + 2 * circuit_words }
 
 abbrev pub tile : Kind
-tile = record { many = Size.tileLinks; from = after port; size = circuit_words }
+tile = record { many = Size.tile_links; from = after port; size = circuit_words }
 
 abbrev pub end : Kind
 end = record { many = Size.ends; from = after tile; size = end_own + 2 * circuit_words }

@@ -16,7 +16,7 @@ const TOKENS: usize = 5;
 pub const OWN: usize = TOKENS + END_BUFFER;
 
 // Its destination and network.
-#[derive(Drop)]
+#[derive(Clone, Copy)]
 pub struct Aim {
     // 0 unaimed, 1 at a channel of a number, 2 at its control unit
     pub kind: u32,
@@ -26,14 +26,14 @@ pub struct Aim {
 }
 
 // What it holds.
-#[derive(Drop)]
+#[derive(Clone, Copy)]
 pub struct Buffer {
     pub held: u32,
     // oldest first; past held they are not looked at
     pub tokens: [u32; END_BUFFER],
 }
 
-#[derive(Drop)]
+#[derive(Clone, Copy)]
 pub struct End {
     pub aim: Aim,
     // the port by which its open circuit goes, or the channel-end that it goes straight to
@@ -93,6 +93,7 @@ fn read(w: &[u32]) -> End
     none()
 }
 
+#[tactic(auto, using(laws::proofs::Row::listed))]
 pub fn write(w: &mut [u32], k: End)
     requires { length w.old ≡ end.size }
     ensures { w.new ≡ from_end k }
@@ -109,12 +110,14 @@ pub fn write(w: &mut [u32], k: End)
     circuits::write(&mut w[e..], k.claim);
 }
 
+#[tactic(auto, using(crate::proofs::Tables::words_whole), unfolding(crate::specs::View::view))]
 pub fn at(st: &[u32], slot: Slot, c: usize) -> End
     ensures { result ≡ whole_end (view st.now) slot.0 c }
 {
     read(words(st, slot, c, END))
 }
 
+#[tactic(auto, using(crate::proofs::Puts::end_put), unfolding(crate::specs::View::view))]
 pub fn put(st: &mut [u32], slot: Slot, c: usize, k: End)
     requires { (slot.0 < (view st.old).nodes) × (c < ends) }
     ensures { view st.new ≡ with_end (view st.old) slot.0 c k }
@@ -125,6 +128,7 @@ pub fn put(st: &mut [u32], slot: Slot, c: usize, k: End)
 }
 
 // Its destination alone.
+#[tactic(auto, using(crate::proofs::Alone::aim_alone))]
 pub fn put_aim(st: &mut [u32], slot: Slot, c: usize, x: Aim)
     requires { (slot.0 < (view st.old).nodes) × (c < ends) }
     ensures { view st.new ≡ with_aim (view st.old) slot.0 c x }
@@ -135,6 +139,7 @@ pub fn put_aim(st: &mut [u32], slot: Slot, c: usize, x: Aim)
 }
 
 // Where its circuit goes, alone.
+#[tactic(auto, using(crate::proofs::Alone::sending_alone))]
 pub fn put_sending(st: &mut [u32], slot: Slot, c: usize, x: Circuit)
     requires { (slot.0 < (view st.old).nodes) × (c < ends) }
     ensures { view st.new ≡ with_sending (view st.old) slot.0 c x }
@@ -145,6 +150,7 @@ pub fn put_sending(st: &mut [u32], slot: Slot, c: usize, x: Circuit)
 }
 
 // Its claim alone.
+#[tactic(auto, using(crate::proofs::Alone::claim_alone))]
 pub fn put_claim(st: &mut [u32], slot: Slot, c: usize, x: Circuit)
     requires { (slot.0 < (view st.old).nodes) × (c < ends) }
     ensures { view st.new ≡ with_claim (view st.old) slot.0 c x }
@@ -155,6 +161,7 @@ pub fn put_claim(st: &mut [u32], slot: Slot, c: usize, x: Circuit)
 }
 
 // What it holds, alone.
+#[tactic(auto, using(crate::proofs::Alone::buffer_alone))]
 pub fn put_buffer(st: &mut [u32], slot: Slot, c: usize, x: Buffer)
     requires { (slot.0 < (view st.old).nodes) × (c < ends) }
     ensures { view st.new ≡ with_buffer (view st.old) slot.0 c x }

@@ -17,7 +17,7 @@ pub const LINE_WORDS: usize = LINKS * lines::CAPACITY as usize;
 
 // A kind of record: how many a node has, where among the node's words the first begins, and how many
 // words each has.
-#[derive(Drop)]
+#[derive(Clone, Copy)]
 pub struct Kind {
     pub many: usize,
     pub from: usize,
@@ -134,6 +134,7 @@ pub fn copy(to: &mut [u32], from: &[u32])
 }
 
 // The lengths are those of 1 to 16 nodes.
+#[tactic(auto, using(laws::proofs::All::and_false), unfolding(crate::specs::World::shaped, crate::specs::View::view))]
 pub fn shaped(st: &[u32], mem: &[u16], ls: &[u16]) -> bool
     ensures { result ≡ shaped (lent st.now mem.now ls.now) }
 {

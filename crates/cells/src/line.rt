@@ -13,7 +13,7 @@ use ports::Counters;
 // Its words.
 pub const OWN: usize = 3;
 
-#[derive(Drop)]
+#[derive(Clone, Copy)]
 pub struct Line {
     pub ring: Counters,
     pub issued: u32,
@@ -61,12 +61,14 @@ pub fn write(w: &mut [u32], k: Line)
     w[2] = k.issued;
 }
 
+#[tactic(auto, using(crate::proofs::Tables::words_whole), unfolding(crate::specs::View::view))]
 pub fn at(st: &[u32], slot: Slot, l: usize) -> Line
     ensures { result ≡ whole_line (view st.now) slot.0 l }
 {
     read(words(st, slot, l, LINE))
 }
 
+#[tactic(auto, using(crate::proofs::Puts::line_put), unfolding(crate::specs::View::view))]
 pub fn put(st: &mut [u32], slot: Slot, l: usize, k: Line)
     requires { (slot.0 < (view st.old).nodes) × (l < links) }
     ensures { view st.new ≡ with_line (view st.old) slot.0 l k }
@@ -77,6 +79,7 @@ pub fn put(st: &mut [u32], slot: Slot, l: usize, k: Line)
 }
 
 // Where what is on it lies, alone.
+#[tactic(auto, using(crate::proofs::Alone::ring_alone))]
 pub fn put_ring(st: &mut [u32], slot: Slot, l: usize, x: Counters)
     requires { (slot.0 < (view st.old).nodes) × (l < links) }
     ensures { view st.new ≡ with_ring (view st.old) slot.0 l x }
@@ -87,6 +90,7 @@ pub fn put_ring(st: &mut [u32], slot: Slot, l: usize, x: Counters)
 }
 
 // The count of what is issued, alone.
+#[tactic(auto, using(crate::proofs::Alone::issued_alone))]
 pub fn put_issued(st: &mut [u32], slot: Slot, l: usize, x: u32)
     requires { (slot.0 < (view st.old).nodes) × (l < links) }
     ensures { view st.new ≡ with_issued (view st.old) slot.0 l x }

@@ -14,7 +14,7 @@ use names::Slot;
 pub const OWN: usize = 8;
 
 // Where the cable leads.
-#[derive(Drop)]
+#[derive(Clone, Copy)]
 pub struct Cable {
     // 0 or 1; the far end is not looked at while it is 0
     pub wired: u32,
@@ -23,7 +23,7 @@ pub struct Cable {
 }
 
 // What Set gives a link.
-#[derive(Drop)]
+#[derive(Clone, Copy)]
 pub struct Setup {
     pub enabled: u32,
     pub direction: u32,
@@ -31,13 +31,13 @@ pub struct Setup {
 }
 
 // What may still be sent over it.
-#[derive(Drop)]
+#[derive(Clone, Copy)]
 pub struct Flow {
     pub greeted: u32,
     pub credit: u32,
 }
 
-#[derive(Drop)]
+#[derive(Clone, Copy)]
 pub struct Link {
     pub cable: Cable,
     pub setup: Setup,
@@ -47,7 +47,7 @@ pub struct Link {
 }
 
 // Where a cable leads.
-#[derive(Drop)]
+#[derive(Clone, Copy)]
 pub enum Far {
     Nowhere,
     At(Slot, usize),
@@ -119,6 +119,7 @@ fn read(w: &[u32]) -> Link
     none()
 }
 
+#[tactic(auto, using(laws::proofs::Row::listed))]
 pub fn write(w: &mut [u32], k: Link)
     requires { length w.old ≡ link.size }
     ensures { w.new ≡ from_link k }
@@ -134,6 +135,7 @@ pub fn write(w: &mut [u32], k: Link)
     circuits::write(&mut w[OWN..], k.user);
 }
 
+#[tactic(auto, using(crate::proofs::Tables::words_whole), unfolding(crate::specs::View::view))]
 pub fn at(st: &[u32], slot: Slot, l: usize) -> Link
     ensures { result ≡ whole_link (view st.now) slot.0 l }
 {
@@ -148,6 +150,7 @@ pub fn far_at(st: &[u32], slot: Slot, l: usize) -> Far
     far_of(k.cable)
 }
 
+#[tactic(auto, using(crate::proofs::Puts::link_put), unfolding(crate::specs::View::view))]
 pub fn put(st: &mut [u32], slot: Slot, l: usize, k: Link)
     requires { (slot.0 < (view st.old).nodes) × (l < links) }
     ensures { view st.new ≡ with_link (view st.old) slot.0 l k }
@@ -158,6 +161,7 @@ pub fn put(st: &mut [u32], slot: Slot, l: usize, k: Link)
 }
 
 // Its cable alone.
+#[tactic(auto, using(crate::proofs::Alone::cable_alone))]
 pub fn put_cable(st: &mut [u32], slot: Slot, l: usize, x: Cable)
     requires { (slot.0 < (view st.old).nodes) × (l < links) }
     ensures { view st.new ≡ with_cable (view st.old) slot.0 l x }
@@ -168,6 +172,7 @@ pub fn put_cable(st: &mut [u32], slot: Slot, l: usize, x: Cable)
 }
 
 // Its settings alone.
+#[tactic(auto, using(crate::proofs::Alone::setup_alone))]
 pub fn put_setup(st: &mut [u32], slot: Slot, l: usize, x: Setup)
     requires { (slot.0 < (view st.old).nodes) × (l < links) }
     ensures { view st.new ≡ with_setup (view st.old) slot.0 l x }
@@ -178,6 +183,7 @@ pub fn put_setup(st: &mut [u32], slot: Slot, l: usize, x: Setup)
 }
 
 // Its greeting and credit alone.
+#[tactic(auto, using(crate::proofs::Alone::flow_alone))]
 pub fn put_flow(st: &mut [u32], slot: Slot, l: usize, x: Flow)
     requires { (slot.0 < (view st.old).nodes) × (l < links) }
     ensures { view st.new ≡ with_flow (view st.old) slot.0 l x }
@@ -188,6 +194,7 @@ pub fn put_flow(st: &mut [u32], slot: Slot, l: usize, x: Flow)
 }
 
 // Its user alone.
+#[tactic(auto, using(crate::proofs::Alone::user_alone))]
 pub fn put_user(st: &mut [u32], slot: Slot, l: usize, x: Circuit)
     requires { (slot.0 < (view st.old).nodes) × (l < links) }
     ensures { view st.new ≡ with_user (view st.old) slot.0 l x }

@@ -11,7 +11,7 @@ use routing::direction::Directions;
 // Its words.
 pub const OWN: usize = 4;
 
-#[derive(Drop)]
+#[derive(Clone, Copy)]
 pub struct Node {
     // the number written into the switch
     pub number: u32,
@@ -69,18 +69,21 @@ pub fn write(w: &mut [u32], k: Node)
 }
 
 // How many nodes a state has.
+#[tactic(auto, unfolding(crate::specs::View::view))]
 pub fn count(st: &[u32]) -> usize
     ensures { result ≡ (view st.now).nodes }
 {
     nodes(st)
 }
 
+#[tactic(auto, using(crate::proofs::Tables::words_whole), unfolding(crate::specs::View::view))]
 pub fn at(st: &[u32], slot: Slot) -> Node
     ensures { result ≡ (view st.now).own slot.0 0 }
 {
     read(words(st, slot, 0, NODE))
 }
 
+#[tactic(auto, using(crate::proofs::Puts::node_put), unfolding(crate::specs::View::view))]
 pub fn put(st: &mut [u32], slot: Slot, k: Node)
     requires { slot.0 < (view st.old).nodes }
     ensures { view st.new ≡ with_node (view st.old) slot.0 k }

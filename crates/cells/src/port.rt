@@ -14,14 +14,14 @@ use ports::Counters;
 pub const OWN: usize = 4;
 
 // Where the port's circuit goes on to.
-#[derive(Drop)]
+#[derive(Clone, Copy)]
 pub struct Leg {
     pub circuit: Circuit,
     // the tile link of a hop to a channel
     pub tile: u32,
 }
 
-#[derive(Drop)]
+#[derive(Clone, Copy)]
 pub struct Port {
     pub counters: Counters,
     pub leg: Leg,
@@ -75,6 +75,7 @@ fn read(w: &[u32]) -> Port
     none()
 }
 
+#[tactic(auto, using(laws::proofs::Row::listed))]
 pub fn write(w: &mut [u32], k: Port)
     requires { length w.old ≡ port.size }
     ensures { w.new ≡ from_port k }
@@ -88,12 +89,14 @@ pub fn write(w: &mut [u32], k: Port)
     circuits::write(&mut w[e..], k.sender);
 }
 
+#[tactic(auto, using(crate::proofs::Tables::words_whole), unfolding(crate::specs::View::view))]
 pub fn at(st: &[u32], slot: Slot, p: usize) -> Port
     ensures { result ≡ whole_port (view st.now) slot.0 p }
 {
     read(words(st, slot, p, PORT))
 }
 
+#[tactic(auto, using(crate::proofs::Puts::port_put), unfolding(crate::specs::View::view))]
 pub fn put(st: &mut [u32], slot: Slot, p: usize, k: Port)
     requires { (slot.0 < (view st.old).nodes) × (p < ports) }
     ensures { view st.new ≡ with_port (view st.old) slot.0 p k }
@@ -104,6 +107,7 @@ pub fn put(st: &mut [u32], slot: Slot, p: usize, k: Port)
 }
 
 // Its counters alone.
+#[tactic(auto, using(crate::proofs::Alone::counters_alone))]
 pub fn put_counters(st: &mut [u32], slot: Slot, p: usize, x: Counters)
     requires { (slot.0 < (view st.old).nodes) × (p < ports) }
     ensures { view st.new ≡ with_counters (view st.old) slot.0 p x }
@@ -114,6 +118,7 @@ pub fn put_counters(st: &mut [u32], slot: Slot, p: usize, x: Counters)
 }
 
 // Its circuit alone.
+#[tactic(auto, using(crate::proofs::Alone::leg_alone))]
 pub fn put_leg(st: &mut [u32], slot: Slot, p: usize, x: Leg)
     requires { (slot.0 < (view st.old).nodes) × (p < ports) }
     ensures { view st.new ≡ with_leg (view st.old) slot.0 p x }
@@ -124,6 +129,7 @@ pub fn put_leg(st: &mut [u32], slot: Slot, p: usize, x: Leg)
 }
 
 // Its circuit's network alone.
+#[tactic(auto, using(crate::proofs::Alone::network_alone))]
 pub fn put_network(st: &mut [u32], slot: Slot, p: usize, x: u32)
     requires { (slot.0 < (view st.old).nodes) × (p < ports) }
     ensures { view st.new ≡ with_network (view st.old) slot.0 p x }
@@ -134,6 +140,7 @@ pub fn put_network(st: &mut [u32], slot: Slot, p: usize, x: u32)
 }
 
 // Its sender alone.
+#[tactic(auto, using(crate::proofs::Alone::sender_alone))]
 pub fn put_sender(st: &mut [u32], slot: Slot, p: usize, x: Circuit)
     requires { (slot.0 < (view st.old).nodes) × (p < ports) }
     ensures { view st.new ≡ with_sender (view st.old) slot.0 p x }

@@ -9,7 +9,7 @@ use crate::layout::{TILE, begins, words};
 use circuits::Circuit;
 use names::Slot;
 
-#[derive(Drop)]
+#[derive(Clone, Copy)]
 pub struct Tile {
     // the port that uses it
     pub user: Circuit,
@@ -50,12 +50,14 @@ pub fn write(w: &mut [u32], k: Tile)
     circuits::write(w, k.user);
 }
 
+#[tactic(auto, using(crate::proofs::Tables::words_whole), unfolding(crate::specs::View::view))]
 pub fn at(st: &[u32], slot: Slot, t: usize) -> Tile
     ensures { result ≡ (view st.now).tiles slot.0 t }
 {
     read(words(st, slot, t, TILE))
 }
 
+#[tactic(auto, using(crate::proofs::Puts::tile_put), unfolding(crate::specs::View::view))]
 pub fn put(st: &mut [u32], slot: Slot, t: usize, k: Tile)
     requires { (slot.0 < (view st.old).nodes) × (t < tile_links) }
     ensures { view st.new ≡ with_tile (view st.old) slot.0 t k }

@@ -15,13 +15,13 @@ const TOKENS: usize = 1;
 pub const OWN: usize = TOKENS + UNIT_BUFFER as usize;
 
 // What it has heard of a message, as far as it keeps it.
-#[derive(Drop)]
+#[derive(Clone, Copy)]
 pub struct Hearing {
     pub heard: u32,
     pub tokens: [u32; UNIT_BUFFER as usize],
 }
 
-#[derive(Drop)]
+#[derive(Clone, Copy)]
 pub struct Unit {
     // the port that it listens to
     pub serves: Circuit,
@@ -66,6 +66,7 @@ fn read(w: &[u32]) -> Unit
     none()
 }
 
+#[tactic(auto, using(laws::proofs::Row::listed))]
 pub fn write(w: &mut [u32], k: Unit)
     requires { length w.old ≡ unit.size }
     ensures { w.new ≡ from_unit k }
@@ -76,12 +77,14 @@ pub fn write(w: &mut [u32], k: Unit)
     circuits::write(&mut w[OWN..], k.serves);
 }
 
+#[tactic(auto, using(crate::proofs::Tables::words_whole), unfolding(crate::specs::View::view))]
 pub fn at(st: &[u32], slot: Slot) -> Unit
     ensures { result ≡ whole_unit (view st.now) slot.0 }
 {
     read(words(st, slot, 0, UNIT))
 }
 
+#[tactic(auto, using(crate::proofs::Puts::unit_put), unfolding(crate::specs::View::view))]
 pub fn put(st: &mut [u32], slot: Slot, k: Unit)
     requires { slot.0 < (view st.old).nodes }
     ensures { view st.new ≡ with_unit (view st.old) slot.0 k }
@@ -92,6 +95,7 @@ pub fn put(st: &mut [u32], slot: Slot, k: Unit)
 }
 
 // Whom it serves, alone.
+#[tactic(auto, using(crate::proofs::Alone::serves_alone))]
 pub fn put_serves(st: &mut [u32], slot: Slot, x: Circuit)
     requires { slot.0 < (view st.old).nodes }
     ensures { view st.new ≡ with_serving (view st.old) slot.0 x }
@@ -102,6 +106,7 @@ pub fn put_serves(st: &mut [u32], slot: Slot, x: Circuit)
 }
 
 // What it has heard, alone.
+#[tactic(auto, using(crate::proofs::Alone::hearing_alone))]
 pub fn put_hearing(st: &mut [u32], slot: Slot, x: Hearing)
     requires { slot.0 < (view st.old).nodes }
     ensures { view st.new ≡ with_hearing (view st.old) slot.0 x }

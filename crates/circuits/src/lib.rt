@@ -1,18 +1,20 @@
 // What the state says of circuits, as enums, and how two words say it: where a port's circuit goes, and
 // who stands at the other side of a link, a tile link, a claim, an open channel-end or a control unit.
+#![tactic(auto)]
+
 ghost use Rattle.std.specs.Prelude.{◌≡◌, [], length};
 ghost use Rattle.circuits.specs.Circuit.{circuit_words, to_circuit, from_circuit, peer_of, of_peer, hop_of, of_hop, of_cause, tile_taken};
 
 // The one record of a circuit, shared by ports, claims, open channel-ends, links and the control
 // unit. What kind and index mean is read off by `peer_of` and `hop_of`.
-#[derive(Drop)]
+#[derive(Clone, Copy)]
 pub struct Circuit {
     pub kind: u32,
     pub index: u32,
 }
 
 // Who stands at the other side of a circuit within the node.
-#[derive(Drop)]
+#[derive(Clone, Copy)]
 pub enum Peer {
     Nobody,
     Port(u32),
@@ -21,14 +23,14 @@ pub enum Peer {
 }
 
 // Why a circuit was refused.
-#[derive(Drop)]
+#[derive(Clone, Copy)]
 pub enum Cause {
     Split,
     NoRoute,
 }
 
 // Where a port's circuit goes.
-#[derive(Drop)]
+#[derive(Clone, Copy)]
 pub enum Hop {
     // no circuit
     Shut,

@@ -25,6 +25,7 @@ fn ready(st: &[u32], mem: &[u16], slot: Slot, p: usize) -> bool
 }
 
 // Where a port's tokens begin and end, to one who walks over them.
+#[tactic(auto, using(crate::proofs::Readies::fair, crate::proofs::Readies::reaches, crate::proofs::Readies::read_off, laws::proofs::Row::row_long))]
 fn stages(st: &[u32], mem: &[u16], slot: Slot, p: usize) -> Stages
     ensures { result ≡ stages (world st.now mem.now) slot.0 p }
 {
@@ -85,6 +86,7 @@ fn filled(size: usize, held: u32) -> usize
 }
 
 // Each word that is held is legal, END where it is kept.
+#[tactic(auto, using(laws::proofs::All::all_none, crate::proofs::Meanings::filled_within))]
 fn legal_words(words: &[u32], held: u32, ends: bool) -> bool
     ensures { result ≡ legal_words ends (length words.now) held words.now }
 {
@@ -100,6 +102,7 @@ fn legal_words(words: &[u32], held: u32, ends: bool) -> bool
 }
 
 // "tokens .. are legal": in a channel-end, no PAUSE.
+#[tactic(auto, using(crate::proofs::Meanings::end_words), unfolding(laws::specs::All::all))]
 pub fn held_tokens(st: &[u32], slot: Slot, c: usize) -> bool
     ensures { result ≡ held_tokens (view st.now) slot.0 c }
 {

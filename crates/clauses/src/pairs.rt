@@ -12,14 +12,14 @@ use names::Slot;
 use names::size::{ENDS, FIRST_TILE_PORT, LINKS, PORTS, REPLY_PORT, SINK, TILE_LINKS};
 
 // What is named.
-#[derive(Drop)]
+#[derive(Clone, Copy)]
 pub enum Named {
     Nothing,
     One(usize),
 }
 
 // Who names whom: each pair both ways.
-#[derive(Drop)]
+#[derive(Clone, Copy)]
 pub enum Role {
     PortLink,
     LinkPort,

@@ -1,5 +1,7 @@
 // Credits (document 01, "Credits"): what is granted when a grant is considered. When one is
 // considered, and what it does to the link, needs the state, and is decided above.
+#![tactic(auto)]
+
 ghost use Rattle.std.specs.Prelude.{◌≡◌};
 ghost use Rattle.credits.specs.Grant.{room_of, covered, grant_of};
 
@@ -35,6 +37,7 @@ fn covered(room: u32) -> u32
 }
 
 // The grant for a link's credit and the tokens held at its far end: 0, 8, 16 or 64.
+#[tactic(auto, unfolding(crate::specs::Grant::grant_of))]
 pub fn grant(credit: u32, held: u32) -> u32
     ensures { result ≡ grant_of credit held }
 {

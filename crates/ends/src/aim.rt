@@ -18,7 +18,7 @@ use tokens::header::is_channel;
 
 // A destination as it is asked for: a channel of a number, or a number's control unit. Values out of
 // range are refused.
-#[derive(Drop)]
+#[derive(Clone, Copy)]
 pub enum Goal {
     Channel(u32, u32),
     Unit(u32),

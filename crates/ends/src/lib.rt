@@ -1,5 +1,7 @@
 // A program's side of a channel, on a state that is known to be sound (document 01, "Calls": Aim, Output,
 // Input). The public calls, which test the state first, are crate bench's.
+#![tactic(auto)]
+
 pub mod aim;
 pub mod input;
 pub mod output;
@@ -14,14 +16,14 @@ use names::Slot;
 use names::size::ENDS;
 
 // A token as a program puts it out.
-#[derive(Drop)]
+#[derive(Clone, Copy)]
 pub enum Token {
     Data(u8),
     Control(u8),
 }
 
 // What a program asks for.
-#[derive(Drop)]
+#[derive(Clone, Copy)]
 pub enum Wanted {
     Data,
     Control,

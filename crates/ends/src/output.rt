@@ -28,7 +28,7 @@ use tokens::header::{Header, Target, make_header};
 use tokens::word::{of_control, of_data};
 
 // A channel-end's destination.
-#[derive(Drop)]
+#[derive(Clone, Copy)]
 pub enum Destination {
     Unaimed,
     Aimed(Target),

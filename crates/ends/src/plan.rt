@@ -15,7 +15,7 @@ use ports::Counters;
 use routing::way::{Way, way_to};
 use tokens::header::{Target, is_narrow, make_header};
 
-#[derive(Drop)]
+#[derive(Clone, Copy)]
 pub enum Plan {
     // one byte can't carry the destination
     Narrow,

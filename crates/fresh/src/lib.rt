@@ -1,5 +1,7 @@
 // The two starts, Fresh and blank (document 01, "Calls"; document 02, Ask 7): every word of the lent memories is written, whatever
 // stood there.
+#![tactic(auto)]
+
 ghost use Rattle.std.specs.Prelude.{◌≡◌, true, [], ◌+◌, ◌*◌, ◌<◌, length, replicate};
 ghost use Rattle.names.specs.Size.{links};
 ghost use Rattle.answers.specs.Rows.{refusal};
@@ -23,7 +25,7 @@ use names::size::{LINKS, NODES};
 use routing::direction::Directions;
 
 // Which links a start leaves enabled.
-#[derive(Drop)]
+#[derive(Clone, Copy)]
 pub enum Start {
     // links E to H of every node, as the boot ROM does
     Fresh,
@@ -35,6 +37,7 @@ pub enum Start {
 const FIRST_BOOT_LINK: usize = 4;
 
 // Every word of the state is 0.
+#[tactic(auto, using(crate::proofs::Clearing::Cleared, crate::proofs::Clearing::cleared_all, crate::proofs::Clearing::cleared_more, crate::proofs::Clearing::cleared_none))]
 fn clear_state(st: &mut [u32])
     ensures { st.new ≡ replicate (length st.old) 0 }
 {
@@ -44,6 +47,7 @@ fn clear_state(st: &mut [u32])
 }
 
 // "every token word 0", in ports and on lines
+#[tactic(auto, using(crate::proofs::Clearing::Cleared, crate::proofs::Clearing::cleared_all, crate::proofs::Clearing::cleared_more, crate::proofs::Clearing::cleared_none))]
 fn clear_tokens(mem: &mut [u16])
     ensures { mem.new ≡ replicate (length mem.old) 0 }
 {
@@ -67,6 +71,7 @@ fn settings() -> Node
 }
 
 // Each node of a state of zeros gets its settings.
+#[tactic(auto, using(crate::proofs::Settled::past_last, crate::proofs::Settled::settle_next))]
 fn settle(st: &mut [u32])
     requires { view st.old ≡ start_to 0 none_on (view st.old).nodes }
     ensures { view st.new ≡ start_net none_on (view st.old).nodes }
@@ -100,6 +105,7 @@ fn enabled_link() -> Link
 }
 
 // Links E to H of a node are enabled, where those of all nodes before it are.
+#[tactic(auto, using(crate::proofs::Links::boot_begins, crate::proofs::Links::boot_ends, crate::proofs::Links::boot_next))]
 fn boot_node(st: &mut [u32], slot: Slot)
     requires { (slot.0 < (view st.old).nodes) × (view st.old ≡ start_net (booted_to (slot.0 * links)) (view st.old).nodes) }
     ensures { view st.new ≡ start_net (booted_to ((slot.0 + 1) * links)) (view st.old).nodes }

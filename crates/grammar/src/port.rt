@@ -38,6 +38,7 @@ fn threes(stretch: &[u16], c: Counters) -> u32
 }
 
 // What shape the token at the front has; a port that holds none has none of a header.
+#[tactic(auto, using(ports::proofs::Ports::take_removes), unfolding(ports::specs::Ring::ring))]
 fn begins_one(stretch: &[u16], c: Counters) -> bool
     requires { Fair c × (length stretch.now ≡ capacity) }
     ensures { result ≡ begins_one (contents c stretch.now) }
@@ -71,7 +72,7 @@ fn front(h: Hop, stretch: &[u16], c: Counters) -> Stage
 }
 
 // Where a port's circuit stands before the first token, and past the last.
-#[derive(Drop)]
+#[derive(Clone, Copy)]
 pub struct Stages {
     pub front: Stage,
     pub back: Stage,

@@ -6,7 +6,7 @@ ghost use Rattle.tokens.specs.Shape as S;
 ghost use Rattle.grammar.specs.Stage.{of_one, is_byte, is_last, of_three, next_stage, due, is_bad, stage_number, same_stage, crossed};
 ghost use Rattle.grammar.specs.declared.stage.Stage.TheVariants.{Bad, Fresh, Body};
 
-#[derive(Drop)]
+#[derive(Clone, Copy)]
 pub enum Stage {
     // a rule was broken
     Bad,
@@ -85,6 +85,7 @@ fn plain_next(s: Stage) -> Stage
     }
 }
 
+#[tactic(auto, using(crate::proofs::Nexts::breaks, crate::proofs::Nexts::closed, tokens::proofs::Words::open_word, crate::proofs::Nexts::stays))]
 fn body_next(word: u16) -> Stage
     ensures { result ≡ next_stage Body (shape_of word) }
 {
@@ -116,6 +117,7 @@ fn only(comes: bool, to: Stage) -> Stage
 }
 
 // Where the next word takes a walk: it need not be given a shape first. Most words are plain data.
+#[tactic(auto, using(crate::proofs::Nexts::plain))]
 pub fn next(s: Stage, word: u16) -> Stage
     ensures { result ≡ next_stage s (shape_of word) }
 {

@@ -52,4 +52,4 @@ abbrev pub probing : ℕ → ℕ → List ℕ → Probing
 probing n v b = record { number = n; value = v; buffer = b }
 
 abbrev pub probed : Calls.Out → Probing
-probed o = probing (Probe.answerNumber o.answer) (Probe.answerValue o.answer) o.buffer
+probed o = probing (Probe.answer_number o.answer) (Probe.answer_value o.answer) o.buffer

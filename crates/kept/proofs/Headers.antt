@@ -64,7 +64,7 @@ begun {P} x h one three =
     (λ l. ⊎_elim (λ m. clash (rw (N.gap x (omega arith) l m) at h))
     (λ m. ⊎_elim (λ r. three (eq-eqb (x / 1024 % 2) 1 (omega arith))
     (N.byte First x m r (record { three = refl; fresh = refl; sent = refl }) (record { three = refl; fresh = refl; sent = refl })))
-    (λ r. N.past-byte (λ c. is_bad (next_stage Fresh c) ≡ false → P) x r clash clash h)
+    (λ r. N.past_byte (λ c. is_bad (next_stage Fresh c) ≡ false → P) x r clash clash h)
     (order x 0x700))
     (order x 0x600))
     (order x 0x300)
@@ -109,7 +109,7 @@ header_walk (Unit n) One r f l b = clash b
 header_walk (Channel n c) Three r f l b =
     let same : header_word c Three - 0x600 ≡ c = omega arith in
     number_walk n (header_word c Three ∷ r) f ∙ rw (N.channel (header_word c Three) (omega arith) (rw same l))
-header_walk (Unit n) Three r f l b = number_walk n (unit_word ∷ r) f ∙ rw (sym N.unit-last)
+header_walk (Unit n) Three r f l b = number_walk n (unit_word ∷ r) f ∙ rw (sym N.unit_last)
 
 pub header_size : (g : Target) (w : Width) → length (words (header_of g w)) ≤ 3
 header_size g w = size (header_of g w)

@@ -108,14 +108,14 @@ all_same f g zero h = refl
 all_same f g (suc n) h = rw (all_same f g n (λ i l. h i (omega arith)), h n (omega arith))
 
 -- As a loop computes it, with b the test at i and m the bound: it stops at a test that fails, goes on past one that holds, and ends
-pub loop-stops : (f : ℕ → Bool) (n i : ℕ) {m : ℕ} {b : Bool} → m ≡ n → i < m → b ≡ f i → not b ≡ true → false ≡ all n f
-loop-stops f n i {m} {b} q l e h = sym (all_miss f n i (omega arith) (sym e ∙ not-true b h))
+pub loop_stops : (f : ℕ → Bool) (n i : ℕ) {m : ℕ} {b : Bool} → m ≡ n → i < m → b ≡ f i → not b ≡ true → false ≡ all n f
+loop_stops f n i {m} {b} q l e h = sym (all_miss f n i (omega arith) (sym e ∙ not-true b h))
 
-pub loop-goes : (f : ℕ → Bool) (i : ℕ) {b : Bool} → all i f ≡ true → b ≡ f i → not b ≡ false → all (i + 1) f ≡ true
-loop-goes f i {b} a e h = all_more f i a (sym e ∙ not-false b h)
+pub loop_goes : (f : ℕ → Bool) (i : ℕ) {b : Bool} → all i f ≡ true → b ≡ f i → not b ≡ false → all (i + 1) f ≡ true
+loop_goes f i {b} a e h = all_more f i a (sym e ∙ not-false b h)
 
-pub loop-ends : (f : ℕ → Bool) (n i : ℕ) {m : ℕ} → m ≡ n → i ≤ m → m ≤ i → all i f ≡ true → true ≡ all n f
-loop-ends f n i q l h a = sym (all_done f n i (omega arith) (omega arith) a)
+pub loop_ends : (f : ℕ → Bool) (n i : ℕ) {m : ℕ} → m ≡ n → i ≤ m → m ≤ i → all i f ≡ true → true ≡ all n f
+loop_ends f n i q l h a = sym (all_done f n i (omega arith) (omega arith) a)
 
 -- The first place that passes: none before it does, and it does where there is one
 pub first_least : (f : ℕ → Bool) (n : ℕ) → NoneBelow f (first n f)

@@ -14,7 +14,7 @@ LineFair c = Ring.Fair line_capacity c
 
 -- the counters after one thing is taken off its far end (putting is `put_counters`, of any capacity)
 abbrev pub off_counters : Counters → Counters
-off_counters c = Ring.takeCounters line_capacity c
+off_counters c = Ring.take_counters line_capacity c
 
 -- where the stretch of the line that starts at link l of node n begins
 abbrev pub line_place : ℕ → ℕ → ℕ
@@ -22,10 +22,10 @@ line_place n l = Ring.place links line_capacity n l
 
 -- the whole memory after one thing is put on the line whose stretch begins at a, and after its first is taken off
 abbrev pub on_memory : Counters → List ℕ → ℕ → ℕ → List ℕ
-on_memory c m a x = Ring.putMemory line_capacity c m a x
+on_memory c m a x = Ring.put_memory line_capacity c m a x
 
 abbrev pub off_memory : Counters → List ℕ → ℕ → List ℕ
-off_memory c m a = Ring.takeMemory c m a
+off_memory c m a = Ring.take_memory c m a
 
 abbrev pub first_off : Counters → List ℕ → ℕ → ℕ
 first_off c m a = Ring.first_of c m a

@@ -1,5 +1,7 @@
 // The lines of cables (document 02, Ask 4): each direction of a cable is a line of up to 66 tokens, credits and HELLOs in order, on its
 // own stretch of a second lent memory. Its counters are a port's kind of counters, kept with the link that it starts at.
+#![tactic(auto)]
+
 pub mod load;
 
 ghost use Rattle.std.specs.Prelude.{◌≡◌, ◌+◌, ◌^◌, ◌≤◌, ◌<◌, length};

@@ -16,7 +16,7 @@ const CREDIT16: u16 = 0x01E4;
 const CREDIT64: u16 = 0x01E1;
 
 // How much is on a line.
-#[derive(Drop)]
+#[derive(Clone, Copy)]
 pub struct Load {
     // tokens on their way to a port
     pub tokens: u32,
@@ -46,6 +46,7 @@ pub fn is_hello(word: u16) -> bool
 }
 
 // The credit that a word brings, 0 where it is none.
+#[tactic(auto, unfolding(crate::specs::Load::credit_of))]
 pub fn credit_of(word: u16) -> u32
     ensures { result ≡ credit_of word }
 {
@@ -58,6 +59,7 @@ pub fn credit_of(word: u16) -> u32
 }
 
 // A token on its way to a port: whatever is no credit and no HELLO.
+#[tactic(auto, unfolding(crate::specs::Load::is_token))]
 pub fn is_token(word: u16) -> bool
     ensures { result ≡ is_token word }
 {
@@ -65,6 +67,7 @@ pub fn is_token(word: u16) -> bool
 }
 
 // One thing more in front of the rest, on a line.
+#[tactic(auto, using(crate::proofs::Loads::credit_most), unfolding(crate::specs::Load::before))]
 fn before(word: u16, k: Load) -> Load
     requires { Within line_capacity k }
     ensures { result ≡ before word k }
@@ -86,6 +89,7 @@ fn before(word: u16, k: Load) -> Load
 }
 
 // How much is on the line that starts at a link: from its near end to its far end, so that what is behind a HELLO is known when it comes.
+#[tactic(auto, using(crate::proofs::Loads::load_all, crate::proofs::Loads::load_none, crate::proofs::Loads::load_turn, crate::proofs::Loads::rest_of, crate::proofs::Loads::within_before, crate::proofs::Loads::within_more))]
 pub fn load_at(c: Counters, lines: &[u16], slot: Slot, l: usize) -> Load
     requires { LineFair c × (line_place slot.0 l + line_capacity ≤ length lines.now) }
     ensures { result ≡ load_of (on_line c lines.now (line_place slot.0 l)) }

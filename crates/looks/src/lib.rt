@@ -2,6 +2,8 @@
 // its answer: an all-zero record, or nothing. The records themselves are looked at by crate cells
 // (`node::count`, `node::at`, `link::at`, `port::at`, `tile::at`, `end::at`, `unit::at`, `line::at`), and whether the
 // network is quiet by crate sound (`is_quiet`).
+#![tactic(auto)]
+
 ghost use Rattle.std.specs.Prelude.{◌≡◌, ◌<◌, length};
 ghost use Rattle.ports.specs.Queue.{capacity};
 ghost use Rattle.cells.specs.View.{view};
@@ -16,7 +18,7 @@ use names::size::{END_BUFFER, LINKS, PORTS};
 use ports::{Counters, stretch};
 
 // What a look at a token finds: its word.
-#[derive(Drop)]
+#[derive(Clone, Copy)]
 pub enum Seen {
     Token(u32),
     Nothing,
@@ -42,6 +44,7 @@ fn in_ring(stretch: &[u16], head: u32, i: u32) -> u16
 }
 
 // The i-th token held in a port, oldest first.
+#[tactic(auto, using(laws::proofs::All::and_false, laws::proofs::Row::row_long), unfolding(crate::specs::Looks::port_token))]
 pub fn port_token(st: &[u32], mem: &[u16], slot: Slot, p: usize, i: u32) -> Seen
     ensures { result ≡ port_token (world st.now mem.now) slot.0 p i }
 {
@@ -62,6 +65,7 @@ pub fn port_token(st: &[u32], mem: &[u16], slot: Slot, p: usize, i: u32) -> Seen
 }
 
 // The i-th on the line that starts at a link, the first to arrive first.
+#[tactic(auto, using(laws::proofs::All::and_false), unfolding(crate::specs::Looks::line_token))]
 pub fn line_token(st: &[u32], ls: &[u16], slot: Slot, l: usize, i: u32) -> Seen
     ensures { result ≡ line_token (lined st.now ls.now) slot.0 l i }
 {
@@ -86,6 +90,7 @@ pub fn line_token(st: &[u32], ls: &[u16], slot: Slot, l: usize, i: u32) -> Seen
 }
 
 // The i-th token held in a channel-end, oldest first.
+#[tactic(auto, using(laws::proofs::All::and_false), unfolding(crate::specs::Looks::end_token))]
 pub fn end_token(st: &[u32], slot: Slot, c: usize, i: usize) -> Seen
     ensures { result ≡ end_token (view st.now) slot.0 c i }
 {

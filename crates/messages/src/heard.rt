@@ -19,7 +19,7 @@ const WRITE: u32 = WRITEC as u32;
 
 const READ: u32 = READC as u32;
 
-#[derive(Drop)]
+#[derive(Clone, Copy)]
 pub enum Message {
     // no known reply address, or PAUSE at its end
     Malformed,

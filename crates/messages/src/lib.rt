@@ -1,6 +1,8 @@
 // Switch messages (document 01, "Switch messages"): what a node's control unit hears, and what it does and
 // replies at a message's end, on a state that is known to be sound. Step, in crate switch, closes the hop
 // first.
+#![tactic(auto)]
+
 pub mod heard;
 pub mod register;
 pub mod reply;

@@ -9,7 +9,7 @@ ghost use Rattle.messages.specs.Register.{link_in, register_of, is_known, read_o
 use cells::{link, node};
 use names::Slot;
 
-#[derive(Drop)]
+#[derive(Clone, Copy)]
 pub enum Register {
     // an address without one
     Unknown,

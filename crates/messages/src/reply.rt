@@ -17,7 +17,7 @@ use tokens::header::{Header, Target, is_narrow, make_header};
 use tokens::word::{END, of_control, of_data};
 
 // What follows a reply's header.
-#[derive(Drop)]
+#[derive(Clone, Copy)]
 pub enum Reply {
     Nack,
     Ack,

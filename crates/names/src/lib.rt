@@ -1,5 +1,7 @@
 // A place in the bench's table and a switch's own identifier are two types, so that one is never
 // given for the other (document 01, "What the bench holds"). Lowest of all crates.
+#![tactic(auto)]
+
 pub mod no;
 pub mod size;
 
@@ -10,15 +12,15 @@ use crate::size::NUMBERS;
 
 // A node's place in the bench's table. As the argument of a call it may be any number: a slot that
 // is not there is NoSuch.
-#[derive(Drop)]
+#[derive(Clone, Copy)]
 pub struct Slot(pub usize);
 
 // The 16-bit identifier written into a node's switch. Two nodes may carry the same one.
-#[derive(Drop)]
+#[derive(Clone, Copy)]
 pub struct NodeNumber(pub u16);
 
 // A wide value that was asked for as a number.
-#[derive(Drop)]
+#[derive(Clone, Copy)]
 pub enum Ranged {
     Number(NodeNumber),
     OutOfRange,

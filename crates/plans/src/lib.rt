@@ -1,5 +1,7 @@
 // What a Step is to do (document 01, "What a Step does"), read off the state and the port's tokens with
 // nothing changed. What is done of it is crate switch's.
+#![tactic(auto)]
+
 pub mod read;
 
 ghost use Rattle.std.specs.Prelude.{◌≡◌};
@@ -22,7 +24,7 @@ use names::size::{LINKS, REPLY_PORT, TILE_LINKS};
 use routing::way::{Way, way_to};
 use tokens::header::Target;
 
-#[derive(Drop)]
+#[derive(Clone, Copy)]
 pub enum Plan {
     // nothing is held
     Idle,

@@ -16,7 +16,7 @@ abbrev pub stretch : List ℕ → ℕ → List ℕ
 stretch m a = Ring.stretch capacity m a
 
 abbrev pub put_memory : Counters → List ℕ → ℕ → ℕ → List ℕ
-put_memory p m a t = Ring.putMemory capacity p m a t
+put_memory p m a t = Ring.put_memory capacity p m a t
 
 abbrev pub held : Counters → List ℕ → ℕ → List ℕ
 held p m a = Ring.held capacity p m a

@@ -12,10 +12,10 @@ abbrev pub Fair : Counters → Type 0
 Fair p = Ring.Fair capacity p
 
 abbrev pub put_words : Counters → List ℕ → ℕ → List ℕ
-put_words p s t = Ring.putWords capacity p s t
+put_words p s t = Ring.put_words capacity p s t
 
 abbrev pub take_counters : Counters → Counters
-take_counters p = Ring.takeCounters capacity p
+take_counters p = Ring.take_counters capacity p
 
 abbrev pub ring : List ℕ → ℕ → ℕ → List ℕ
 ring s h n = Ring.ring capacity s h n

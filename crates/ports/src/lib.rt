@@ -1,5 +1,7 @@
 // A port's buffer (document 01, "Sizes"): counters over the port's own stretch of the lent token
 // memory, which is a ring.
+#![tactic(auto)]
+
 ghost use Rattle.std.specs.Prelude.{◌≡◌, ◌+◌, ◌^◌, ◌≤◌, ◌<◌, length};
 ghost use Rattle.ports.specs.Queue.{capacity, Fair, empty_counters, put_counters, put_words, take_counters, take_words, first_word};
 ghost use Rattle.ports.specs.Memory.{place, stretch, put_memory, take_memory, first_of};
@@ -8,14 +10,14 @@ use names::Slot;
 use names::size::PORTS;
 
 // The port's counters: where in the ring the oldest token lies, and how many are held behind it.
-#[derive(Drop)]
+#[derive(Clone, Copy)]
 pub struct Counters {
     pub head: u32,
     pub held: u32,
 }
 
 // What taking gives: the counters after it, and the token.
-#[derive(Drop)]
+#[derive(Clone, Copy)]
 pub struct Taken {
     pub counters: Counters,
     pub token: u16,
@@ -82,6 +84,7 @@ pub fn stretch(memory: &[u16], slot: Slot, port: usize) -> &[u16]
 
 // Puts a token into a port, on that port's own stretch of the whole memory. The memory has such a
 // stretch for each port of each slot that is there.
+#[tactic(auto, using(laws::proofs::Row::part_set))]
 pub fn put_at(p: Counters, memory: &mut [u16], slot: Slot, port: usize, token: u16) -> Counters
     requires { Fair p × (p.held < capacity) × (place slot.0 port + capacity ≤ length memory.old) }
     ensures { (result ≡ put_counters p) × (memory.new ≡ put_memory p memory.old (place slot.0 port) token) }
@@ -92,6 +95,7 @@ pub fn put_at(p: Counters, memory: &mut [u16], slot: Slot, port: usize, token: u
 }
 
 // Takes the oldest token of a port, on that port's own stretch of the whole memory.
+#[tactic(auto, using(laws::proofs::Row::part_set, laws::proofs::Row::row_at))]
 pub fn take_at(p: Counters, memory: &mut [u16], slot: Slot, port: usize) -> Taken
     requires { Fair p × (0 < p.held) × (place slot.0 port + capacity ≤ length memory.old) }
     ensures { (result.counters ≡ take_counters p) × (result.token ≡ first_of p memory.old (place slot.0 port)) × (memory.new ≡ take_memory p memory.old (place slot.0 port)) }

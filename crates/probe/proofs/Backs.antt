@@ -1,18 +1,17 @@
 -- Reading what was written gives the tokens back without their header marks: once, of any form that has the two facts. Assumes nothing.
 use Prim.Native.Nat.{ℕ, zero, suc, ◌+◌, ◌*◌, ◌/◌, ◌%◌, ◌<◌, ◌≤◌}
-use mathlib.Core.Path.{◌≡◌, refl, sym, ap, ◌∙◌}
+use mathlib.Core.Path.{◌≡◌, refl, ap, ◌∙◌}
 use mathlib.Core.Bool.{true, false, not}
 use mathlib.Core.Logic.{⊎_elim}
 use mathlib.Core.List.{List, [], ◌∷◌, ◌++◌, map, append_assoc, append-nil}
 use native.Mathlib.Nat.{suc-mul, mul-div_cancel, mul-mod_left}
 use native.Mathlib.Decide.{ℕ_discrete}
 use native.Mathlib.Omega.{arith}
-use lib.Dec.{eqb, ltb, leb}
+use lib.Dec.{ltb, leb}
 use lib.ListN.{length, get_or, take, drop, length-append, length-drop, take-append-drop}
 use lib.Seq.{take-append-le, drop-append-le, drop_at, take_all, take_at, take-suc, take-length, length-take-le}
 use borrow.Author.Tests.{le-ltb, eq-eqb, ltb-false, not-false}
-use Rattle.laws.specs.All.{first, NoneBelow}
-use Rattle.laws.specs.Row.{row}
+use Rattle.laws.specs.All.{NoneBelow}
 use Rattle.laws.proofs.All.{first_none, first_least, also, below, as_is}
 use Rattle.laws.proofs.Order.{next, by_test, never}
 use Rattle.probe.specs.Wires.{low, after}
@@ -21,8 +20,7 @@ use Rattle.probe.specs.Form.{whole, said_at, meaningless, tokens_in, gathered, f
 use Rattle.probe.specs.Calls.{Out, out, filled, delivered, writing, reading}
 use Rattle.probe.specs.Facts.{Tells, Faithful}
 use Rattle.probe.specs.declared.answer.Answer.TheVariants.{Filled, Bad, NoSuch}
-use Rattle.probe.specs.declared.sequence.Said.{Said}
-use Rattle.probe.specs.declared.sequence.Said.TheVariants.{Token, Return, Nothing}
+use Rattle.probe.specs.declared.sequence.Said.TheVariants.{Token}
 use Rattle.probe.proofs.Levels.{after_small}
 
 map_last : (f : ℕ → ℕ) (l : List ℕ) (x : ℕ) → map f (l ++ (x ∷ [])) ≡ map f l ++ (f x ∷ [])

@@ -1,5 +1,5 @@
 -- What a capture is refused for, exactly, and that a refusal fills nothing. Assumes nothing.
-use Prim.Native.Nat.{ℕ, ◌+◌, ◌*◌, ◌/◌, ◌%◌, ◌<◌, ◌≤◌}
+use Prim.Native.Nat.{ℕ, ◌+◌, ◌*◌, ◌%◌, ◌<◌, ◌≤◌}
 use mathlib.Core.Path.{◌≡◌, refl, sym, ap, ◌∙◌}
 use mathlib.Core.Bool.{Bool, true, false, not}
 use mathlib.Core.Logic.{◌⊎◌, inl, inr, ⊎_elim}
@@ -9,13 +9,12 @@ use native.Mathlib.Omega.{arith}
 use lib.Dec.{eqb, ltb, leb}
 use lib.ListN.{length, get_or}
 use borrow.Author.Tests.{lt-ltb, le-ltb, ltb-true, ltb-false, ne_eqb, eqb-false, not-true, not-false}
-use Rattle.laws.specs.All.{first, NoneBelow}
+use Rattle.laws.specs.All.{NoneBelow}
 use Rattle.laws.proofs.All.{first_here, first_none, first_least, first_passes}
-use Rattle.laws.proofs.Order.{by_test, never, clash, order}
+use Rattle.laws.proofs.Order.{by_test, never, clash}
 use Rattle.probe.specs.Form.{Form, writable, transitions, first_unwritable, whole, said_at, meaningless, tokens, first_meaningless}
-use Rattle.probe.specs.Calls.{Out, out, filled, delivered, writing, reading}
+use Rattle.probe.specs.Calls.{Out, out, delivered, writing, reading}
 use Rattle.probe.specs.Facts.{FirstUnwritable, FirstBad, Short}
-use Rattle.probe.specs.declared.answer.Answer.{Answer}
 use Rattle.probe.specs.declared.answer.Answer.TheVariants.{Filled, Bad, Cut, NoSuch}
 use Rattle.probe.specs.declared.sequence.Said.{Said}
 use Rattle.probe.specs.declared.sequence.Said.TheVariants.{Token, Return, Nothing}

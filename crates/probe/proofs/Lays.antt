@@ -1,12 +1,12 @@
 -- Words laid into a buffer from a place on, one stretch behind the other, as both calls do it. Assumes nothing.
-use Prim.Native.Nat.{ℕ, zero, suc, ◌+◌, ◌<◌, ◌≤◌}
+use Prim.Native.Nat.{ℕ, zero, suc, ◌<◌, ◌≤◌}
 use mathlib.Core.Path.{◌≡◌, ◌∙◌}
 use mathlib.Core.Logic.{⊎_elim}
 use mathlib.Core.List.{List, [], ◌∷◌, ◌++◌, append_assoc}
 use native.Mathlib.Nat.{add-zero}
 use native.Mathlib.Numerals.{add-one}
 use native.Mathlib.Omega.{arith}
-use lib.ListN.{length, take, drop, set, length-append, length-drop, take-append-drop}
+use lib.ListN.{length, drop, set, length-append, length-drop, take-append-drop}
 use lib.Seq.{set_split, drop-drop, take-append_seam, drop-append-add}
 use Rattle.laws.proofs.Order.{order}
 use Rattle.probe.specs.Calls.{filled}

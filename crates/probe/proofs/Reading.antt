@@ -1,19 +1,18 @@
 -- Reading as a loop goes over the sequences, for any form. Assumes nothing.
 use Prim.Native.Nat.{ℕ, zero, suc, ◌+◌, ◌*◌, ◌/◌, ◌%◌, ◌<◌, ◌≤◌}
-use mathlib.Core.Path.{◌≡◌, refl, sym, ap, ◌∙◌}
+use mathlib.Core.Path.{◌≡◌, refl, ◌∙◌}
 use mathlib.Core.Bool.{true, false}
-use mathlib.Core.Logic.{⊎_elim}
-use mathlib.Core.List.{List, [], ◌∷◌, ◌++◌}
+use mathlib.Core.List.{List, [], ◌++◌}
 use native.Mathlib.Nat.{div-mul-le_self, le_trans}
 use native.Mathlib.Numerals.{add-one}
 use native.Mathlib.Omega.{arith}
 use lib.Dec.{eqb, ltb}
 use lib.ListN.{length, length-append}
 use borrow.Author.Tests.{lt-ltb, le-ltb, eq-eqb, ne_eqb}
-use Rattle.laws.specs.All.{first, NoneBelow}
+use Rattle.laws.specs.All.{NoneBelow}
 use Rattle.laws.specs.Row.{row}
 use Rattle.laws.proofs.All.{first_here, first_none}
-use Rattle.laws.proofs.Order.{order, next, by_test, never}
+use Rattle.laws.proofs.Order.{next, by_test, never}
 use Rattle.probe.specs.Form.{Form, whole, said_at, meaningless, tokens_in, gathered, tokens, first_meaningless}
 use Rattle.probe.specs.Serial.{serial}
 use Rattle.probe.specs.Fast.{fast}

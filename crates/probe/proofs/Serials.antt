@@ -1,17 +1,17 @@
 -- Ten transitions as a loop reads them. Assumes nothing.
-use Prim.Native.Nat.{ℕ, zero, suc, ◌+◌, ◌*◌, ◌/◌, ◌%◌, ◌^◌, ◌<◌, ◌≤◌}
-use mathlib.Core.Path.{◌≡◌, refl, sym, ap, ◌∙◌}
-use mathlib.Core.Bool.{true, false, ◌&&◌}
+use Prim.Native.Nat.{ℕ, ◌+◌, ◌*◌, ◌/◌, ◌%◌, ◌^◌, ◌<◌, ◌≤◌}
+use mathlib.Core.Path.{◌≡◌, refl, ap}
+use mathlib.Core.Bool.{true, false}
 use mathlib.Core.List.{List}
 use native.Mathlib.Nat.{pow-suc}
 use native.Mathlib.Numerals.{add-one}
 use native.Mathlib.Omega.{arith}
-use lib.Dec.{eqb, ltb, leb}
+use lib.Dec.{ltb, leb}
 use lib.ListN.{get_or}
 use borrow.Author.Tests.{lt-ltb, le-ltb, ltb-true, eq-eqb, ne_eqb, leb-true}
 use Rattle.laws.specs.All.{all}
 use Rattle.laws.specs.Row.{row}
-use Rattle.laws.proofs.All.{all_none, all_more, all_miss, and_false}
+use Rattle.laws.proofs.All.{all_none, all_more, all_miss}
 use Rattle.laws.proofs.Row.{row_at}
 use Rattle.probe.specs.Digits.{number, ones}
 use Rattle.probe.specs.Serial.{serial_says}
@@ -95,3 +95,7 @@ module _ (xs : List ℕ) (place : ℕ) where
         let split : bits ≡ (number 2 8 q * 2 + get_or q 8 0) * 2 + get_or q 9 0 = s.value in
         let told : bits / 4 + bits / 2 % 2 * 256 ≡ number 2 8 q + 256 * get_or q 8 0 = omega arith in
         rw (s.binary, eq-eqb (ones 10 q % 2) 0 n) (ap Token told)
+
+  -- an odd number of ones at the end of the loop
+  pub odd_end : (i bits sum : ℕ) → Sofar i bits sum → 10 ≤ i → sum % 2 ≡ 1 → Nothing ≡ serial_says q
+  odd_end i bits sum s l e = odd bits sum (ten i bits sum s l) e

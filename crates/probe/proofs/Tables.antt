@@ -1,10 +1,10 @@
 -- What a test that is computed at every place of a table says at each. Assumes nothing.
-use Prim.Native.Nat.{ℕ, zero, suc, ◌<◌}
-use mathlib.Core.Path.{◌≡◌, refl, ap}
+use Prim.Native.Nat.{ℕ, ◌<◌}
+use mathlib.Core.Path.{◌≡◌, refl}
 use mathlib.Core.Bool.{Bool, true, false, ◌&&◌}
 use mathlib.Core.List.{List, [], ◌∷◌}
 use lib.Dec.{eqb}
-use Rattle.laws.specs.All.{all, Means}
+use Rattle.laws.specs.All.{all}
 use Rattle.laws.proofs.All.{each, equal, also, as_is}
 use Rattle.laws.proofs.Order.{never}
 

@@ -1,25 +1,23 @@
 -- Writing as a loop goes over the tokens, for any form. Assumes nothing.
-use Prim.Native.Nat.{ℕ, zero, suc, ◌+◌, ◌-◌, ◌<◌, ◌≤◌}
+use Prim.Native.Nat.{ℕ, ◌+◌, ◌-◌, ◌<◌, ◌≤◌}
 use mathlib.Core.Path.{◌≡◌, refl, sym, ap, ◌∙◌}
-use mathlib.Core.Bool.{true, false, not}
-use mathlib.Core.Logic.{⊎_elim}
+use mathlib.Core.Bool.{true, not}
 use mathlib.Core.List.{List, [], ◌++◌, append_assoc}
 use native.Mathlib.Numerals.{add-one}
 use native.Mathlib.Omega.{arith}
-use lib.Dec.{leb, ltb}
+use lib.Dec.{leb}
 use lib.ListN.{length, get_or, take, length-append}
 use lib.Seq.{paste, length-take-le}
 use borrow.Author.Tests.{le-leb, lt-leb, lt-ltb, le-ltb, leb-true, leb-false}
-use Rattle.laws.specs.All.{first, NoneBelow}
+use Rattle.laws.specs.All.{NoneBelow}
 use Rattle.laws.proofs.All.{first_here, first_none}
-use Rattle.laws.proofs.Order.{order, by_test, never}
+use Rattle.laws.proofs.Order.{by_test, never}
 use Rattle.probe.specs.Wires.{low, after}
 use Rattle.probe.specs.Form.{Form, unmarked, writable, written, transitions, first_unwritable}
 use Rattle.probe.specs.Calls.{out, filled, delivered, writing}
-use Rattle.probe.specs.Needs.{Lies, Room, measured, laid_in}
+use Rattle.probe.specs.Needs.{Lies, measured, laid_in}
 use Rattle.probe.specs.declared.answer.Answer.TheVariants.{Filled, Bad, NoSuch}
 use Rattle.probe.specs.declared.sequence.Sequence.{Sequence}
-use Rattle.probe.specs.declared.writer.Measured.{Measured}
 use Rattle.probe.specs.declared.writer.Measured.TheVariants.{Fits, Over}
 use Rattle.probe.proofs.Levels.{after_small, after_append, after_none}
 use Rattle.probe.proofs.Lays.{lay_behind, grows}

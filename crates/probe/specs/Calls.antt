@@ -1,6 +1,6 @@
 -- The two calls over any form: "the first found from the front is given, NoSuch last, and all return no tokens and fill nothing" (document
 -- 02, Ask 8).
-use Rattle.std.specs.Prelude.{ℕ, ◌*◌, ◌%◌, Bool, List, ◌++◌, ltb, leb, eqb, length, drop}
+use Rattle.std.specs.Prelude.{ℕ, ◌*◌, ◌%◌, List, ◌++◌, ltb, leb, eqb, length, drop}
 use Rattle.laws.specs.Pick.{pick}
 use Rattle.probe.specs.Form.{Form, transitions, first_unwritable, whole, tokens, first_meaningless}
 use Rattle.probe.specs.Serial.{serial}

@@ -1,12 +1,12 @@
 -- The worked examples of the papers and of the tables read off them, of the very definitions that the contracts cite: what is written, what
 -- is read, what is refused.
-use Rattle.std.specs.Prelude.{ℕ, ◌+◌, ◌≡◌, List, [], ◌∷◌, ◌++◌, replicate}
+use Rattle.std.specs.Prelude.{ℕ, ◌≡◌, List, [], ◌∷◌, replicate}
 use Rattle.laws.specs.All.{Each}
-use Rattle.tokens.specs.Control.{end, pause, writec, ssctrl}
+use Rattle.tokens.specs.Control.{end, pause, writec}
 use Rattle.tokens.specs.Word.{data_word, control_word, header_word, unit_word}
 use Rattle.tokens.specs.declared.header.Width.TheVariants.{One, Three}
 use Rattle.probe.specs.Form.{Form, transitions}
-use Rattle.probe.specs.Calls.{form_of, reading}
+use Rattle.probe.specs.Calls.{reading}
 use Rattle.probe.specs.Serial.{serial}
 use Rattle.probe.specs.Fast.{fast}
 use Rattle.probe.specs.declared.answer.Answer.{Answer}

@@ -4,7 +4,7 @@ ghost use Rattle.probe.specs.Answer.{answer_number, answer_value};
 
 use names::no::NO_SUCH;
 
-#[derive(Drop)]
+#[derive(Clone, Copy)]
 pub enum Answer {
     // so many words of the buffer were filled
     Filled(usize),

@@ -27,6 +27,7 @@ const LINK_LEVEL: [u8; 4] = [0xE0, 0xE1, 0xE6, 0xE4];
 const PAIRS: [u8; 16] = [0, 0, 0, 1, 0, 2, 6, 1, 0, 3, 7, 1, 11, 2, 6, 1];
 
 // The v of escape v escape v, 4 where a control token is not of that kind.
+#[tactic(auto, unfolding(laws::specs::All::first, crate::specs::Fast::link_value))]
 fn link_value(c: u8) -> u8
     ensures { result ≡ link_value c }
 {
@@ -40,6 +41,7 @@ fn link_value(c: u8) -> u8
 }
 
 // The control tokens that no single escape tells.
+#[tactic(auto, unfolding(crate::specs::Fast::special))]
 fn special(c: u8) -> bool
     ensures { result ≡ special c }
 {
@@ -47,7 +49,7 @@ fn special(c: u8) -> bool
 }
 
 // A sequence of the fast link.
-#[derive(Drop)]
+#[derive(Clone, Copy)]
 struct Four(u8, u8, u8, u8);
 
 fn single(f: Four) -> Sequence
@@ -77,6 +79,7 @@ fn pair(wires: u8) -> u8
 }
 
 // The data wire that is alone high beside wire 4, 4 where none is.
+#[tactic(auto, unfolding(crate::specs::Needs::alone, laws::specs::All::first))]
 fn alone(wires: u8) -> u8
     ensures { result ≡ alone wires }
 {
@@ -90,6 +93,7 @@ fn alone(wires: u8) -> u8
 }
 
 // RTNZ or NOPD, whichever brings more wires low.
+#[tactic(auto, using(crate::proofs::Closings::alone_least, crate::proofs::Closings::two_least))]
 fn returning(wires: u8) -> Four
     requires { wires < 32 }
     ensures { symbols_of result ≡ least_of wires return_forms }
@@ -102,6 +106,7 @@ fn returning(wires: u8) -> Four
     Four(ESCAPE, two / 4, two % 4, ESCAPE)
 }
 
+#[tactic(auto, using(crate::proofs::Closings::end_least), unfolding(crate::proofs::Closings::end_of))]
 fn ending(wires: u8) -> Four
     requires { wires < 32 }
     ensures { symbols_of result ≡ least_of wires end_forms }
@@ -110,6 +115,7 @@ fn ending(wires: u8) -> Four
     Four(ESCAPE, ESCAPE, two / 4, two % 4)
 }
 
+#[tactic(auto, using(crate::proofs::Closings::pause_least), unfolding(crate::proofs::Closings::pause_of))]
 fn pausing(wires: u8) -> Four
     requires { wires < 32 }
     ensures { symbols_of result ≡ least_of wires pause_forms }
@@ -119,6 +125,7 @@ fn pausing(wires: u8) -> Four
 }
 
 // END or PAUSE, and the return that the wires need behind it.
+#[tactic(auto, using(crate::proofs::Levels::after_small, crate::proofs::Closings::returned_none, crate::proofs::Closings::returned_some))]
 fn closed(wires: u8, f: Four) -> Sequence
     requires { wires < 32 }
     ensures { Lies result (symbols_of f ++ returned (after wires (symbols_of f))) }
@@ -164,6 +171,7 @@ fn control_one(wires: u8, c: u8) -> Sequence
 }
 
 // A token from the wires' state.
+#[tactic(auto, unfolding(crate::specs::Fast::fast_one))]
 pub fn one(wires: u8, token: u16) -> Sequence
     requires { wires < 32 }
     ensures { Lies result (fast_one wires token) }
@@ -176,6 +184,7 @@ pub fn one(wires: u8, token: u16) -> Sequence
 }
 
 // A control token that was told by a single escape.
+#[tactic(auto, unfolding(crate::specs::Fast::control_said))]
 fn control_said(c: u8) -> Said
     ensures { result ≡ control_said c }
 {
@@ -245,6 +254,7 @@ fn escape_second(a: u8, c: u8, d: u8) -> Said
 }
 
 // Value, value, ..
+#[tactic(auto, using(crate::proofs::Fasts::four_is))]
 fn two_values(a: u8, b: u8, c: u8, d: u8) -> Said
     requires { (a < 4) × (b < 4) × (c < 5) × (d < 5) }
     ensures { result ≡ row_says false false (eqb c 4) (eqb d 4) a b c d }
@@ -261,6 +271,7 @@ fn two_values(a: u8, b: u8, c: u8, d: u8) -> Said
     Said::Token((a * 64 + b * 16 + c * 4 + d) as u16)
 }
 
+#[tactic(auto, unfolding(crate::specs::Fast::symbols_say))]
 fn symbols_say(a: u8, b: u8, c: u8, d: u8) -> Said
     requires { (a < 5) × (b < 5) × (c < 5) × (d < 5) }
     ensures { result ≡ symbols_say a b c d }
@@ -275,6 +286,7 @@ fn symbols_say(a: u8, b: u8, c: u8, d: u8) -> Said
 }
 
 // What four transitions say.
+#[tactic(auto, using(crate::proofs::Fasts::each_wired, crate::proofs::Fasts::four_said, crate::proofs::Fasts::four_unsaid))]
 pub fn says(capture: &[u8], at: usize) -> Said
     requires { at + 4 ≤ length capture.now }
     ensures { result ≡ fast_says (row 4 at capture.now) }

@@ -8,13 +8,14 @@ ghost use Rattle.probe.specs.Needs.{Lies};
 use crate::sequence::{Said, Sequence};
 use crate::{fast, serial};
 
-#[derive(Drop)]
+#[derive(Clone, Copy)]
 pub enum Mode {
     Serial,
     Fast,
 }
 
 // How many transitions a sequence has.
+#[tactic(auto, unfolding(crate::specs::Fast::fast, crate::specs::Serial::serial))]
 pub fn width(mode: Mode) -> usize
     ensures { result ≡ (form_of mode).width }
 {
@@ -25,6 +26,7 @@ pub fn width(mode: Mode) -> usize
 }
 
 // A token's word can be written.
+#[tactic(auto, unfolding(crate::specs::Fast::fast, crate::specs::Serial::serial, crate::specs::Form::writable))]
 pub fn writable(mode: Mode, word: u16) -> bool
     ensures { result ≡ writable (form_of mode) word }
 {
@@ -38,6 +40,7 @@ pub fn writable(mode: Mode, word: u16) -> bool
 }
 
 // A token written from the wires' state.
+#[tactic(auto, unfolding(crate::specs::Fast::fast, crate::specs::Serial::serial))]
 pub fn one(mode: Mode, wires: u8, word: u16) -> Sequence
     requires { wires < 32 }
     ensures { Lies result ((form_of mode).one wires (unmarked word)) }
@@ -49,6 +52,7 @@ pub fn one(mode: Mode, wires: u8, word: u16) -> Sequence
 }
 
 // What the sequence that begins at a place says.
+#[tactic(auto, unfolding(crate::specs::Fast::fast, crate::specs::Serial::serial))]
 pub fn says(mode: Mode, capture: &[u8], at: usize) -> Said
     requires { at + (form_of mode).width ≤ length capture.now }
     ensures { result ≡ (form_of mode).says (row (form_of mode).width at capture.now) }

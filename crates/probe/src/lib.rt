@@ -1,6 +1,8 @@
 // Transitions for the logic probe (document 02, Ask 8): a port's or line's tokens written as transitions on the wires of a link, and a
 // capture read back, for the serial and the fast link. A transition is a byte, the number of the wire that changes. Beside the bench:
 // nothing here touches its memories.
+#![tactic(auto)]
+
 pub mod answer;
 pub mod fast;
 pub mod form;
@@ -19,6 +21,7 @@ use crate::reader::{Judged, judge, unload};
 use crate::writer::{Measured, fill, first_unwritable, measure};
 
 // Tokens, oldest first, as transitions from all wires low.
+#[tactic(auto, using(crate::proofs::Writing::delivered_short, crate::proofs::Writing::delivered_whole, crate::proofs::Writing::measured_fits, crate::proofs::Writing::measured_over, crate::proofs::Writing::wrote, crate::proofs::Writing::wrote_bad))]
 pub fn write(mode: Mode, tokens: &[u16], buffer: &mut [u8]) -> Answer
     ensures { out result buffer.new ≡ writing (form_of mode) tokens.now buffer.old }
 {
@@ -34,6 +37,7 @@ pub fn write(mode: Mode, tokens: &[u16], buffer: &mut [u8]) -> Answer
 }
 
 // A capture as tokens, without their header marks.
+#[tactic(auto, using(crate::proofs::Reading::whole_long))]
 pub fn read(mode: Mode, capture: &[u8], buffer: &mut [u16]) -> Answer
     ensures { out result buffer.new ≡ reading (form_of mode) capture.now buffer.old }
 {

@@ -8,7 +8,7 @@ use crate::form::{Mode, says, width};
 use crate::sequence::{Said, count, is_nothing};
 
 // What a capture is.
-#[derive(Drop)]
+#[derive(Clone, Copy)]
 pub enum Judged {
     // every sequence has a meaning and none is cut: so many tokens
     Whole(usize),
@@ -17,6 +17,7 @@ pub enum Judged {
     Cut,
 }
 
+#[tactic(auto, using(crate::proofs::Reading::gathered_few, crate::proofs::Reading::gathered_none, crate::proofs::Reading::inside, crate::proofs::Reading::is_said, crate::proofs::Reading::is_whole, crate::proofs::Reading::judged_bad, crate::proofs::Reading::judged_cut, crate::proofs::Reading::judged_whole, crate::proofs::Reading::one_token, crate::proofs::Reading::wide))]
 pub fn judge(mode: Mode, capture: &[u8]) -> Judged
     ensures { result ≡ judged (form_of mode) capture.now }
 {
@@ -55,6 +56,7 @@ fn lay(said: Said, buffer: &mut [u16], at: usize) -> usize
 }
 
 // The tokens of a capture, for which the buffer has room.
+#[tactic(auto, using(crate::proofs::Lays::filled_long, crate::proofs::Reading::gathered_grows, crate::proofs::Reading::gathered_more, crate::proofs::Reading::gathered_none, crate::proofs::Reading::inside, crate::proofs::Reading::is_said, crate::proofs::Reading::is_whole, crate::proofs::Reading::lay_next, crate::proofs::Reading::wide))]
 pub fn unload(mode: Mode, capture: &[u8], buffer: &mut [u16])
     requires { length (tokens (form_of mode) capture.now) ≤ length buffer.old }
     ensures { buffer.new ≡ filled (tokens (form_of mode) capture.now) buffer.old }

@@ -3,7 +3,7 @@ ghost use Rattle.std.specs.Prelude.{◌≡◌, ◌+◌, ◌≤◌, length};
 ghost use Rattle.std.proofs.Math.Seq.{paste};
 ghost use Rattle.probe.specs.Form.{meaningless, tokens_in};
 
-#[derive(Drop)]
+#[derive(Clone, Copy)]
 pub enum Said {
     // a token's word, without header marks
     Token(u16),
@@ -14,7 +14,7 @@ pub enum Said {
 }
 
 // At most ten transitions, of which the first len count.
-#[derive(Drop)]
+#[derive(Clone, Copy)]
 pub struct Sequence {
     pub symbols: [u8; 10],
     pub len: usize,

@@ -10,6 +10,7 @@ use tokens::word::value;
 pub const WIDTH: usize = 10;
 
 // The eight bits of the value, the most significant first, the bit of a control token, and even parity.
+#[tactic(auto, unfolding(crate::specs::Digits::ones, crate::specs::Serial::serial_one))]
 pub fn one(token: u16) -> Sequence
     ensures { Lies result (serial_one token) }
 {
@@ -31,6 +32,7 @@ pub fn one(token: u16) -> Sequence
 }
 
 // What ten transitions say.
+#[tactic(auto, using(crate::proofs::Serials::few_bits, crate::proofs::Serials::ten, crate::proofs::Serials::even))]
 pub fn says(capture: &[u8], at: usize) -> Said
     requires { at + 10 ≤ length capture.now }
     ensures { result ≡ serial_says (row 10 at capture.now) }

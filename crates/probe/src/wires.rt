@@ -8,6 +8,7 @@ use crate::sequence::Sequence;
 const BITS: [u8; 5] = [1, 2, 4, 8, 16];
 
 // A transition on a wire; there are no others.
+#[tactic(auto, using(crate::proofs::Levels::bit_is, crate::proofs::Levels::bit_small, crate::proofs::Levels::bit_some, crate::proofs::Levels::bit_taken), unfolding(crate::specs::Wires::changed))]
 pub fn changed(wires: u8, wire: u8) -> u8
     requires { wires < 32 }
     ensures { result ≡ changed wires wire }
@@ -24,6 +25,7 @@ pub fn changed(wires: u8, wire: u8) -> u8
 }
 
 // The wires after the transitions of a sequence.
+#[tactic(auto, using(crate::proofs::Levels::after_next, crate::proofs::Levels::after_none, crate::proofs::Levels::changed_small))]
 pub fn after(wires: u8, q: Sequence) -> u8
     requires { (wires < 32) × Room q }
     ensures { result ≡ after wires (take q.len q.symbols) }

@@ -10,6 +10,7 @@ use crate::sequence::Sequence;
 use crate::wires::after;
 
 // The place of the first word that cannot be written; past the last where each can.
+#[tactic(auto, using(laws::proofs::All::none_more, crate::proofs::Writing::unwritable_here, crate::proofs::Writing::unwritable_none))]
 pub fn first_unwritable(mode: Mode, tokens: &[u16]) -> usize
     ensures { result ≡ first_unwritable (form_of mode) tokens.now }
 {
@@ -24,13 +25,14 @@ pub fn first_unwritable(mode: Mode, tokens: &[u16]) -> usize
 }
 
 // How many transitions tokens take.
-#[derive(Drop)]
+#[derive(Clone, Copy)]
 pub enum Measured {
     Fits(usize),
     // more than the most that was asked for
     Over,
 }
 
+#[tactic(auto, using(crate::proofs::Writing::all_measured, crate::proofs::Writing::upto_small))]
 pub fn measure(mode: Mode, tokens: &[u16], most: usize) -> Measured
     ensures { result ≡ measured (length (transitions (form_of mode) tokens.now)) most }
 {
@@ -63,6 +65,7 @@ fn put(q: Sequence, buffer: &mut [u8], at: usize)
 }
 
 // The transitions of tokens, for which the buffer has room.
+#[tactic(auto, using(crate::proofs::Lays::filled_long, crate::proofs::Writing::put_next, crate::proofs::Writing::upto_next, crate::proofs::Writing::upto_none, crate::proofs::Writing::upto_small, crate::proofs::Writing::written_grows, crate::proofs::Writing::written_none, crate::proofs::Writing::longer))]
 pub fn fill(mode: Mode, tokens: &[u16], buffer: &mut [u8])
     requires { length (transitions (form_of mode) tokens.now) ≤ length buffer.old }
     ensures { buffer.new ≡ filled (transitions (form_of mode) tokens.now) buffer.old }

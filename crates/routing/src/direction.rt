@@ -2,7 +2,7 @@
 ghost use Rattle.std.specs.Prelude.{◌≡◌, ◌<◌};
 ghost use Rattle.routing.specs.Direction.{field, with_field, entry_of, with_entry};
 
-#[derive(Drop)]
+#[derive(Clone, Copy)]
 pub struct Directions {
     // entries of bits 0..7
     pub first: u32,
@@ -11,6 +11,7 @@ pub struct Directions {
 }
 
 // Four bits of a register, from bit 4i on.
+#[tactic(auto, unfolding(crate::specs::Direction::field))]
 pub fn field(reg: u32, i: u32) -> u32
     requires { i < 8 }
     ensures { result ≡ field reg i }
@@ -19,6 +20,7 @@ pub fn field(reg: u32, i: u32) -> u32
 }
 
 // The register with these four bits replaced by the low four of d.
+#[tactic(auto, using(crate::proofs::Fields::by_masks, crate::proofs::Fields::unit), unfolding(crate::specs::Direction::with_field))]
 fn with_field(reg: u32, i: u32, d: u32) -> u32
     requires { i < 8 }
     ensures { result ≡ with_field reg i d }
@@ -31,6 +33,7 @@ fn with_field(reg: u32, i: u32, d: u32) -> u32
 
 impl Directions {
     // The direction for a bit 0..15.
+    #[tactic(auto, unfolding(crate::specs::Direction::entry_of))]
     pub fn entry(self, bit: u32) -> u32
         ensures { result ≡ entry_of self bit }
     {
@@ -42,6 +45,7 @@ impl Directions {
     }
 
     // The table with the direction of a bit 0..15 replaced, and the other fifteen as they are.
+    #[tactic(auto, unfolding(crate::specs::Direction::with_entry))]
     pub fn with_entry(self, bit: u32, d: u32) -> Self
         ensures { result ≡ with_entry self bit d }
     {

@@ -5,13 +5,14 @@ ghost use Rattle.routing.specs.Way.{highest, way_to};
 use names::NodeNumber;
 use tokens::header::{Width, compared};
 
-#[derive(Drop)]
+#[derive(Clone, Copy)]
 pub enum Way {
     ThisNode,
     // with the highest bit in which the numbers differ
     OtherNode(u32),
 }
 
+#[tactic(auto, using(crate::proofs::Highest::found, crate::proofs::Highest::none))]
 fn highest_differing(a: NodeNumber, b: NodeNumber) -> Way
     ensures { result ≡ highest 16 a.0 b.0 }
 {
@@ -24,6 +25,7 @@ fn highest_differing(a: NodeNumber, b: NodeNumber) -> Way
 }
 
 // Where a header's number leads at a switch of number own, both compared at the switch's width.
+#[tactic(auto, using(crate::proofs::Highest::at_width))]
 pub fn way_to(number: NodeNumber, own: NodeNumber, w: Width) -> Way
     ensures { result ≡ way_to w number own }
 {

@@ -1,5 +1,7 @@
 // Wire and every Set on a state that is known to be sound (document 01, "Calls"). The public calls,
 // which test the state first, are crate bench's; a switch message makes its Sets here.
+#![tactic(auto)]
+
 pub mod made;
 pub mod refused;
 pub mod wire;
@@ -16,7 +18,7 @@ use answers::Answer;
 use names::Slot;
 
 // What is to be set. Values are as wide as they are asked for: those out of range are refused.
-#[derive(Drop)]
+#[derive(Clone, Copy)]
 pub enum Setting {
     // a node's number
     Number(u32),

@@ -1,5 +1,7 @@
 // One record of a list of steps (document 02, Ask 1): its Step, as the single call makes it, and its result
 // where the host reads it. The function over the list itself is crate host's.
+#![tactic(auto)]
+
 ghost use Rattle.std.specs.Prelude.{◌≡◌, ◌<◌, length};
 ghost use Rattle.answers.specs.Out.{out};
 ghost use Rattle.cells.specs.World.{lent};

@@ -1,6 +1,6 @@
 -- A start with any set of links enabled is sound, tight and quiet, for every number of nodes: Fresh is one, blank another. Assumes nothing.
 use Prim.Native.Nat.{ℕ, ◌*◌, ◌/◌, ◌≤◌, ◌<◌}
-use mathlib.Core.Bool.{Bool, true, not, or_true}
+use mathlib.Core.Bool.{Bool, true, not, or-true}
 use mathlib.Core.List.{[]}
 use mathlib.Core.Path.{◌≡◌, refl, ap, ◌∙◌}
 use native.Mathlib.Omega.{arith}
@@ -61,7 +61,7 @@ module _ (on : ℕ → ℕ → Bool) (n : ℕ) (some : 1 ≤ n) (few : n ≤ nod
 
   -- a port that is free has no network to look at
   zero_port : (i : ℕ) → port_counts i (to_port []) ≡ true
-  zero_port i = rw (or_true (not (tile_port i)))
+  zero_port i = rw (or-true (not (tile_port i)))
 
   -- every record names nobody
   names_nobody : (r : Role) (m i : ℕ) → named_by r (start_net on n) m i ≡ Nothing

@@ -1,4 +1,6 @@
 // Sound, tight and quiet: tests over the whole state and both memories of tokens, for any words at all.
+#![tactic(auto)]
+
 pub mod passes;
 pub mod questions;
 pub mod tests;

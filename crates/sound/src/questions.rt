@@ -14,7 +14,7 @@ use line_clauses::ties::{between, fed_over, hello_last, towards};
 use names::Slot;
 use names::size::{ENDS, LINKS, PORTS, TILE_LINKS};
 
-#[derive(Drop)]
+#[derive(Clone, Copy)]
 pub enum Question {
     // one row of the Sound list, its number and its test (four bytes, which pass as one number: of
     // three the compiler keeps a question in memory, and asks at each place which one it is)

@@ -15,7 +15,7 @@ use line_clauses::reached::holds_over;
 use names::Slot;
 use names::size::{ENDS, LINKS, PORTS, TILE_LINKS};
 
-#[derive(Drop)]
+#[derive(Clone, Copy)]
 pub enum Test {
     // the counts of a node
     Nodes,

@@ -92,7 +92,7 @@ module _ (w : World) (n c t : ℕ) where
   output_agrees g (Chosen.behind p goes room) e f = rw goes
   output_agrees g (Chosen.starts z m d named here unclaimed given) e f =
       rw z.shut (first_here (target_of (w.net.ends.aims n c)) m d (books_of g) named here)
-  output_agrees g (Chosen.goesOn d goes given) e f = rw goes
+  output_agrees g (Chosen.goes_on d goes given) e f = rw goes
 
 -- A MESSAGE AT ITS END, by its answer
 module _ (w : World) (n : ℕ) (k : Ghost) (write : Answer → Books) (unheard : write Answers.Unheard ≡ books_of k) where
@@ -183,7 +183,7 @@ module _ (w : World) (k : Kept w) (g : Ghost) (o : Notes) (aims : AimsNoted w o)
       let s = output_sender w a.0 c x p.1 in
       let plan = p.1.1.1.1.1 in
       rw (aims a.0 c s.end s.aimed)
-      (output_agrees w a.0 c (word_of x) g (Chosen.output-found w k a.0 c (word_of x) s) plan.0 plan.1.0)
+      (output_agrees w a.0 c (word_of x) g (Chosen.output_found w k a.0 c (word_of x) s) plan.0 plan.1.0)
   made_agrees (Input a c x) p e = refl
   made_agrees (Step a p) q e =
       let there = step_there w a.0 p q.1 in

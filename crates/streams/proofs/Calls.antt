@@ -266,7 +266,7 @@ module _ (w : World) (k : Kept w) (n c t : ℕ) (s : Sender w.net n c) where
       does_behind w n c s.end p t e (has_room w k n p 1 s.node (omega (arith, tile.1)) (omega (arith, room)))
   output_leads (Chosen.starts z m d named here unclaimed given) =
       rw z.shut (does_starts w n c s.end d t m target z.shut named here)
-  output_leads (Chosen.goesOn d e given) = rw e (does_goes_on w n c s.end d t e)
+  output_leads (Chosen.goes_on d e given) = rw e (does_goes_on w n c s.end d t e)
 
 -- WIRE
 module _ (w : World) (k : Kept w) (n l m j : ℕ) (a : Loose w n l) (b : Loose w m j) (off : Two.Off n l m j) where
@@ -354,7 +354,7 @@ module _ (w : World) (k : Kept w) where
   made_leads (Aim a c g v) p e = leads_unseen w (aim_made w.net a.0 c g v) (alike refl refl refl refl refl refl)
   made_leads (Output a c x) p e =
       let s = output_sender w a.0 c x p.1 in
-      output_leads w k a.0 c (word_of x) s (Chosen.output-found w k a.0 c (word_of x) s)
+      output_leads w k a.0 c (word_of x) s (Chosen.output_found w k a.0 c (word_of x) s)
   made_leads (Input a c x) p e = leads_unseen w (input_made w.net a.0 c) (alike refl refl refl refl refl refl)
   made_leads (Step a p) q e =
       let there = step_there w a.0 p q.1 in

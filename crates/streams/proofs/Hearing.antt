@@ -346,11 +346,11 @@ module _ (w : World) (k : Kept w) (g : Ghost) (iv : Inv is_link (moving w) g) wh
     step_heard (splits z f) = alone (Refuse Split) (record { aims = refl; buffers = refl; units = refl }) (λ m q hq e. (tt, tt))
     step_heard (unrouted z) = alone (Refuse NoRoute) (record { aims = refl; buffers = refl; units = refl }) (λ m q hq e. (tt, tt))
     step_heard (routes z l hl free on) = alone (OpenOut l) (record { aims = refl; buffers = refl; units = refl }) (λ m q hq e. (tt, tt))
-    step_heard (Found.landsChannel z m c t named door there tile claim) =
+    step_heard (Found.lands_channel z m c t named door there tile claim) =
         alone (OpenChannel c t)
         (indoors_then (indoors_opens w.net n p c t)
         (indoors_stripped (with_net w (opens_channel w.net n p c t)) n p (width_at w.net n))) (λ m q hq e. (tt, tt))
-    step_heard (Found.landsUnit z m named free empty) = lands_heard n p z.legible.headed.node z.legible.headed.port
+    step_heard (Found.lands_unit z m named free empty) = lands_heard n p z.legible.headed.node z.legible.headed.port
     step_heard (Found.moves l z m j leads credit) =
         let x = first_at w n p in
         let y = took w n p in

@@ -299,7 +299,7 @@ module _ (w : World) (n c : ℕ) (x : Token) (o : Notes) where
   output_told hc (Chosen.starts z m d named here unclaimed given) e f =
       rw z.shut (told_straight d _ hc given (tt, (unmarked_word x, tt)) (λ j. append-nil _)
       (λ j. append-nil _ ∙ at_home d j hc))
-  output_told hc (Chosen.goesOn d goes given) e f =
+  output_told hc (Chosen.goes_on d goes given) e f =
       rw goes (told_straight d _ hc given (unmarked_word x, tt) (λ j. append-nil _) (λ j. append-nil _ ∙ at_home d j hc))
 
 -- AIM
@@ -405,7 +405,7 @@ module _ (w : World) (k : Kept w) (o : Notes) where
   made_told (Output a c x) p e =
       let s = output_sender w a.0 c x p.1 in
       let plan = p.1.1.1.1.1 in
-      output_told w a.0 c x o s.end (Chosen.output-found w k a.0 c (word_of x) s) plan.0 plan.1.0
+      output_told w a.0 c x o s.end (Chosen.output_found w k a.0 c (word_of x) s) plan.0 plan.1.0
   made_told (Input a c y) p e =
       let there = (also (below a.0 w.net.nodes) (below c ends)).sure (not-false _ p.1.0) in
       let some = eqb-false (w.net.ends.buffers a.0 c).held 0 p.1.1.0 in

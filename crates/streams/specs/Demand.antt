@@ -112,6 +112,6 @@ pub record Ties (w : World) (k : Books) (o : Notes) : Type 0 where
   pub heard : (n p : ℕ) → n < w.net.nodes → peer_of (w.net.units.serving n 0) ≡ Port p → Hears w k n p
   -- on the way: each port's tokens are its cells, and so are those on each line, between two ports
   pub held : (n p : ℕ) → p < ports → queue w n p ≡ tokens_of (k.cells (port_no n p))
-  pub lines : (n l : ℕ) → l < links → Load.tokensOf (line_from w n l) ≡ tokens_of (k.on (port_no n l))
+  pub lines : (n l : ℕ) → l < links → Load.tokens_of (line_from w n l) ≡ tokens_of (k.on (port_no n l))
   pub intact : (p : ℕ) → Each (Intact k) (k.cells p)
   pub carried : (l : ℕ) → Each (Intact k) (k.on l)

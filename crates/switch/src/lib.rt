@@ -1,5 +1,7 @@
 // Step, on a state that is known to be sound (document 01, "What a Step does"): what the switch reads and
 // plans, then what it does. The public call, which tests the state first, is crate bench's.
+#![tactic(auto)]
+
 pub mod hear;
 pub mod perform;
 

@@ -19,7 +19,7 @@ pub const READC: u8 = 0xC1;
 
 pub const SSCTRL: u8 = 0xC3;
 
-#[derive(Drop)]
+#[derive(Clone, Copy)]
 pub enum Class {
     Application,
     Special,
@@ -55,6 +55,7 @@ fn privileged_no(v: u8, to_unit: bool) -> u8
 }
 
 // The number for no that Output gives for a control token, 0 where it passes.
+#[tactic(auto, unfolding(crate::specs::Control::output_no))]
 pub fn output_no(v: u8, to_unit: bool) -> u8
     ensures { result ≡ output_no v to_unit }
 {

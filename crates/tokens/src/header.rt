@@ -12,21 +12,21 @@ use names::{NodeNumber, size};
 const CHANNELS: u8 = size::CHANNELS as u8;
 
 // The width of a node's headers.
-#[derive(Drop)]
+#[derive(Clone, Copy)]
 pub enum Width {
     One,
     Three,
 }
 
 // A destination: a channel of a number, 0..31 or the sink 255, or a number's control unit.
-#[derive(Drop)]
+#[derive(Clone, Copy)]
 pub enum Target {
     Channel(NodeNumber, u8),
     Unit(NodeNumber),
 }
 
 // A header's words as they go into a port; none where one byte can't carry the target.
-#[derive(Drop)]
+#[derive(Clone, Copy)]
 pub enum Header {
     Narrow,
     One(u16),
@@ -34,6 +34,7 @@ pub enum Header {
 }
 
 // A destination can name the channel.
+#[tactic(auto, unfolding(crate::specs::Shape::legal_channel))]
 pub fn is_channel(c: u32) -> bool
     ensures { result ≡ legal_channel c }
 {
@@ -50,6 +51,7 @@ pub fn compared(n: NodeNumber, w: Width) -> NodeNumber
     }
 }
 
+#[tactic(auto, unfolding(crate::specs::Header::header_of))]
 fn one_byte(n: NodeNumber, c: u8) -> Header
     ensures { result ≡ header_of (Target.Channel n c) Width.One }
 {
@@ -71,6 +73,7 @@ fn three_byte(n: NodeNumber, last: u16) -> Header
     )
 }
 
+#[tactic(auto, unfolding(crate::specs::Header::header_of))]
 pub fn make_header(t: Target, w: Width) -> Header
     ensures { result ≡ header_of t w }
 {
@@ -97,6 +100,7 @@ pub fn is_narrow(h: Header) -> bool
     }
 }
 
+#[tactic(auto, unfolding(crate::specs::Header::read_one))]
 pub fn read_one(a: u16) -> Target
     ensures { result ≡ read_one a }
 {
@@ -104,6 +108,7 @@ pub fn read_one(a: u16) -> Target
     Target::Channel(NodeNumber((v / CHANNELS) as u16), v % CHANNELS)
 }
 
+#[tactic(auto, unfolding(crate::specs::Header::read_three))]
 pub fn read_three(a: u16, b: u16, c: u16) -> Target
     ensures { result ≡ read_three a b c }
 {

@@ -73,6 +73,7 @@ pub fn is_three(word: u16) -> bool
 }
 
 // END and PAUSE close a hop. Data 1 and 2, and header bytes of these values, close nothing.
+#[tactic(auto, using(crate::proofs::Words::closing_word, crate::proofs::Words::open_word))]
 pub fn closes(word: u16) -> bool
     ensures { result ≡ closes word }
 {

@@ -1,11 +1,13 @@
 // What travels on the lines of cables (document 02, Ask 4): things put on a line and taken off it, grants by the count, HELLO, a token
 // sent, a link disabled, and a line's step.
+#![tactic(auto)]
+
 pub mod arrive;
 pub mod grant;
 pub mod line;
 
 // What comes of a line's step: nothing was on it, or one thing came off, with the grant that it brought.
-#[derive(Drop)]
+#[derive(Clone, Copy)]
 pub enum Came {
     Idle,
     Moved(u32),

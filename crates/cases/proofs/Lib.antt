@@ -1,2 +1,0 @@
--- The starred cases hold.
-pub mod Holds

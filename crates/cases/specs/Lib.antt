@@ -1,2 +1,0 @@
--- The starred cases of document 01.
-pub mod Starred
