@@ -25,6 +25,7 @@ pub fn line_ready(st: &[u32], ls: &[u16], slot: Slot, l: usize) -> bool
 }
 
 // How much is on a line; too many credits and HELLOs where it cannot be read.
+#[tactic(auto, using(crate::proofs::Readies::line_fair, crate::proofs::Readies::line_reaches), unfolding(crate::specs::Lines::load_at))]
 pub fn load_on(st: &[u32], ls: &[u16], slot: Slot, l: usize) -> Load
     ensures { result ≡ load_at (lined st.now ls.now) slot.0 l }
 {

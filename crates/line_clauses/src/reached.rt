@@ -29,6 +29,7 @@ fn step_on(s: Stage, word: u16) -> Stage
 }
 
 // The walk over the tokens on a line, from where it begins.
+#[tactic(auto, using(lines::proofs::Loads::rest_all, lines::proofs::Loads::rest_done, lines::proofs::Loads::rest_next, lines::proofs::Loads::rest_of, crate::proofs::Walks::walk_next))]
 fn walk_line(ls: &[u16], c: Counters, slot: Slot, l: usize, s: Stage) -> Stage
     requires { LineFair c × (line_place slot.0 l + line_capacity ≤ length ls.now) }
     ensures { result ≡ walk s (tokens_of (on_line c ls.now (line_place slot.0 l))) }

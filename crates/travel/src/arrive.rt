@@ -28,6 +28,7 @@ fn receive(st: &mut [u32], slot: Slot, k: usize)
 }
 
 // A token comes to a port.
+#[tactic(auto, unfolding(acts::specs::Acts::pushed))]
 fn token_in(st: &mut [u32], mem: &mut [u16], slot: Slot, k: usize, word: u16)
     requires { Room (world st.old mem.old) slot.0 k 1 × (k < links) }
     ensures { world st.new mem.new ≡ token_in (world st.old mem.old) slot.0 k word }
@@ -60,6 +61,7 @@ fn hello_in(st: &mut [u32], a: Slot, l: usize, b: Slot, k: usize)
 }
 
 // What has come off the line from link l of slot a arrives at link k of slot b: the answer is the grant that it brings.
+#[tactic(auto, using(crate::proofs::Lent::considered_lent, crate::proofs::Arrivals::credit_may, crate::proofs::Lent::grants_lent, crate::proofs::Lent::room_lent, crate::proofs::Arrivals::token_arrives, crate::proofs::Arrivals::token_grants, crate::proofs::Arrivals::token_may))]
 fn arrive(
     st: &mut [u32],
     mem: &mut [u16],
@@ -89,6 +91,7 @@ fn arrive(
 }
 
 // One off the far end, of a line that leads to link k of slot b.
+#[tactic(auto, using(crate::proofs::Arrivals::moved, crate::proofs::Lent::taken_lent, crate::proofs::Lent::there_lent))]
 fn step_to(
     st: &mut [u32],
     mem: &mut [u16],
@@ -112,6 +115,7 @@ fn step_to(
 }
 
 // The step of the line that starts at a link.
+#[tactic(auto, unfolding(crate::specs::Travel::line_came, crate::specs::Travel::line_stepped))]
 pub fn line_step(st: &mut [u32], mem: &mut [u16], ls: &mut [u16], slot: Slot, l: usize) -> Came
     requires { LineSteps (lent st.old mem.old ls.old) slot.0 l }
     ensures { (result ≡ line_came (lent st.old mem.old ls.old) slot.0 l)

@@ -40,6 +40,7 @@ fn by_count(st: &[u32], slot: Slot, k: usize) -> u32
 }
 
 // What the receiver at a link grants now. Mostly the count says that there is none, and then nothing else is looked at.
+#[tactic(auto, using(crate::proofs::Due::none_due), unfolding(crate::specs::Travel::grant_due))]
 pub fn grant_due(st: &[u32], ls: &[u16], slot: Slot, k: usize) -> u32
     requires { FarLine (lined st.now ls.now) (far_of ((view st.now).links.cables slot.0 k)) }
     ensures { result ≡ grant_due (lined st.now ls.now) slot.0 k }
@@ -71,6 +72,7 @@ fn issue(st: &mut [u32], ls: &mut [u16], slot: Slot, k: usize, g: u32)
 }
 
 // A grant is considered at a receiver, and made: the answer is the grant.
+#[tactic(auto, using(crate::proofs::Due::due_fits, crate::proofs::Due::due_room), unfolding(crate::specs::Travel::grants_back))]
 pub fn consider(st: &mut [u32], ls: &mut [u16], slot: Slot, k: usize) -> u32
     requires { Grants (lined st.old ls.old) slot.0 k }
     ensures { (result ≡ grant_due (lined st.old ls.old) slot.0 k)

@@ -26,6 +26,7 @@ pub fn load_from(st: &[u32], ls: &[u16], slot: Slot, l: usize) -> Load
 }
 
 // Puts a token, a credit or a HELLO on it.
+#[tactic(auto, unfolding(crate::specs::Travel::put_on))]
 pub fn put(st: &mut [u32], ls: &mut [u16], slot: Slot, l: usize, word: u16)
     requires { LineThere (lined st.old ls.old) slot.0 l × (((view st.old).lines.rings slot.0 l).held < line_capacity) }
     ensures { lined st.new ls.new ≡ put_on (lined st.old ls.old) slot.0 l word }
@@ -36,6 +37,7 @@ pub fn put(st: &mut [u32], ls: &mut [u16], slot: Slot, l: usize, word: u16)
 }
 
 // Takes the first off its far end.
+#[tactic(auto, unfolding(crate::specs::Travel::taken_off))]
 pub fn take(st: &mut [u32], ls: &mut [u16], slot: Slot, l: usize) -> u16
     requires { LineThere (lined st.old ls.old) slot.0 l × (0 < ((view st.old).lines.rings slot.0 l).held) }
     ensures { (result ≡ first_on (lined st.old ls.old) slot.0 l)
@@ -59,6 +61,7 @@ fn lose_credit(st: &mut [u32], slot: Slot, l: usize)
 }
 
 // HELLO on an enabled link: lost where the far end is absent or disabled, and only where it is not does the line need room.
+#[tactic(auto, using(crate::proofs::There::there_net), unfolding(crate::specs::Travel::says_hello))]
 pub fn hello(st: &mut [u32], ls: &mut [u16], slot: Slot, l: usize)
     requires { LineThere (lined st.old ls.old) slot.0 l
         × (far_enabled (view st.old) ((view st.old).links.cables slot.0 l) ≡ true
@@ -130,6 +133,7 @@ fn zero_far(st: &mut [u32], f: Far)
 }
 
 // "Disabling zeroes and un-greets both ends."
+#[tactic(auto, unfolding(crate::specs::Travel::disabled))]
 pub fn disable(st: &mut [u32], slot: Slot, l: usize)
     requires { (slot.0 < (view st.old).nodes) × (l < links) × Cabled (view st.old) slot.0 l }
     ensures { view st.new ≡ disabled (view st.old) slot.0 l }
