@@ -1,7 +1,7 @@
 -- What leaves the accounts of a state in order where no cable carries anything new: a token taken, with its grant, a token put into a port
 -- that no link feeds, a HELLO that is lost, a link disabled, and two ends joined by a cable. Assumes nothing.
 use Prim.Native.Nat.{ℕ, ◌-◌, ◌<◌, ◌≤◌}
-use mathlib.Core.Path.{◌≡◌, refl, sym, ap, ◌∙◌}
+use mathlib.Core.Path.{◌≡◌, refl, sym, subst, ap, ◌∙◌}
 use mathlib.Core.Bool.{true, false}
 use mathlib.Core.Logic.{◌⊎◌, ⊎_elim}
 use native.Mathlib.Omega.{arith}
@@ -148,10 +148,12 @@ module _ (w : World) (back : Backs w.net.nodes w.net.links.cables) (z : InOrder 
             let both = both_ends w back z n l m k hn hl e (apart m k e) in
             let o = apart m k e in
             let empty = none m k e in
+            let away : end_at v m.0 k ≡ end_at w m.0 k = zeroed_away w n l m.0 k o in
             other_cables back z n l m k hn hl e
             (λ a j hj here there. zeroed_away v m.0 k a j there ∙ zeroed_away w n l a j here)
             (clean_cable
             (rw (zeroed_away v m.0 k n l (λ a b. o (sym a) (sym b)), zeroed_here w n l)
             (at_rest (end_at w n l) (ap load_of (line_none w n l empty.0)) (omega (arith, both.back.room))))
-            (rw (zeroed_here v m.0 k, zeroed_away w n l m.0 k o)
-            (at_rest (end_at w m.0 k) (ap load_of (line_none w m.0 k empty.1)) (omega (arith, both.there.room)))))
+            (rw (zeroed_here v m.0 k)
+            (subst (λ (x : End). Clean (issued_to (flow_as x silenced) 0)) (sym away)
+            (at_rest (end_at w m.0 k) (ap load_of (line_none w m.0 k empty.1)) (omega (arith, both.there.room))))))

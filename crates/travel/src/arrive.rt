@@ -61,7 +61,6 @@ fn hello_in(st: &mut [u32], a: Slot, l: usize, b: Slot, k: usize)
 }
 
 // What has come off the line from link l of slot a arrives at link k of slot b: the answer is the grant that it brings.
-#[tactic(auto, using(crate::proofs::Lent::considered_lent, crate::proofs::Arrivals::credit_may, crate::proofs::Lent::grants_lent, crate::proofs::Lent::room_lent, crate::proofs::Arrivals::token_arrives, crate::proofs::Arrivals::token_grants, crate::proofs::Arrivals::token_may))]
 fn arrive(
     st: &mut [u32],
     mem: &mut [u16],
@@ -91,7 +90,6 @@ fn arrive(
 }
 
 // One off the far end, of a line that leads to link k of slot b.
-#[tactic(auto, using(crate::proofs::Arrivals::moved, crate::proofs::Lent::taken_lent, crate::proofs::Lent::there_lent))]
 fn step_to(
     st: &mut [u32],
     mem: &mut [u16],

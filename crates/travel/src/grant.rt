@@ -72,7 +72,7 @@ fn issue(st: &mut [u32], ls: &mut [u16], slot: Slot, k: usize, g: u32)
 }
 
 // A grant is considered at a receiver, and made: the answer is the grant.
-#[tactic(auto, using(crate::proofs::Due::due_fits, crate::proofs::Due::due_room), unfolding(crate::specs::Travel::grants_back))]
+#[tactic(auto, unfolding(crate::specs::Travel::grants_back))]
 pub fn consider(st: &mut [u32], ls: &mut [u16], slot: Slot, k: usize) -> u32
     requires { Grants (lined st.old ls.old) slot.0 k }
     ensures { (result ≡ grant_due (lined st.old ls.old) slot.0 k)
