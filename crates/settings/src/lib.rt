@@ -37,6 +37,7 @@ pub enum Setting {
 }
 
 // Set, whole: refused by its number with nothing changed, or made.
+#[tactic(auto, using(crate::proofs::Passed::set_goes_on, crate::proofs::Passed::set_refuses, crate::proofs::Passed::set_there))]
 pub fn set(st: &mut [u32], ls: &mut [u16], slot: Slot, x: Setting) -> Answer
     requires { Settled (lined st.old ls.old) }
     ensures { out result (lined st.new ls.new) ≡ set_call (lined st.old ls.old) slot.0 x }

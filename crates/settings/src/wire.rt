@@ -67,6 +67,7 @@ fn join(st: &mut [u32], a: Slot, l: usize, b: Slot, k: usize)
 }
 
 // Wire, whole: refused by its number with nothing changed, or made.
+#[tactic(auto, using(crate::proofs::Passed::wire_goes_on, crate::proofs::Passed::wire_refuses, crate::proofs::Passed::wire_there))]
 pub fn wire(st: &mut [u32], a: Slot, l: usize, b: Slot, k: usize) -> Answer
     requires { (view st.old).nodes ≤ nodes }
     ensures { out result (view st.new) ≡ wire (view st.old) a.0 l b.0 k }
