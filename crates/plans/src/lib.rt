@@ -173,6 +173,7 @@ fn by_hop(st: &[u32], mem: &[u16], slot: Slot, p: usize, h: Hop) -> Plan
 }
 
 // What a Step of a port does.
+#[tactic(auto, unfolding(crate::specs::Plan::step_plan))]
 pub fn plan_of(st: &[u32], mem: &[u16], slot: Slot, p: usize) -> Plan
     requires { Reads (world st.now mem.now) slot.0 p 0 }
     ensures { result ≡ step_plan (world st.now mem.now) slot.0 p }

@@ -104,7 +104,7 @@ fn suits(st: &[u32], slot: Slot, d: u32, v: u32, free: bool, l: usize) -> bool
 }
 
 // The lowest candidate, or the lowest free one; 8 where there is none.
-#[tactic(auto, using(laws::proofs::All::first_here, laws::proofs::All::first_none, laws::proofs::All::none_more))]
+#[tactic(auto, using(laws::proofs::All::first_none, laws::proofs::All::none_more))]
 pub fn lowest_link(st: &[u32], slot: Slot, d: u32, v: u32, free: bool) -> usize
     ensures { result ≡ first links
         (pick free (free_candidate (view st.now) slot.0 d v) (candidate (view st.now) slot.0 d v)) }
@@ -125,7 +125,7 @@ fn tile_free(st: &[u32], slot: Slot, t: usize) -> bool
 }
 
 // The lowest free tile link, 4 where none is.
-#[tactic(auto, using(laws::proofs::All::first_here, laws::proofs::All::first_none, laws::proofs::All::none_more))]
+#[tactic(auto, using(laws::proofs::All::first_none, laws::proofs::All::none_more))]
 pub fn lowest_tile(st: &[u32], slot: Slot) -> usize
     ensures { result ≡ lowest_tile (view st.now) slot.0 }
 {
