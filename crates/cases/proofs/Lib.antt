@@ -1,0 +1,2 @@
+-- The starred cases hold.
+pub mod Holds
