@@ -7,8 +7,9 @@ mod outputs;
 
 use crate::opens::opens;
 use crate::outputs::outputs;
+use std::io;
 
-fn main() {
-    outputs();
-    opens();
+fn main(rt: HostRuntime) -> io::Result<()> {
+    outputs(&rt)?;
+    opens(&rt)
 }

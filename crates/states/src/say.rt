@@ -1,39 +1,42 @@
 // What is said of a state: the clauses that it fails.
 use crate::write::LINES;
-use libc::STDOUT_FILENO;
 use sound::{clause_after, unsound_clause};
+use std::io;
 
-fn say(text: &[u8]) {
-    io::write_all(STDOUT_FILENO, text);
+fn say(rt: &impl Print, text: &str) -> io::Result<()> {
+    print!(rt; "{text}")
 }
 
 // Every clause that fails, one after the other.
-fn say_failing(st: &[u32], mem: &[u16], ls: &[u16]) {
+fn say_failing(rt: &impl Print, st: &[u32], mem: &[u16], ls: &[u16]) -> io::Result<()> {
     let mut clause = clause_after(st, mem, ls, 0);
     while !(clause == 0) {
-        say(b" ");
-        io::print_decimal(STDOUT_FILENO, clause as u64);
+        print!(rt; " {clause}")?;
         clause = clause_after(st, mem, ls, clause);
     }
+    Ok(())
 }
 
 // The first clause that fails, as the bench answers it, and all that fail.
-pub fn report_over(label: &[u8], st: &[u32], mem: &[u16], ls: &[u16]) {
-    say(label);
+pub fn report_over(
+    rt: &impl Print,
+    label: &str,
+    st: &[u32],
+    mem: &[u16],
+    ls: &[u16],
+) -> io::Result<()> {
+    say(rt, label)?;
     let first = unsound_clause(st, mem, ls);
     if first == 0 {
-        say(b": sound\n");
-        return;
+        return say(rt, ": sound\n");
     }
-    say(b": clause ");
-    io::print_decimal(STDOUT_FILENO, first as u64);
-    say(b"; tests that fail are of");
-    say_failing(st, mem, ls);
-    say(b"\n");
+    print!(rt; ": clause {first}; tests that fail are of")?;
+    say_failing(rt, st, mem, ls)?;
+    say(rt, "\n")
 }
 
 // The same of a state with no words in the lines' memory.
-pub fn report(label: &[u8], st: &[u32], mem: &[u16]) {
+pub fn report(rt: &impl Print, label: &str, st: &[u32], mem: &[u16]) -> io::Result<()> {
     let ls = [0u16; LINES];
-    report_over(label, st, mem, &ls);
+    report_over(rt, label, st, mem, &ls)
 }
