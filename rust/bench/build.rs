@@ -1,11 +1,10 @@
 //! Has the Rattle toolchain prove crate `host` and all it stands on, and links the static library
-//! that comes of it. Cargo runs this again only where something under `crates/` or the toolchain
-//! has changed, the library is kept for other builds of the same source, and the toolchain proves
-//! again only the crates that have changed.
+//! that comes of it. Cargo runs this again only where a crate or the toolchain has changed, the
+//! library is kept for other builds of the same source, and the toolchain proves again only the
+//! crates that have changed.
 //!
-//! `rt staticlib host` writes its archive for x86-64. For another processor the very module that
-//! was proved and compiled into that archive is compiled once more, by the toolchain's own
-//! compiler: see [`other`].
+//! `rt lib` in the crate's folder writes the library there, as `out/libhost.a`, for x86-64 or for
+//! Arm, as it is asked: the proved functions are lowered once more for each.
 
 use std::path::{Path, PathBuf};
 use std::process::{Command, Output};
@@ -16,21 +15,19 @@ use kept::Kept;
 
 #[path = "build/kept.rs"]
 mod kept;
-#[path = "build/other.rs"]
-mod other;
 
 /// The crate that crosses, and so the library `libhost.a`.
 const CRATE: &str = "host";
 
+/// What a crate's proof and its code are made of, beside what rt keeps in `out`.
+const PARTS: [&str; 3] = ["src", "specs", "proofs"];
+
 fn main() {
     let root = repository();
-    let kit = kit(&root);
-    rerun_where_changed(&root, &kit);
-    let target = variable("TARGET");
-    if !target.contains("linux") {
-        panic!("the proved library is for Linux, and this build is for {target}");
-    }
-    let kept = Kept::new(&root, &kit, &target);
+    let sources = sources(&root, &kit());
+    rerun_where_changed(&sources);
+    let target = target();
+    let kept = Kept::new(&root, &sources, &target);
     let begun = Instant::now();
     if kept.is_current() {
         say(&format!(
@@ -38,7 +35,7 @@ fn main() {
         ));
     } else {
         kept.clear();
-        write_archive(&root, &kit, &target, &kept.archive());
+        static_library(&root, &target, &kept.archive());
         kept.seal();
         let seconds = begun.elapsed().as_secs();
         say(&format!(
@@ -59,17 +56,6 @@ fn say(what: &str) {
     println!("cargo:warning={what}");
 }
 
-/// Has the crate proved, and its archive for that target written.
-fn write_archive(root: &Path, kit: &Path, target: &str, archive: &Path) {
-    if variable("CARGO_CFG_TARGET_ARCH") == "x86_64" {
-        static_library(root, kit);
-        let written = root.join(format!("target/staticlib/lib{CRATE}.a"));
-        fs::copy(written, archive).expect("the archive that rt wrote");
-    } else {
-        other::build(root, kit, target, archive);
-    }
-}
-
 /// The folder with `crates.txt`.
 fn repository() -> PathBuf {
     let here = PathBuf::from(variable("CARGO_MANIFEST_DIR"));
@@ -81,34 +67,61 @@ fn repository() -> PathBuf {
     root
 }
 
-/// Where the toolchain is: the guide that `rt doc` names lies in its folder `docs`.
-fn kit(root: &Path) -> PathBuf {
-    let said = run(Command::new("rt").arg("doc").current_dir(root));
-    let guide = String::from_utf8_lossy(&said.stdout).trim().to_owned();
-    let home = Path::new(&guide).parent().and_then(Path::parent);
-    home.unwrap_or_else(|| panic!("rt doc named no guide: {guide}"))
+/// Where the toolchain is: the page that `rt doc` names lies right in its folder.
+fn kit() -> PathBuf {
+    let said = run(Command::new("rt").arg("doc"));
+    let page = String::from_utf8_lossy(&said.stdout).trim().to_owned();
+    let home = Path::new(&page).parent();
+    home.unwrap_or_else(|| panic!("rt doc named no page: {page}"))
         .to_owned()
 }
 
-/// Proves the crate and has its archive written, by the toolchain in that folder.
-fn static_library(root: &Path, kit: &Path) {
-    let mut rt = Command::new("rt");
-    rt.args(["staticlib", CRATE]);
-    run(rt.env("RATTLE_HOME", kit).current_dir(root));
+/// What the toolchain calls the processor and system of this build.
+fn target() -> String {
+    let (system, processor) = (
+        variable("CARGO_CFG_TARGET_OS"),
+        variable("CARGO_CFG_TARGET_ARCH"),
+    );
+    assert!(
+        system == "linux" && ["x86_64", "aarch64"].contains(&processor.as_str()),
+        "the proved library is for Linux on x86-64 or Arm, and this build is for {}",
+        variable("TARGET")
+    );
+    format!("{processor}-unknown-linux-gnu")
 }
 
-fn rerun_where_changed(root: &Path, kit: &Path) {
-    let watched = [
-        root.join("crates.txt"),
-        root.join("crates"),
+/// Has the crate proved, and the library for that target written.
+fn static_library(root: &Path, target: &str, archive: &Path) {
+    let folder = root.join("crates").join(CRATE);
+    let mut rt = Command::new("rt");
+    rt.args(["lib", "--target", target]);
+    run(rt.current_dir(&folder));
+    let written = folder.join(format!("out/lib{CRATE}.a"));
+    fs::copy(written, archive).expect("the archive that rt wrote");
+}
+
+/// All that the library is made of: files, and folders with all that they hold.
+fn sources(root: &Path, kit: &Path) -> Vec<PathBuf> {
+    let crates = root.join("crates");
+    let entries = fs::read_dir(&crates).unwrap_or_else(|e| panic!("{crates:?}: {e}"));
+    let folders = entries.flatten().map(|entry| entry.path());
+    let parts = folders.flat_map(|folder| PARTS.map(|part| folder.join(part)));
+    let mut all: Vec<PathBuf> = parts.filter(|part| part.is_dir()).collect();
+    all.sort();
+    let here = root.join("rust/bench");
+    all.extend([
         kit.join("KIT-ID"),
-        PathBuf::from("build.rs"),
-        PathBuf::from("build"),
-    ];
-    for path in watched {
+        root.join("crates.txt"),
+        here.join("build.rs"),
+        here.join("build"),
+    ]);
+    all
+}
+
+fn rerun_where_changed(sources: &[PathBuf]) {
+    for path in sources {
         println!("cargo:rerun-if-changed={}", path.display());
     }
-    println!("cargo:rerun-if-env-changed=RATTLE_HOME");
 }
 
 /// Runs a command to its end; where it fails, all that it said is the error.

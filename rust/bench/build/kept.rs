@@ -1,6 +1,5 @@
-//! The library that an earlier build has had proved and written, in `target/` beside what `rt`
-//! keeps there, so that the builds of one source (debug, release, doc) have it proved once. `rt ci`
-//! removes it with all else.
+//! The library that an earlier build has had proved and written, in `target/crossing`, so that the
+//! builds of one source (debug, release, doc) have it proved once. The gate removes it.
 
 use std::collections::hash_map::DefaultHasher;
 use std::fs;
@@ -14,15 +13,10 @@ pub struct Kept {
 }
 
 impl Kept {
-    pub fn new(root: &Path, kit: &Path, target: &str) -> Kept {
+    pub fn new(root: &Path, sources: &[PathBuf], target: &str) -> Kept {
         let mut hasher = DefaultHasher::new();
-        for path in [
-            kit.join("KIT-ID"),
-            root.join("crates.txt"),
-            root.join("crates"),
-            root.join("rust/bench/build"),
-        ] {
-            hash(&path, &mut hasher);
+        for path in sources {
+            hash(path, &mut hasher);
         }
         Kept {
             folder: root.join("target/crossing").join(target),

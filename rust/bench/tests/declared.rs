@@ -106,7 +106,7 @@ fn fields_of(text: &str) -> Vec<(String, String)> {
 }
 
 fn exported(text: &str) -> Functions {
-    functions(text, "#[no_mangle] pub extern \"C\" fn ", "ensures")
+    functions(text, "#[unsafe(no_mangle)] pub extern \"C\" fn ", "ensures")
 }
 
 fn declared(text: &str) -> Functions {
@@ -147,7 +147,7 @@ fn the_types_are_those_that_cross_as_they_are() {
 /// What a list looks like in `crates/host`.
 const EXPORTED_LIST: &str =
     "#[repr(C)] pub struct StepRecord { pub slot: usize, pub port: usize } \
-    #[no_mangle] pub extern \"C\" fn tarvelgyo_steps( st: &mut [u32], mem: &mut [u16], \
+    #[unsafe(no_mangle)] pub extern \"C\" fn tarvelgyo_steps( st: &mut [u32], mem: &mut [u16], \
     ls: &mut [u16], list: &[StepRecord], results: &mut [u64], ) -> u64 ensures { true } { 0 }";
 
 /// And here.

@@ -11,29 +11,29 @@ use std::sync::{Mutex, MutexGuard, PoisonError};
 use std::thread::sleep;
 use std::time::{Duration, Instant};
 
-/// `rt version`, and `rt check` of crates: what rt keeps of each, and what it says. A crate whose
-/// file says `wrong` is not proved; while there is a file `slow` it takes a minute.
+/// `rt version`, and `rt lib` in a crate's folder: what it says of it. A crate whose file says `wrong`
+/// is not proved; while there is a file `slow` it takes a minute.
 const RT: &str = r#"#!/bin/sh
 [ "$1" = version ] && { echo some-kit; exit; }
-echo "rt $*" >>"$NOTES/calls"
-shift
-mkdir -p target/log
-for name; do
-    [ ! -f "$NOTES/slow" ] || { echo "$$" >"$NOTES/running"; sleep 60; }
-    if grep -q wrong "crates/$name/lib.txt"; then
-        echo "rt: $name NOT PROVED (exit 1, 0 s)"
-        exit 1
-    fi
-    echo "rt: $name proved (0 s)" >"target/log/$name.out"
-done
+name=$(basename "$PWD")
+echo "rt $* in $name" >>"$NOTES/calls"
+[ ! -f "$NOTES/slow" ] || { echo "$$" >"$NOTES/running"; sleep 60; }
+mkdir -p out
+echo kept >>out/incremental
+if grep -q wrong lib.txt; then
+    echo "fn $name::some: not proved"
+    echo "logic=not-proved"
+    exit 1
+fi
+echo "logic=proved functions=1"
 "#;
 
 /// `cargo clean` and `cargo build`: the command is the repository's file `rust/main`, as a script.
 const CARGO: &str = r#"#!/bin/sh
 echo "cargo $1" >>"$NOTES/calls"
 [ "$1" = build ] || exit 0
-mkdir -p target/staticlib rust/target/release
-: >target/staticlib/libhost.a
+mkdir -p crates/host/out rust/target/release
+: >crates/host/out/libhost.a
 cp rust/main rust/target/release/bench
 chmod +x rust/target/release/bench
 "#;
@@ -78,7 +78,7 @@ impl Clone {
         clone.executable("tools/cargo", CARGO);
         clone.file(
             "crates.txt",
-            "# some crates\nlow:\nother: low\nhigh: low io\nhost: high\nprogram: low\n",
+            "# some crates\nlow:\nother: low\nhigh: low io\nhost staticlib: high\nprogram: low\n",
         );
         // not .rt: rt takes every file of that name below a repository's root for one to be proved
         for name in ["low", "high", "host", "other", "program"] {
@@ -141,7 +141,12 @@ fn text(bytes: &[u8]) -> String {
     String::from_utf8_lossy(bytes).into_owned()
 }
 
-const ALL: [&str; 3] = ["rt check low high", "cargo clean", "cargo build"];
+const ALL: [&str; 4] = [
+    "rt lib in low",
+    "rt lib in high",
+    "cargo clean",
+    "cargo build",
+];
 
 #[test]
 fn the_first_start_builds_and_runs() {
@@ -153,17 +158,13 @@ fn the_first_start_builds_and_runs() {
     let expected = format!("{}\n<run>\n<a file.txt>\n<*>\n<>\n", here.display());
     assert_eq!(text(&said.stdout), expected);
     assert_eq!(clone.calls(), ALL);
-    // The script looks a few times a second: of crates that are proved between two looks either may be named first.
     let told: Vec<&str> = errors
         .lines()
         .filter_map(|line| line.split_once(" of 3 crates proved: "))
         .filter_map(|(_, behind)| behind.split_once(", at "))
         .map(|(name, _)| name)
         .collect();
-    assert!(
-        told == ["low", "high", "host"] || told == ["high", "low", "host"],
-        "{errors}"
-    );
+    assert_eq!(told, ["low", "high", "host"], "{errors}");
     for number in 1..=3 {
         assert!(
             errors.contains(&format!("bench: {number} of 3 crates proved: ")),
@@ -220,9 +221,9 @@ fn what_is_not_proved_is_not_run() {
         assert_eq!(said.status.code(), Some(125));
         assert_eq!(text(&said.stdout), "");
         let errors = text(&said.stderr);
-        assert!(errors.contains("rt: high NOT PROVED"), "{errors}");
+        assert!(errors.contains("fn high::some: not proved"), "{errors}");
         assert!(errors.contains("bench: the library is not proved"));
-        assert_eq!(clone.calls(), ["rt check low high"]);
+        assert_eq!(clone.calls(), ALL[..2]);
     }
     clone.file("crates/high/lib.txt", "fine\n");
     assert_eq!(clone.start(&[]).status.code(), Some(7));

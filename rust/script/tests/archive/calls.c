@@ -1,4 +1,4 @@
-// Makes calls of the proved library as a C program does, linked with the archive that `rt staticlib` wrote for x86-64. Reads a call a
+// Makes calls of the proved library as a C program does, linked with the archive that `rt lib` wrote for x86-64. Reads a call a
 // line, the name of its function and five numbers, or, of a list of Steps, how many results there are, how many records, and the slot and
 // port of each; writes its answer and then the memories and the results, each with its length in front.
 
