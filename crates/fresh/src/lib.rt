@@ -37,7 +37,6 @@ pub enum Start {
 const FIRST_BOOT_LINK: usize = 4;
 
 // Every word of the state is 0.
-#[tactic(auto, using(crate::proofs::Clearing::Cleared, crate::proofs::Clearing::cleared_all, crate::proofs::Clearing::cleared_more, crate::proofs::Clearing::cleared_none))]
 fn clear_state(st: &mut [u32])
     ensures { st.new ≡ replicate (length st.old) 0 }
 {
@@ -47,7 +46,6 @@ fn clear_state(st: &mut [u32])
 }
 
 // "every token word 0", in ports and on lines
-#[tactic(auto, using(crate::proofs::Clearing::Cleared, crate::proofs::Clearing::cleared_all, crate::proofs::Clearing::cleared_more, crate::proofs::Clearing::cleared_none))]
 fn clear_tokens(mem: &mut [u16])
     ensures { mem.new ≡ replicate (length mem.old) 0 }
 {
@@ -71,7 +69,6 @@ fn settings() -> Node
 }
 
 // Each node of a state of zeros gets its settings.
-#[tactic(auto, using(crate::proofs::Settled::past_last, crate::proofs::Settled::settle_next))]
 fn settle(st: &mut [u32])
     requires { view st.old ≡ start_to 0 none_on (view st.old).nodes }
     ensures { view st.new ≡ start_net none_on (view st.old).nodes }
@@ -105,7 +102,6 @@ fn enabled_link() -> Link
 }
 
 // Links E to H of a node are enabled, where those of all nodes before it are.
-#[tactic(auto, using(crate::proofs::Links::boot_begins, crate::proofs::Links::boot_ends, crate::proofs::Links::boot_next))]
 fn boot_node(st: &mut [u32], slot: Slot)
     requires { (slot.0 < (view st.old).nodes) × (view st.old ≡ start_net (booted_to (slot.0 * links)) (view st.old).nodes) }
     ensures { view st.new ≡ start_net (booted_to ((slot.0 + 1) * links)) (view st.old).nodes }
