@@ -140,6 +140,7 @@ fn order_of(k: Hearing, g: Target, r: Register) -> Message
 }
 
 // What a message says that this word has ended.
+#[tactic(auto, unfolding(crate::specs::Heard::message_of))]
 pub fn message_of(k: Hearing, word: u16) -> Message
     ensures { result ≡ message_of k word }
 {

@@ -34,6 +34,7 @@ fn byte(v: u32, at: u32) -> u16
 }
 
 // Four data bytes, the high one first.
+#[tactic(auto, using(acts::proofs::Pushes::less, acts::proofs::Pushes::room_after))]
 fn push_bytes(st: &mut [u32], mem: &mut [u16], slot: Slot, v: u32)
     requires { Room (world st.old mem.old) slot.0 reply_port 4 }
     ensures { world st.new mem.new
@@ -46,6 +47,7 @@ fn push_bytes(st: &mut [u32], mem: &mut [u16], slot: Slot, v: u32)
 }
 
 // What stands between a reply's header and its END.
+#[tactic(auto, using(acts::proofs::Pushes::room_after))]
 fn say(st: &mut [u32], mem: &mut [u16], slot: Slot, x: Reply)
     requires { Room (world st.old mem.old) slot.0 reply_port 5 }
     ensures { world st.new mem.new
@@ -61,6 +63,7 @@ fn say(st: &mut [u32], mem: &mut [u16], slot: Slot, x: Reply)
     }
 }
 
+#[tactic(auto, using(crate::proofs::Replies::after_header, crate::proofs::Replies::after_said, acts::proofs::Pushes::less))]
 fn put_reply(st: &mut [u32], mem: &mut [u16], slot: Slot, h: Header, x: Reply)
     requires { Room (world st.old mem.old) slot.0 reply_port longest }
     ensures { world st.new mem.new ≡ reply_put (world st.old mem.old) slot.0 h x }
