@@ -15,7 +15,6 @@ use names::Slot;
 use travel::line::send;
 
 // "Outward: .. Moved."
-#[tactic(auto, using(crate::proofs::After::after_took, crate::proofs::After::line_after, crate::proofs::After::moves_gives, crate::proofs::After::node_after))]
 pub fn move_out(st: &mut [u32], mem: &mut [u16], ls: &mut [u16], slot: Slot, p: usize, l: usize)
     requires { (l < links) × Takes (lent st.old mem.old ls.old) slot.0 p 1
         × Passes (lent st.old mem.old ls.old) slot.0 p l }
@@ -28,7 +27,6 @@ pub fn move_out(st: &mut [u32], mem: &mut [u16], ls: &mut [u16], slot: Slot, p: 
 }
 
 // "To a channel: .. Moved."
-#[tactic(auto, using(crate::proofs::After::after_took, acts::proofs::Doors::door, crate::proofs::After::given_after, acts::proofs::Doors::handed_nodes, crate::proofs::After::node_after))]
 pub fn hand(
     st: &mut [u32],
     mem: &mut [u16],
@@ -49,7 +47,6 @@ pub fn hand(
 }
 
 // "Refused circuits: Dropped."
-#[tactic(auto, using(crate::proofs::After::after_took, crate::proofs::After::node_after))]
 pub fn drop_one(st: &mut [u32], mem: &mut [u16], ls: &mut [u16], slot: Slot, p: usize)
     requires { Takes (lent st.old mem.old ls.old) slot.0 p 1 }
     ensures { lent st.new mem.new ls.new

@@ -23,7 +23,6 @@ fn grant_up(st: &mut [u32], ls: &mut [u16], slot: Slot, p: usize)
 }
 
 // Takes the oldest token of a port.
-#[tactic(auto, using(travel::proofs::Lent::holds_lent, crate::proofs::Takes::took_gives, crate::proofs::Takes::up_after))]
 pub fn take(st: &mut [u32], mem: &mut [u16], ls: &mut [u16], slot: Slot, p: usize) -> u16
     requires { Takes (lent st.old mem.old ls.old) slot.0 p 1 }
     ensures { (result ≡ first_at (lent st.old mem.old ls.old) slot.0 p)
@@ -36,7 +35,6 @@ pub fn take(st: &mut [u32], mem: &mut [u16], ls: &mut [u16], slot: Slot, p: usiz
 }
 
 // Removes a header.
-#[tactic(auto, using(crate::proofs::Takes::takes_after, crate::proofs::Takes::takes_less))]
 pub fn strip(st: &mut [u32], mem: &mut [u16], ls: &mut [u16], slot: Slot, p: usize, w: Width)
     requires { Takes (lent st.old mem.old ls.old) slot.0 p (size_of w) }
     ensures { lent st.new mem.new ls.new
