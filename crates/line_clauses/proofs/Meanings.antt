@@ -1,7 +1,7 @@
 -- What each test of lines means, both ways: from the test to the facts, from the facts to the test. Assumes nothing.
 use Prim.Native.Nat.{ℕ, ◌+◌, ◌≤◌}
 use mathlib.Core.Path.{◌≡◌, refl, sym, ap, ◌∙◌}
-use mathlib.Core.Bool.{Bool, true, false}
+use mathlib.Core.Bool.{Bool, false}
 use mathlib.Core.Logic.{◌⊎◌}
 use Rattle.laws.specs.All.{Means}
 use Rattle.laws.proofs.All.{also, either, denied, equal, at_most}

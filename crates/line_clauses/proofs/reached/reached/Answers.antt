@@ -1,5 +1,5 @@
 -- `line_clauses::reached::reached` meets its contract. Assumes nothing.
-use Rattle.std.proofs.Common.{◌∙◌, rules}
+use Rattle.std.proofs.Common.{◌∙◌}
 use borrow.Author.Tests.{lt-ltb, le-ltb}
 use Rattle.line_clauses.specs.Lines.{reached}
 use Rattle.line_clauses.proofs.Lent.{from_lent}

@@ -1,0 +1,40 @@
+-- `sound::ask` meets its contract. Assumes nothing.
+use Rattle.std.proofs.Common.{◌≡◌, ℕ, Bool, true, false, ◌||◌, eqb, leb}
+use borrow.Author.Tests.{eq-eqb, ne_eqb}
+use Rattle.cells.specs.World.{World, lent}
+use Rattle.sound.specs.Clauses.{Clause, clause, ask}
+use Rattle.sound.specs.Tests.{holds}
+use Rattle.sound.specs.Questions.{everywhere}
+use Rattle.sound.specs.declared.questions.Question.TheVariants.{Row}
+use Rattle.sound.proofs.ask.Goals as goal
+
+module _ (k f : ℕ) (c : Clause) (w : World) where
+  found : eqb f 0 ≡ false → f ≡ ask k f c w
+  unfolding ask
+  found e = rw e
+
+  module _ {b : Bool} (none : eqb f 0 ≡ true) (asked : b ≡ everywhere (Row c.number c.test) w) where
+    passed : (leb c.number k || b) ≡ true → 0 ≡ ask k f c w
+    unfolding ask everywhere holds
+    passed e = rw (none, ← asked, e)
+
+    failed : (leb c.number k || b) ≡ false → c.number ≡ ask k f c w
+    unfolding ask everywhere holds
+    failed e = rw (none, ← asked, e)
+
+pub returns-then-not-found : goal.returns-then-not-found
+returns-then-not-found c =
+    let a = c.args in
+    found a.after a.found (clause a.number a.t) (lent a.st.now a.mem.now a.ls.now) (ne_eqb a.found 0 c.if-not-found.true)
+
+pub returns-then-passes : goal.returns-then-passes
+returns-then-passes c =
+    let a = c.args in
+    passed a.after a.found (clause a.number a.t) (lent a.st.now a.mem.now a.ls.now) (eq-eqb a.found 0 c.if-not-found.false)
+    c.everywhere.ensures c.if-passes.true
+
+pub returns : goal.returns
+returns c =
+    let a = c.args in
+    failed a.after a.found (clause a.number a.t) (lent a.st.now a.mem.now a.ls.now) (eq-eqb a.found 0 c.if-not-found.false)
+    c.everywhere.ensures c.if-passes.false
