@@ -47,7 +47,6 @@ use Rattle.bench.specs.Calls.{Call, Begin, Wire, Set, Aim, Output, Input, Step, 
 use Rattle.bench.specs.Writes.{hop_closed}
 use Rattle.kept.specs.Kept.{Kept}
 use Rattle.kept.proofs.Found.{Going, Found, idle, waits, splits, unrouted, routes, step_found}
-use Rattle.kept.proofs.Found as Found
 use Rattle.kept.proofs.Calls.{step_there}
 use Rattle.streams.specs.Model.{keeps, ToUnit, port_no, door_no, unit_door, is_link, Into, hd}
 use Rattle.streams.specs.Events.{Event, Hands, At, Ghost, books_of, after, next, note, notes, OkAll}

@@ -122,8 +122,9 @@ module _ (link : ℕ → Bool) where
   keep_log (Puts e d t) n g iv ok l = l
   keep_log (Starts e k w a ch) n g iv ok l =
       let u = iv.unborn g.now (le_refl _) in
-      let opened = new_info g.info g.fate g.handed g.log l g.now _ u.no_fate in
-      new_fate _ g.fate g.handed g.log opened g.now (Here k) u.no_fate u.no_handed
+      let o : Info = record { sender = e; dest = a; width = w; skip = 0 } in
+      let opened = new_info g.info g.fate g.handed g.log l g.now o u.no_fate in
+      new_fate (alter g.info g.now o) g.fate g.handed g.log opened g.now (Here k) u.no_fate u.no_handed
   keep_log (Tells e ch t) n g iv eb l =
       let lo : Local ch (g.mine e) e g.fate g.info g.now = rw eb at (iv.send e) in
       grow g.info g.fate g.handed g.log l (g.mine e) (end_at (node_of_door e) (ToChannel ch)) (keeps t)

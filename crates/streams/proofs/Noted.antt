@@ -28,7 +28,7 @@ use Rattle.cells.specs.View as Cells
 use Rattle.cells.specs.World.{World, far_of}
 use Rattle.cells.specs.declared.end.Aim as Aims
 use Rattle.cells.specs.declared.end.Buffer.{Buffer}
-use Rattle.acts.specs.Acts.{with_net, width_at, pushed_all, first_at, shut, until_closed, handed}
+use Rattle.acts.specs.Acts.{with_net, width_at, pushed_all, first_at, until_closed, handed}
 use Rattle.acts.specs.Needs.{Given}
 use Rattle.plans.specs.declared.Plan.{Plan}
 use Rattle.plans.specs.declared.Plan.TheVariants.{Idle, Wait, OpenOut, OpenChannel, Refuse, MoveOut, Hand, Hear, Drop}
@@ -53,7 +53,6 @@ use Rattle.bench.specs.Calls.{Call, Begin, Wire, Set, Aim, Output, Input, Step, 
 use Rattle.bench.specs.Writes.{hop_closed}
 use Rattle.kept.specs.Kept.{Kept}
 use Rattle.kept.proofs.Found.{Found, idle, waits, splits, unrouted, routes, lands_channel, lands_unit, step_found}
-use Rattle.kept.proofs.Found as Found
 use Rattle.kept.proofs.Chosen as Chosen
 use Rattle.kept.proofs.Calls.{output_sender, step_there}
 use Rattle.streams.specs.Model.{keeps, ToChannel, port_no, door_no, unit_door, doors_each, end_at, Notes, alter, push}

@@ -1,7 +1,7 @@
 -- WHAT SENDERS PUT OUT: the streams of a door's circuits, in their order, are all that it has put out; the tokens of a header are marked,
 -- and no others. Assumes nothing.
 use Prim.Native.Nat.{ℕ, zero, suc, ◌≤◌, ◌<◌}
-use mathlib.Core.Path.{◌≡◌, refl, sym, ap, ◌∙◌}
+use mathlib.Core.Path.{◌≡◌, refl, sym, ap, subst, ◌∙◌}
 use mathlib.Core.Bool.{Bool, true, false}
 use mathlib.Core.List.{List, [], ◌∷◌, ◌++◌, append-nil, append_assoc}
 use native.Mathlib.Decide.{ℕ_discrete}
@@ -272,8 +272,9 @@ module _ (link : ℕ → Bool) (n : Moving) (g : Ghost) (iv : Inv link n g) (s :
       let own = own_through e p eb in
       sent_more g.info g.stream g.mine g.now s e t d own.owned own.known
   sent_step (Starts e k w a ch) d ok =
-      rw none_yet at (sent_opened g.info g.stream g.mine g.now s (record { sender = e; dest = a; width = w; skip = 0 }) [] d
-      refl)
+      let o : Info = record { sender = e; dest = a; width = w; skip = 0 } in
+      subst (λ (st : Streams). sent_in (alter g.info g.now o) st d (suc g.now) ≡ sent_in g.info g.stream d g.now ++ []) none_yet
+      (sent_opened g.info g.stream g.mine g.now s o [] d refl)
   sent_step (Tells e ch t) d eb =
       let own = own_direct e ch eb in
       sent_more g.info g.stream g.mine g.now s e t d own.owned own.known

@@ -7,7 +7,7 @@ use mathlib.Core.Bool.{true, false}
 use mathlib.Core.List.{List, [], ◌∷◌, ◌++◌}
 use Rattle.laws.specs.All.{Each}
 use Rattle.laws.proofs.Order.{by_test, never}
-use Rattle.names.specs.Size.{ports, ends}
+use Rattle.names.specs.Size.{ends}
 use Rattle.circuits.specs.declared.Peer.TheVariants as Peers
 use Rattle.answers.specs.Rows.{refusal}
 use Rattle.answers.specs.declared.Answer.TheVariants as Answers
