@@ -11,7 +11,6 @@ use Rattle.laws.specs.Row.{tab}
 use Rattle.laws.specs.All.{Means}
 use Rattle.laws.proofs.Order.{by_test, clash}
 use Rattle.laws.proofs.Table.{upd_same}
-use Rattle.names.specs.Size.{links}
 use Rattle.names.specs.No.{passes}
 use Rattle.routing.specs.Direction.{field}
 use Rattle.answers.specs.Answer.{number_of}

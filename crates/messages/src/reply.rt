@@ -34,7 +34,6 @@ fn byte(v: u32, at: u32) -> u16
 }
 
 // Four data bytes, the high one first.
-#[tactic(auto, using(acts::proofs::Pushes::less, acts::proofs::Pushes::room_after))]
 fn push_bytes(st: &mut [u32], mem: &mut [u16], slot: Slot, v: u32)
     requires { Room (world st.old mem.old) slot.0 reply_port 4 }
     ensures { world st.new mem.new
@@ -47,7 +46,6 @@ fn push_bytes(st: &mut [u32], mem: &mut [u16], slot: Slot, v: u32)
 }
 
 // What stands between a reply's header and its END.
-#[tactic(auto, using(acts::proofs::Pushes::room_after))]
 fn say(st: &mut [u32], mem: &mut [u16], slot: Slot, x: Reply)
     requires { Room (world st.old mem.old) slot.0 reply_port 5 }
     ensures { world st.new mem.new

@@ -27,7 +27,6 @@ fn tried(st: &mut [u32], ls: &mut [u16], slot: Slot, x: Setting) -> bool
 }
 
 // A register with one field.
-#[tactic(auto, using(crate::proofs::Writes::one))]
 fn write_one(st: &mut [u32], ls: &mut [u16], slot: Slot, x: Setting) -> bool
     requires { Settled (lined st.old ls.old) }
     ensures { (result ≡ accepted (lined st.old ls.old) slot.0 (x ∷ []))
@@ -37,7 +36,6 @@ fn write_one(st: &mut [u32], ls: &mut [u16], slot: Slot, x: Setting) -> bool
 }
 
 // Eight direction entries, from this bit on: none of these Sets is refused.
-#[tactic(auto, using(crate::proofs::Writes::all_settled, crate::proofs::Writes::entries, crate::proofs::Writes::made_more, crate::proofs::Writes::plus_one))]
 fn write_directions(st: &mut [u32], ls: &mut [u16], slot: Slot, bit: u32, v: u32) -> bool
     requires { (slot.0 < (view st.old).nodes) × (bit ≤ 8) × Settled (lined st.old ls.old) }
     ensures { (result ≡ accepted (lined st.old ls.old) slot.0 (entries_of bit v))
@@ -50,7 +48,6 @@ fn write_directions(st: &mut [u32], ls: &mut [u16], slot: Slot, bit: u32, v: u32
 }
 
 // A link's direction, which stays as it was where its network is refused.
-#[tactic(auto, using(crate::proofs::Writes::passes_by, crate::proofs::Writes::refused_by, crate::proofs::Writes::route_made, crate::proofs::Writes::route_refused, settings::proofs::Settled::still_settled))]
 fn write_route(st: &mut [u32], ls: &mut [u16], slot: Slot, l: usize, v: u32) -> bool
     requires { Settled (lined st.old ls.old) }
     ensures { (result ≡ accepted (lined st.old ls.old) slot.0 (fields_of (Route l) v))
@@ -66,7 +63,6 @@ fn write_route(st: &mut [u32], ls: &mut [u16], slot: Slot, l: usize, v: u32) -> 
 
 // A link enabled or disabled, and HELLO, which is refused on a link that the same write disables, and while a credit or a HELLO is on a line
 // of its cable.
-#[tactic(auto, using(settings::proofs::Settled::both_lines, crate::proofs::Writes::enable_refused, crate::proofs::Writes::hello_made, crate::proofs::Writes::hello_refused, crate::proofs::Writes::hello_waits, crate::proofs::Writes::one_bit, crate::proofs::Writes::passes_by, crate::proofs::Writes::refused_by, settings::proofs::Passed::set_there, crate::proofs::Writes::some_bit, settings::proofs::Settled::still_settled, crate::proofs::Writes::zero_bit))]
 fn write_state(st: &mut [u32], ls: &mut [u16], slot: Slot, l: usize, v: u32) -> bool
     requires { Settled (lined st.old ls.old) }
     ensures { (result ≡ accepted (lined st.old ls.old) slot.0 (fields_of (State l) v))
