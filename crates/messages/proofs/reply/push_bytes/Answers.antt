@@ -14,16 +14,3 @@ pub push-requires-4 : goal.push-requires-4
 push-requires-4 c =
     room_after _ _ _ _ _ 1 c.push-3.ensures
     (room_after _ _ _ _ _ 2 c.push-2.ensures (room_after _ _ _ _ _ 3 c.push.ensures c.requires))
-
-pub returns : goal.returns
-returns c =
-    rw (
-      c.push-4.ensures,
-      c.byte-4.ensures,
-      c.push-3.ensures,
-      c.byte-3.ensures,
-      c.push-2.ensures,
-      c.byte-2.ensures,
-      c.push.ensures,
-      c.byte.ensures,
-    )

@@ -6,18 +6,14 @@ use Rattle.cells.specs.World.{World, lined}
 use Rattle.settings.specs.Set.{set_rows, set_call}
 use Rattle.settings.specs.Needs.{Settled}
 use Rattle.settings.specs.declared.Setting.TheVariants.{Enable}
-use Rattle.settings.proofs.Passed.{set_there}
-use Rattle.settings.proofs.Settled.{both_lines, still_settled}
-use Rattle.messages.proofs.Writes.{zero_bit, some_bit, one_bit, refused_by, passes_by}
+use Rattle.settings.proofs.Settled.{still_settled}
+use Rattle.messages.proofs.Writes.{some_bit, one_bit, refused_by, passes_by}
 use Rattle.messages.proofs.Writes.{hello_refused, enable_refused, hello_waits, hello_made}
 use Rattle.messages.proofs.write.write_state.Goals as goal
 
 -- the number that refuses to enable a link, known that the bit is 1
 of_one_lem : (w : World) (n l : ℕ) {b k : ℕ} → b ≡ 1 → k ≡ refusal (set_rows w n (Enable l b)) → k ≡ refusal (set_rows w n (Enable l 1))
 of_one_lem w n l q e = e ∙ ap (λ (i : ℕ). refusal (set_rows w n (Enable l i))) q
-
-pub returns-then-hello-eq0 : goal.returns-then-hello-eq0
-returns-then-hello-eq0 c = rw (zero_bit (c.args.v / 16777216 % 2) c.if-hello-eq0.true) c.write_one.ensures
 
 pub returns-then-enable-eq0 : goal.returns-then-enable-eq0
 returns-then-enable-eq0 c =
@@ -33,13 +29,6 @@ returns-then-set_no-ne0 c =
     rw (one_bit (a.v / 16777216 % 2) (omega arith) c.if-hello-eq0.false, q)
     (enable_refused w a.slot.0 a.l
     (refused_by w a.slot.0 (Enable a.l 1) _ (of_one_lem w a.slot.0 a.l q c.set_no.ensures) c.if-set_no-ne0.true))
-
-pub cable_signalled-requires : goal.cable_signalled-requires
-cable_signalled-requires c =
-    let a = c.args in
-    let w = lined a.st.now a.ls.now in
-    let z = set_there w a.slot.0 (Enable a.l (a.v / 2147483648 % 2)) (sym c.set_no.ensures ∙ c.if-set_no-ne0.false) in
-    both_lines w c.requires a.slot.0 a.l z.0 z.1
 
 pub returns-then-cable_signalled : goal.returns-then-cable_signalled
 returns-then-cable_signalled c =
