@@ -1,6 +1,6 @@
 -- What each test of the Sound list means, both ways: what a sound state hands to a call, and what a call has to show to leave it sound.
 -- One test is not here: what a port may hold, `tokens_hold` in Spoken.antt. Assumes nothing.
-use Prim.Native.Nat.{ℕ, ◌+◌, ◌<◌, ◌≤◌}
+use Prim.Native.Nat.{ℕ, ◌<◌, ◌≤◌}
 use mathlib.Core.Bool.{Bool, true, false, not}
 use mathlib.Core.List.{List}
 use mathlib.Core.Logic.{◌⊎◌, inl, inr, ⊎_elim}

@@ -87,6 +87,7 @@ fn aimed_at(g: Goal, network: u32) -> Aim
 }
 
 // Aim, whole: refused by its number with nothing changed, or made.
+#[tactic(auto, using(crate::proofs::There::aim_fits, crate::proofs::There::aim_there, answers::proofs::Refusals::goes_on_lem, answers::proofs::Refusals::refuses), unfolding(crate::specs::Aim::aim))]
 pub fn aim(st: &mut [u32], slot: Slot, c: usize, g: Goal, network: u32) -> Answer
     ensures { out result (view st.new) ≡ aim (view st.old) slot.0 c g network }
 {

@@ -62,6 +62,7 @@ fn took_first(k: Buffer) -> Buffer
 }
 
 // Input, whole: refused by its number with nothing changed (the token stays), or the token's value.
+#[tactic(auto, using(answers::proofs::Refusals::goes_on_lem, crate::proofs::There::input_there, answers::proofs::Refusals::refuses, crate::proofs::There::some_held), unfolding(crate::specs::Input::input))]
 pub fn input(st: &mut [u32], slot: Slot, c: usize, wanted: Wanted) -> Answer
     ensures { out result (view st.new) ≡ input (view st.old) slot.0 c wanted }
 {

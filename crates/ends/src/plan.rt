@@ -109,6 +109,7 @@ fn behind_plan(st: &[u32], slot: Slot, p: usize) -> Plan
 }
 
 // What putting this word out does, for a channel-end that is aimed at g.
+#[tactic(auto, unfolding(crate::specs::Plan::output_plan))]
 pub fn plan_of(st: &[u32], slot: Slot, c: usize, g: Target, word: u16) -> Plan
     requires { NumberFits (view st.now) slot.0 }
     ensures { result ≡ output_plan (view st.now) slot.0 c g word }

@@ -1,17 +1,16 @@
 -- How much is on a line, one thing more at its near end; how many things, and how many of them tokens; why 66 is enough. Assumes nothing.
 use Prim.Native.Nat.{ℕ, ◌+◌, ◌*◌, ◌≤◌}
 use mathlib.Core.Path.{◌≡◌, refl, ap, ◌∙◌}
-use mathlib.Core.Bool.{Bool, true, false, ◌&&◌, not}
+use mathlib.Core.Bool.{true, false}
 use mathlib.Core.List.{List, [], ◌∷◌, ◌++◌}
 use native.Mathlib.Omega.{arith}
 use lib.Dec.{eqb}
 use lib.ListN.{length}
-use Rattle.laws.specs.Pick.{pick}
 use Rattle.laws.proofs.Order.{by_test, clash}
 use Rattle.ports.specs.Queue.{capacity}
 use Rattle.lines.specs.Line.{line_capacity}
 use Rattle.lines.specs.Load.{credit_word, is_hello, credit_of, is_token, tokens_of, load_of}
-use Rattle.lines.specs.Load.{before, hello_before, credit_before, token_before, no_load}
+use Rattle.lines.specs.Load.{before, credit_before, no_load}
 use Rattle.lines.specs.declared.load.Load.{Load}
 use Rattle.lines.proofs.Loads.{credit_most}
 

@@ -1,7 +1,7 @@
 -- What each act of a cable keeps of its accounts, and that a line has room for what an act puts on it. Assumes nothing.
 use Prim.Native.Nat.{ℕ, ◌+◌, ◌-◌, ◌*◌, ◌<◌, ◌≤◌}
 use mathlib.Core.Path.{◌≡◌, refl}
-use mathlib.Core.Logic.{◌⊎◌, inl, inr, ⊎_elim}
+use mathlib.Core.Logic.{inl, inr, ⊎_elim}
 use native.Mathlib.Omega.{arith}
 use Rattle.ports.specs.Queue.{capacity}
 use Rattle.lines.specs.Line.{line_capacity}

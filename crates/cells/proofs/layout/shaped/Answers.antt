@@ -1,10 +1,8 @@
 -- `cells::layout::shaped` meets its contract: whole nodes, 1 to 16 of them, and the memory that they ask. Assumes nothing.
 use Rattle.std.proofs.Common.{◌≡◌, ℕ, ◌*◌, ◌-◌, ◌%◌, List, [], ◌∷◌, length, drop, refl, sym, ap, ◌∙◌, arith}
-use borrow.Author.Tests.{eq-eqb, ne_eqb, le-leb, lt-leb}
+use borrow.Author.Tests.{ne_eqb}
 use lib.Dec.{eqb, eqb-suc-zero}
 use lib.ListN.{length-drop}
-use Rattle.laws.proofs.All.{and_false}
-use Rattle.names.specs.Size.{nodes}
 use Rattle.cells.specs.Layout.{stride, nodes_in}
 use Rattle.cells.specs.View.{view}
 use Rattle.cells.specs.World.{shaped, is_empty}

@@ -1,7 +1,6 @@
 -- `clauses::contents::legal_words` meets its contract: it stops at a word that is not legal. Assumes nothing.
-use Rattle.std.proofs.Common.{◌≡◌, ℕ, Bool, List, ap, sym, ◌∙◌, length, arith}
+use Rattle.std.proofs.Common.{ℕ, Bool, List, sym, ◌∙◌, length, arith}
 use lib.ListN.{get_or}
-use Rattle.laws.specs.All.{all}
 use Rattle.laws.proofs.All.{all_miss, all_more}
 use Rattle.clauses.specs.Contents.{legal_word, filled}
 use Rattle.clauses.proofs.contents.legal_words.Goals as goal

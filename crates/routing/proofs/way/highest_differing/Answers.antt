@@ -5,7 +5,7 @@ use Prim.Native.Nat.{suc, ◌^◌}
 use lib.Bits.{bit_xor, xor_lt}
 use lib.Count.{count_leading_zeros, leading_top}
 use Rattle.routing.specs.declared.way.Way.TheVariants.{OtherNode}
-use Rattle.routing.proofs.Highest.{none, found}
+use Rattle.routing.proofs.Highest.{found}
 use Rattle.routing.proofs.way.highest_differing.Goals as goal
 
 -- the top bit of a difference, and how many zeros lead it
