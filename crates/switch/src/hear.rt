@@ -15,7 +15,6 @@ use names::Slot;
 use tokens::word::closes;
 
 // "To the control unit: Moved", or what becomes of a message at its end, the hop being closed first.
-#[tactic(auto, using(crate::proofs::Hears::hears_end, crate::proofs::Hears::hears_more, moves::proofs::After::node_after, crate::proofs::Hears::ready_after))]
 pub fn hear(st: &mut [u32], mem: &mut [u16], ls: &mut [u16], slot: Slot, p: usize) -> Answer
     requires { Takes (lent st.old mem.old ls.old) slot.0 p 1 × Ready (lent st.old mem.old ls.old) slot.0 }
     ensures { out result (lent st.new mem.new ls.new)

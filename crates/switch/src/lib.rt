@@ -28,7 +28,6 @@ fn port_at(st: &[u32], slot: Slot, p: usize) -> bool
 }
 
 // Step, whole: refused by its number with nothing changed, or what its plan does.
-#[tactic(auto, using(crate::proofs::Possibles::holds, travel::proofs::Lent::holds_lent, sound::proofs::Facts::node_facts, crate::proofs::Stepped::not_there, crate::proofs::Stepped::plan_lent, crate::proofs::Possibles::plan_possible, crate::proofs::Stepped::port_there, crate::proofs::Stepped::stepped))]
 pub fn step(st: &mut [u32], mem: &mut [u16], ls: &mut [u16], slot: Slot, p: usize) -> Answer
     requires { sound (lent st.old mem.old ls.old) ≡ true }
     ensures { out result (lent st.new mem.new ls.new)
