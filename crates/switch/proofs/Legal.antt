@@ -26,7 +26,7 @@ use Rattle.ports.specs.Memory.{place, stretch}
 use Rattle.ports.proofs.Ports.{ring_start, ring_next}
 use Rattle.grammar.specs.Stage.{next_stage, is_bad}
 use Rattle.grammar.specs.Walk.{walk}
-use Rattle.grammar.specs.declared.stage.Stage.TheVariants.{Fresh, Body, TwoDue, LastDue}
+use Rattle.grammar.specs.declared.stage.Stage.TheVariants.{Fresh, TwoDue, LastDue}
 use Rattle.grammar.proofs.Walks.{good_from}
 use Rattle.cells.specs.World.{World, hop, queue}
 use Rattle.acts.specs.Acts.{word_at}

@@ -1,10 +1,8 @@
 -- `ends::output::output` meets its contract. Assumes nothing.
-use Rattle.std.proofs.Common.{◌≡◌, ℕ, List, true, sym, ap, ◌∙◌}
-
+use Rattle.std.proofs.Common.{◌≡◌, ℕ, List, sym, ap, ◌∙◌}
 use Rattle.cells.specs.View.{view, whole_end}
 use Rattle.cells.specs.World.{world}
 use Rattle.cells.specs.declared.end.End.{End}
-use Rattle.ends.specs.Ends.{end_at}
 use Rattle.ends.specs.Plan.{destination_of}
 use Rattle.ends.proofs.Possibles.{fits_here, sends_here}
 use Rattle.ends.proofs.Sent.{not_there, unaimed, sends_on_lem, is_unaimed, is_aimed_lem}
