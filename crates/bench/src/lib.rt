@@ -31,6 +31,7 @@ pub struct StepRecord {
 }
 
 // A network of so many nodes as the boot ROM leaves them, links E to H enabled, whatever the memories held.
+#[tactic(auto, unfolding(crate::specs::Calls::apply, fresh::specs::Fresh::begin))]
 pub fn fresh(st: &mut [u32], mem: &mut [u16], ls: &mut [u16], nodes: usize) -> Answer
     ensures { out result (lent st.new mem.new ls.new) ≡ apply (lent st.old mem.old ls.old) (Begin Fresh nodes) }
 {
@@ -38,6 +39,7 @@ pub fn fresh(st: &mut [u32], mem: &mut [u16], ls: &mut [u16], nodes: usize) -> A
 }
 
 // The same with every link disabled.
+#[tactic(auto, unfolding(crate::specs::Calls::apply, fresh::specs::Fresh::begin))]
 pub fn blank(st: &mut [u32], mem: &mut [u16], ls: &mut [u16], nodes: usize) -> Answer
     ensures { out result (lent st.new mem.new ls.new) ≡ apply (lent st.old mem.old ls.old) (Begin Blank nodes) }
 {

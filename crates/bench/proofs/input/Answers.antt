@@ -1,0 +1,24 @@
+-- `bench::input` meets its contract. Assumes nothing.
+use Rattle.std.proofs.Common.{refl, sym, ◌∙◌}
+use Rattle.answers.specs.Out.{out}
+use Rattle.answers.specs.declared.Answer.TheVariants.{Token}
+use Rattle.cells.specs.View.{view}
+use Rattle.cells.specs.World.{lent}
+use Rattle.ends.specs.Input.{input_rows, input_value, input_made, input}
+use Rattle.bench.specs.Calls.{Input}
+use Rattle.bench.proofs.Lifted.{refused_unsound, on_net}
+use Rattle.bench.proofs.input.Goals as goal
+
+pub returns-then-not-is_sound : goal.returns-then-not-is_sound
+returns-then-not-is_sound c =
+    let a = c.args in
+    refused_unsound (lent a.st.now a.mem.now a.ls.now) (Input a.slot a.c a.wanted) (input_rows (view a.st.now) a.slot.0 a.c a.wanted) refl
+    (sym c.is_sound.ensures ∙ c.if-not-is_sound.true)
+
+pub returns : goal.returns
+unfolding input
+returns c =
+    let a = c.args in
+    on_net (lent a.st.now a.mem.now a.ls.now) (Input a.slot a.c a.wanted) (input_rows (view a.st.now) a.slot.0 a.c a.wanted) refl
+    (sym c.is_sound.ensures ∙ c.if-not-is_sound.false)
+    (out (Token (input_value (view a.st.now) a.slot.0 a.c)) (input_made (view a.st.now) a.slot.0 a.c)) refl _ c.input.ensures
