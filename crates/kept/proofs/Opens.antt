@@ -9,7 +9,7 @@ use native.Mathlib.Omega.{arith}
 use lib.ListN.{length, get_or}
 use Rattle.laws.specs.Table.{upd, Off}
 use Rattle.laws.proofs.Table.{upd_all, upd_same, place}
-use Rattle.names.specs.Size.{nodes, links, ports}
+use Rattle.names.specs.Size.{links, ports}
 use Rattle.circuits.specs.Circuit.{peer_of, of_peer, hop_of, of_hop, tile_taken}
 use Rattle.circuits.specs.declared.Cause.{Cause}
 use Rattle.circuits.specs.declared.Cause.TheVariants.{Split, NoRoute}

@@ -14,7 +14,7 @@ use Rattle.laws.specs.Table.{upd, Off}
 use Rattle.laws.proofs.All.{also, at_most, below, equal}
 use Rattle.laws.proofs.Order.{by_test, never}
 use Rattle.laws.proofs.Table.{upd_same, upd_miss, upd_all, place}
-use Rattle.names.specs.Size.{nodes, links, first_tile_port, reply_port, ports, ends, networks, numbers}
+use Rattle.names.specs.Size.{links, first_tile_port, reply_port, ports, ends, networks, numbers}
 use Rattle.circuits.specs.Circuit.{peer_of, of_peer}
 use Rattle.circuits.specs.declared.Circuit.{Circuit}
 use Rattle.circuits.specs.declared.Peer.{Peer}

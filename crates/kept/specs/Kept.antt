@@ -10,7 +10,7 @@ use Rattle.circuits.specs.Circuit.{peer_of, hop_of}
 use Rattle.circuits.specs.declared.Circuit.{Circuit}
 use Rattle.circuits.specs.declared.Peer.{Peer}
 use Rattle.circuits.specs.declared.Peer.TheVariants.{Nobody, Port, End}
-use Rattle.ports.specs.Queue.{capacity, Fair}
+use Rattle.ports.specs.Queue.{Fair}
 use Rattle.ports.specs.declared.Counters.{Counters}
 use Rattle.lines.specs.Line.{LineFair}
 use Rattle.grammar.specs.Stage.{is_bad, crossed}
