@@ -3,7 +3,7 @@ use mathlib.Core.Logic.{◌⊎◌, ⊎_elim}
 use native.Mathlib.Omega.{arith}
 use borrow.Author.Tests.{ne_eqb}
 use Rattle.std.proofs.Common.{◌≡◌, ℕ, ◌<◌}
-use Rattle.sound.specs.Clauses.{lent}
+use Rattle.cells.specs.World.{lent}
 use Rattle.sound.proofs.Sounds.{next_past}
 use Rattle.states.proofs.say.say_failing.Goals as goal
 use Rattle.states.proofs.say.say_failing.Invariants.{left}
