@@ -2,6 +2,4 @@
 pub mod Shows
 pub mod Crosses
 pub mod Told
-pub mod Param
-pub mod Frame
 pub mod Probes

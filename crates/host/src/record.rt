@@ -9,6 +9,7 @@ use cells::layout::{END, LINE, LINK, NODE, PORT, TILE, UNIT};
 use cells::{end, line, link, node, port, tile, unit};
 use names::Slot;
 
+#[tactic(auto, using(crate::proofs::Shows::shows_nothing, crate::proofs::Shows::shows_record))]
 #[unsafe(no_mangle)]
 pub extern "C" fn tarvelgyo_node(st: &[u32], slot: usize, out: &mut [u32]) -> bool
     ensures { shown result out.new ≡ showing (from_node ((view st.now).own slot 0)) out.old }
@@ -20,6 +21,7 @@ pub extern "C" fn tarvelgyo_node(st: &[u32], slot: usize, out: &mut [u32]) -> bo
     true
 }
 
+#[tactic(auto, using(crate::proofs::Shows::shows_nothing, crate::proofs::Shows::shows_record))]
 #[unsafe(no_mangle)]
 pub extern "C" fn tarvelgyo_link(st: &[u32], slot: usize, l: usize, out: &mut [u32]) -> bool
     ensures { shown result out.new ≡ showing (from_link (whole_link (view st.now) slot l)) out.old }
@@ -31,6 +33,7 @@ pub extern "C" fn tarvelgyo_link(st: &[u32], slot: usize, l: usize, out: &mut [u
     true
 }
 
+#[tactic(auto, using(crate::proofs::Shows::shows_nothing, crate::proofs::Shows::shows_record))]
 #[unsafe(no_mangle)]
 pub extern "C" fn tarvelgyo_port(st: &[u32], slot: usize, p: usize, out: &mut [u32]) -> bool
     ensures { shown result out.new ≡ showing (from_port (whole_port (view st.now) slot p)) out.old }
@@ -42,6 +45,7 @@ pub extern "C" fn tarvelgyo_port(st: &[u32], slot: usize, p: usize, out: &mut [u
     true
 }
 
+#[tactic(auto, using(crate::proofs::Shows::shows_nothing, crate::proofs::Shows::shows_record))]
 #[unsafe(no_mangle)]
 pub extern "C" fn tarvelgyo_tile_link(st: &[u32], slot: usize, t: usize, out: &mut [u32]) -> bool
     ensures { shown result out.new ≡ showing (from_tile ((view st.now).tiles slot t)) out.old }
@@ -53,6 +57,7 @@ pub extern "C" fn tarvelgyo_tile_link(st: &[u32], slot: usize, t: usize, out: &m
     true
 }
 
+#[tactic(auto, using(crate::proofs::Shows::shows_nothing, crate::proofs::Shows::shows_record))]
 #[unsafe(no_mangle)]
 pub extern "C" fn tarvelgyo_channel_end(st: &[u32], slot: usize, c: usize, out: &mut [u32]) -> bool
     ensures { shown result out.new ≡ showing (from_end (whole_end (view st.now) slot c)) out.old }
@@ -64,6 +69,7 @@ pub extern "C" fn tarvelgyo_channel_end(st: &[u32], slot: usize, c: usize, out: 
     true
 }
 
+#[tactic(auto, using(crate::proofs::Shows::shows_nothing, crate::proofs::Shows::shows_record))]
 #[unsafe(no_mangle)]
 pub extern "C" fn tarvelgyo_control_unit(st: &[u32], slot: usize, out: &mut [u32]) -> bool
     ensures { shown result out.new ≡ showing (from_unit (whole_unit (view st.now) slot)) out.old }
@@ -76,6 +82,7 @@ pub extern "C" fn tarvelgyo_control_unit(st: &[u32], slot: usize, out: &mut [u32
 }
 
 // The line that starts at a link, and what that link has issued.
+#[tactic(auto, using(crate::proofs::Shows::shows_nothing, crate::proofs::Shows::shows_record))]
 #[unsafe(no_mangle)]
 pub extern "C" fn tarvelgyo_line(st: &[u32], slot: usize, l: usize, out: &mut [u32]) -> bool
     ensures { shown result out.new ≡ showing (from_line (whole_line (view st.now) slot l)) out.old }
