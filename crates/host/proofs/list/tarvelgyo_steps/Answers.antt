@@ -1,12 +1,9 @@
 -- `host::list::tarvelgyo_steps` meets its contract: a turn makes one record's Step, and when none is left the whole list is made. What a
 -- turn has is the `At` of shift's `Fold.antt`. Assumes nothing.
-use Rattle.std.proofs.Common.{◌≡◌, ℕ, List, Bool, length, drop, sym, ◌∙◌, arith}
-use lib.ListN.{get_or}
+use Rattle.std.proofs.Common.{sym, ◌∙◌, arith}
 use Rattle.cells.specs.World.{lent}
-use Rattle.bench.specs.declared.StepRecord.{StepRecord}
-use Rattle.shift.specs.Needs.{Sure}
-use Rattle.shift.specs.Lists.{left, one_step, listed, list_made}
-use Rattle.shift.proofs.Fold.{At, steps_from, none, one_turn, done_all, refused}
+use Rattle.shift.specs.Lists.{left}
+use Rattle.shift.proofs.Fold.{At, one_turn, done_all, refused}
 use Rattle.host.proofs.list.tarvelgyo_steps.Goals as goal
 
 pub returns-then-results-list : goal.returns-then-results-list
