@@ -1,6 +1,5 @@
 // The list of steps (document 02, Ask 1): one thin function over a lent slice of records, each taken apart
-// and given to the covered single step. The prover's own walk does not cover a slice of structs, so that this
-// one function is proved by hand.
+// and given to the single step.
 ghost use Rattle.std.specs.Prelude.{◌≡◌};
 ghost use Rattle.cells.specs.World.{lent};
 ghost use Rattle.shift.specs.Lists.{listed, list_made};
