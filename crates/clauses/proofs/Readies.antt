@@ -40,18 +40,18 @@ module _ (w : World) (n p : ℕ) where
       (λ f. (f.node, (f.port, (f.head, f.held))))
       (also (below _ _) (also (below _ _) (also (below _ _) (at_most _ _))))
 
-  pub is-ready : ready w n p ≡ true → Ready
-  is-ready = readies.sure
+  pub is_ready : ready w n p ≡ true → Ready
+  is_ready = readies.sure
 
   pub made_ready : Ready → ready w n p ≡ true
   made_ready = readies.back
 
   module _ (e : ready w n p ≡ true) where
     pub reaches : place n p + capacity ≤ length w.memory
-    reaches = let z = is-ready e in omega arith
+    reaches = let z = is_ready e in omega arith
 
     pub fair : Fair (w.net.ports.counters n p)
-    fair = let z = is-ready e in record { head_in = z.head; held_in = z.held }
+    fair = let z = is_ready e in record { head_in = z.head; held_in = z.held }
 
     -- what is read off the port's record and its stretch
     pub read_off : {k : Port} {h : Hop} {s : List ℕ} {r : Stages}

@@ -37,7 +37,7 @@ use Rattle.ends.specs.Ends.{end_at}
 use Rattle.ends.specs.Plan.{target_of, free_port, lowest_free, port_plan, straight_plan, local_plan, output_by_way, target_plan}
 use Rattle.ends.specs.Plan.{open_plan, behind_plan, by_peer, output_plan}
 use Rattle.ends.specs.Needs.{AimFits, Fits, OutputPossible, with_lines, SoundBy, Sends}
-use Rattle.ends.proofs.There.{is-there}
+use Rattle.ends.proofs.There.{is_there}
 
 one_not_two : {a : ℕ} → a ≡ 1 → a ≡ 2 → ⊥
 one_not_two e f = omega arith
@@ -138,10 +138,10 @@ module _ (w : World) (n c : ℕ) (s : SoundBy w) (h : end_at w.net n c ≡ true)
   -- so does that of a channel-end of a sound state
   pub fits_here : Fits (w.net.ends.aims n c)
   fits_here ne =
-      let z = is-there w.net n c h in
+      let z = is_there w.net n c h in
       aim_fits (w.net.ends.aims n c) (⊎_elim (λ a. absurd (ne a)) (λ f. f) (end_facts (with_lines w s.lines) s.all n z.0 c z.1).aim)
 
   pub sends_here : (g : Target) → (eqb (w.net.ends.aims n c).kind 0 ≡ false) × (g ≡ target_of (w.net.ends.aims n c)) → Sends w n c g
   sends_here g a =
-      let z = is-there w.net n c h in
+      let z = is_there w.net n c h in
       record { sure = s; node = z.0; end = z.1; aimed = eqb-false _ _ a.0; target = a.1 }

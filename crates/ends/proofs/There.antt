@@ -23,15 +23,15 @@ use Rattle.ends.specs.declared.aim.Goal.{Goal}
 use Rattle.ends.specs.declared.aim.Goal.TheVariants.{Channel, Unit}
 use Rattle.ends.specs.declared.Wanted.{Wanted}
 
-pub is-there : (s : Net) (n c : ℕ) → end_at s n c ≡ true → (n < s.nodes) × (c < ends)
-is-there s n c e = (also (below n s.nodes) (below c ends)).sure e
+pub is_there : (s : Net) (n c : ℕ) → end_at s n c ≡ true → (n < s.nodes) × (c < ends)
+is_there s n c e = (also (below n s.nodes) (below c ends)).sure e
 
 -- no row of a call that passes refuses
 all_passed : (rs : List Row) → refusal rs ≡ passes → Passes rs
 all_passed rs e = (passed rs).sure (eq-eqb (refusal rs) passes e)
 
 pub aim_there : (s : Net) (n c : ℕ) (g : Goal) (v : ℕ) → refusal (aim_rows s n c g v) ≡ passes → (n < s.nodes) × (c < ends)
-aim_there s n c g v e = is-there s n c (not-false _ (all_passed (aim_rows s n c g v) e).0)
+aim_there s n c g v e = is_there s n c (not-false _ (all_passed (aim_rows s n c g v) e).0)
 
 -- its number has sixteen bits
 goal_fits : (g : Goal) → goal_ranged g ≡ true → GoalFits g
@@ -44,7 +44,7 @@ aim_fits s n c g v e =
     goal_fits g ((also (as_is (goal_ranged g)) (as_is (ltb v networks))).sure (not-false _ ranged)).0
 
 pub input_there : (s : Net) (n c : ℕ) (k : Wanted) → refusal (input_rows s n c k) ≡ passes → (n < s.nodes) × (c < ends)
-input_there s n c k e = is-there s n c (not-false _ (all_passed (input_rows s n c k) e).0)
+input_there s n c k e = is_there s n c (not-false _ (all_passed (input_rows s n c k) e).0)
 
 -- a token that Input can take
 pub some_held : (s : Net) (n c : ℕ) (k : Wanted) → refusal (input_rows s n c k) ≡ passes → 0 < (s.ends.buffers n c).held

@@ -17,7 +17,7 @@ use Rattle.cells.specs.declared.link.Far.{Far}
 use Rattle.cells.specs.declared.link.Far.TheVariants.{Nowhere, At}
 use Rattle.clauses.specs.Contents.{ready, back}
 use Rattle.clauses.specs.Sentences.{Holds}
-use Rattle.clauses.proofs.Readies.{Ready, is-ready, made_ready}
+use Rattle.clauses.proofs.Readies.{Ready, is_ready, made_ready}
 use Rattle.clauses.proofs.Spoken.{tokens_hold}
 use Rattle.line_clauses.specs.Lines.{line_ready, coming_from, coming, reached_from, reached, holds_over}
 use Rattle.line_clauses.proofs.Readies.{LineReady, readies}
@@ -81,7 +81,7 @@ module _ (w : World) where
           sure = λ e.
               let r = reached_reads (not-true _ e) in
               record {
-                port = is-ready w n p r.port;
+                port = is_ready w n p r.port;
                 line = λ l k j q. (readies w k.0 j).sure (r.line l k j q);
                 holds = m.sure (rw (reached_walk r) at e);
               };

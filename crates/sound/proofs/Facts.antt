@@ -108,8 +108,8 @@ module _ (w : World) (s : sound w ≡ true) where
     pub reaches : (p : ℕ) → p < ports → place n p + capacity ≤ length w.memory
     reaches p h = let z = lengths in omega arith
 
-    pub is-ready : (p : ℕ) → p < ports → ready w n p ≡ true
-    is-ready p h =
+    pub is_ready : (p : ℕ) → p < ports → ready w n p ≡ true
+    is_ready p h =
         let z = lengths in
         let f = port_facts p h in
         let k = w.net.ports.counters n p in
@@ -191,7 +191,7 @@ module _ (w : World) (s : sound w ≡ true) where
     reached_facts p h =
         let reads : Reads w n p =
         record {
-          port = is-ready n hn p h;
+          port = is_ready n hn p h;
           line = λ l m k e. let j = cable_facts n hn p l m k e in is_line_ready m.0 j.node k j.link;
         } in
         rw (reached_walk w n p reads) at (not-true (is_bad (reached w n p)) (sound_says w s Contents n p hn h))
