@@ -1,7 +1,7 @@
 /*
  * Tarvelgyo, the proved bench of XS1-L switches, links and channel-ends, from C and C++.
  *
- *   cc -I include program.c target/staticlib/libhost.a      (x86-64; docs/USING.md has other processors)
+ *   cc -I include program.c crates/host/out/libhost.a       (`rt lib` in crates/host writes it; docs/USING.md)
  *
  * A network is three memories that you lend to each call: `state`, TARVELGYO_STATE_WORDS words of 32 bits for each node, `memory`,
  * TARVELGYO_MEMORY_WORDS words of 16 bits for each node, what ports hold, and `lines`, TARVELGYO_LINE_MEMORY_WORDS words of 16 bits for

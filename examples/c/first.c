@@ -1,7 +1,7 @@
 /*
  * A first network from C: two boards, one cable, and a message of one data token.
  *
- *   cc -std=c99 -I include examples/c/first.c target/staticlib/libhost.a -o first && ./first
+ *   cc -std=c99 -I include examples/c/first.c crates/host/out/libhost.a -o first && ./first
  */
 
 #include <stdio.h>

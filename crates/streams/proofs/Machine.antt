@@ -85,11 +85,11 @@ module _ (link : ℕ → Bool) (m : Machine link) where
   watch s g [] = g
   watch s g (c ∷ cs) = watch (m.apply s c) (noted s c g) cs
 
-  pub record Good-state (s : m.State) (g : Ghost) : Type 0 where
+  pub record GoodState (s : m.State) (g : Ghost) : Type 0 where
     pub sane : m.Sane s
     pub inv : Inv link (m.view s) g
 
-  pub call_keeps : (c : m.Call) (s : m.State) (g : Ghost) → Good-state s g → Good-state (m.apply s c) (noted s c g)
+  pub call_keeps : (c : m.Call) (s : m.State) (g : Ghost) → GoodState s g → GoodState (m.apply s c) (noted s c g)
   call_keeps c s g k =
       let inv : Inv link (m.view (m.apply s c)) (noted s c g) =
       by_test (m.anew s c)
@@ -99,15 +99,15 @@ module _ (link : ℕ → Bool) (m : Machine link) where
       rw (e, l.view) (keeps_all link (m.events s c) (m.view s) g k.inv l.ok)) in
       record { sane = m.stays_sane s c k.sane; inv = inv }
 
-  pub always : (cs : List m.Call) (s : m.State) (g : Ghost) → Good-state s g → Good-state (run_all m.apply s cs) (watch s g cs)
+  pub always : (cs : List m.Call) (s : m.State) (g : Ghost) → GoodState s g → GoodState (run_all m.apply s cs) (watch s g cs)
   always [] s g k = k
   always (c ∷ cs) s g k = always cs (m.apply s c) (noted s c g) (call_keeps c s g k)
 
-  pub first_good : Good-state m.first new_ghost
+  pub first_good : GoodState m.first new_ghost
   first_good = record { sane = m.first_sane; inv = rw m.first_view (start link) }
 
   -- RUNS
-  pub logs_run : (cs : List m.Call) (s : m.State) (g : Ghost) → Good-state s g → LoggedIn g → LoggedIn (watch s g cs)
+  pub logs_run : (cs : List m.Call) (s : m.State) (g : Ghost) → GoodState s g → LoggedIn g → LoggedIn (watch s g cs)
   logs_run [] s g k l = l
   logs_run (x ∷ cs) s g k l =
       let logged : LoggedIn (noted s x g) =
@@ -116,7 +116,7 @@ module _ (link : ℕ → Bool) (m : Machine link) where
       (λ e. rw e (keep_logs link (m.events s x) (m.view s) g k.inv (m.law s x k.sane e).ok l)) in
       logs_run cs (m.apply s x) (noted s x g) (call_keeps x s g k) logged
 
-  pub fate_stays_run : (cs : List m.Call) (s : m.State) (g : Ghost) → Good-state s g → NoneAnew m.apply m.anew s cs
+  pub fate_stays_run : (cs : List m.Call) (s : m.State) (g : Ghost) → GoodState s g → NoneAnew m.apply m.anew s cs
       → (c : ℕ) (f : Fate) → (f ≡ Flying → ⊥)
       → g.fate c ≡ f
       → (watch s g cs).fate c ≡ f

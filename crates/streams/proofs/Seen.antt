@@ -11,7 +11,7 @@ use Rattle.streams.specs.Model.{Fate, Flying, Books, no_books, Notes, no_notes, 
 use Rattle.streams.specs.Events.{Ghost, books_of, notes, new_ghost}
 use Rattle.streams.specs.Demand.{Demand3}
 use Rattle.streams.specs.Watch.{Seen, unseen, NoneAnew, run_all, sees, seen}
-use Rattle.streams.proofs.Machine.{Machine, noted, watch, Good-state, call_keeps, always, first_good, fate_stays_run, watch_append}
+use Rattle.streams.proofs.Machine.{Machine, noted, watch, GoodState, call_keeps, always, first_good, fate_stays_run, watch_append}
 use Rattle.streams.proofs.Machine.{reached, watched, circuits_true, logs_true}
 use Rattle.streams.proofs.Splits.{Marks, new_marks, marks_call, Reading}
 
@@ -25,10 +25,10 @@ module _ (link : ℕ → Bool) (m : Machine link) where
     pub Tied : m.State → Ghost → Notes → Type 0
     pub tied_first : Tied m.first new_ghost no_notes
     pub tied_anew : (s : m.State) (c : m.Call) → m.anew s c ≡ true → Tied (m.apply s c) new_ghost no_notes
-    pub tied_call : (s : m.State) (g : Ghost) (c : m.Call) (k : Notes) → Good-state link m s g → Tied s g k → m.anew s c ≡ false
+    pub tied_call : (s : m.State) (g : Ghost) (c : m.Call) (k : Notes) → GoodState link m s g → Tied s g k → m.anew s c ≡ false
         → Tied (m.apply s c) (notes (m.events s c) g) (jot c (answer s c) k)
     -- what the proof's observer writes
-    pub agrees : (s : m.State) (g : Ghost) (c : m.Call) (k : Notes) → Good-state link m s g → Tied s g k → m.anew s c ≡ false
+    pub agrees : (s : m.State) (g : Ghost) (c : m.Call) (k : Notes) → GoodState link m s g → Tied s g k → m.anew s c ≡ false
         → write k s c (answer s c) (books_of g) ≡ books_of (notes (m.events s c) g)
 
 no_books_lem : no_books ≡ books_of new_ghost
@@ -51,7 +51,7 @@ module _ (link : ℕ → Bool) (m : Machine link) (o : Observer link m) (r : Rea
     marks : Marks g table
     tied : o.Tied s g notes
 
-  same_call : (c : m.Call) (s : m.State) (g : Ghost) (t : ℕ → Bool) (k : Notes) → Good-state link m s g → Marks g t → o.Tied s g k
+  same_call : (c : m.Call) (s : m.State) (g : Ghost) (t : ℕ → Bool) (k : Notes) → GoodState link m s g → Marks g t → o.Tied s g k
       → Same (sees m.apply m.anew o.answer o.write o.jot r.misreads r.port_in s c (beside g t k)) (m.apply s c)
       (noted link m s c g)
   same_call c s g t k good mk ties =
@@ -66,7 +66,7 @@ module _ (link : ℕ → Bool) (m : Machine link) (o : Observer link m) (r : Rea
         tied = o.tied_call s g c k good ties e;
       }))
 
-  same_run : (cs : List m.Call) (s : m.State) (g : Ghost) (t : ℕ → Bool) (k : Notes) → Good-state link m s g → Marks g t → o.Tied s g k
+  same_run : (cs : List m.Call) (s : m.State) (g : Ghost) (t : ℕ → Bool) (k : Notes) → GoodState link m s g → Marks g t → o.Tied s g k
       → Same (sights s (beside g t k) cs) (run_all m.apply s cs) (watch link m s g cs)
   same_run [] s g t k good mk ties = record { table = t; notes = k; is = refl; marks = mk; tied = ties }
   same_run (c ∷ cs) s g t k good mk ties =
@@ -109,7 +109,7 @@ module _ (link : ℕ → Bool) (m : Machine link) (o : Observer link m) (r : Rea
 
   -- .. and what follows from the ties, whatever follows of the proof's books
   pub so_tied : (P : m.State → Books → Notes → Type 0)
-      → ((s : m.State) (g : Ghost) (k : Notes) → Good-state link m s g → o.Tied s g k → P s (books_of g) k)
+      → ((s : m.State) (g : Ghost) (k : Notes) → GoodState link m s g → o.Tied s g k → P s (books_of g) k)
       → (cs : List m.Call)
       → P (reached link m cs) (sighted cs).books (sighted cs).notes
   so_tied P h cs =

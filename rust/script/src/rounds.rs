@@ -129,7 +129,7 @@ impl Rounds {
         let LinkEnd { slot, link } = self.lines[self.next - self.ports.len()];
         let is_taken = self.bench.looks().line(slot, link).held > 0;
         if is_taken {
-            // Proved: `never-unsound` in bench/proofs/Lasts.antt; the link is there.
+            // Proved: `never_unsound` in bench/proofs/Lasts.antt; the link is there.
             let taken = self.bench.line(slot, link);
             taken.expect("no line step is refused on a network that calls have made");
             self.changed = true;
@@ -154,7 +154,7 @@ impl Rounds {
 /// What came of a Step of a port that is there.
 fn stepped(result: StepResult) -> Stepped {
     let answer = result.answer().expect("a list has been written here");
-    // Proved: `never-unsound` in bench/proofs/Lasts.antt; the port is there, so nothing else refuses.
+    // Proved: `never_unsound` in bench/proofs/Lasts.antt; the port is there, so nothing else refuses.
     answer.expect("no Step is refused on a network that calls have made")
 }
 
