@@ -128,9 +128,7 @@ pub fn copy(to: &mut [u32], from: &[u32])
     requires { length to.old ≡ length from.now }
     ensures { to.new ≡ from.now }
 {
-    for i in 0..to.len() {
-        to[i] = from[i];
-    }
+    to.copy_from_slice(from)
 }
 
 // The lengths are those of 1 to 16 nodes.
