@@ -2,7 +2,7 @@
 // stood there.
 #![tactic(auto)]
 
-ghost use Rattle.std.specs.Prelude.{◌≡◌, true, [], ◌+◌, ◌*◌, ◌<◌, length, replicate};
+ghost use Rattle.std.specs.Prelude.{◌≡◌, true, [], ◌+◌, ◌*◌, ◌<◌};
 ghost use Rattle.names.specs.Size.{links};
 ghost use Rattle.answers.specs.Rows.{refusal};
 ghost use Rattle.answers.specs.Out.{out};
@@ -35,24 +35,6 @@ pub enum Start {
 
 // Link E, the first that the boot ROM enables.
 const FIRST_BOOT_LINK: usize = 4;
-
-// Every word of the state is 0.
-fn clear_state(st: &mut [u32])
-    ensures { st.new ≡ replicate (length st.old) 0 }
-{
-    for i in 0..st.len() {
-        st[i] = 0;
-    }
-}
-
-// "every token word 0", in ports and on lines
-fn clear_tokens(mem: &mut [u16])
-    ensures { mem.new ≡ replicate (length mem.old) 0 }
-{
-    for i in 0..mem.len() {
-        mem[i] = 0;
-    }
-}
 
 // "number 0, width three, directions 0"
 fn settings() -> Node
@@ -126,7 +108,7 @@ fn start_state(st: &mut [u32], which: Start)
     requires { (view st.old).rest ≡ [] }
     ensures { view st.new ≡ start_net (leaves_on which (view st.old).nodes) (view st.old).nodes }
 {
-    clear_state(st);
+    st.fill(0);
     settle(st);
     match which {
         Start::Fresh => boot(st),
@@ -159,7 +141,8 @@ pub fn begin(st: &mut [u32], mem: &mut [u16], ls: &mut [u16], which: Start, node
         return Answer::No(no);
     }
     start_state(st, which);
-    clear_tokens(mem);
-    clear_tokens(ls);
+    // "every token word 0", in ports and on lines
+    mem.fill(0);
+    ls.fill(0);
     Answer::Done
 }

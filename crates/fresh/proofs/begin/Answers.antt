@@ -13,5 +13,4 @@ start_state-requires c =
 
 pub returns : goal.returns
 returns c =
-    start_goes_on _ _ _ c.start_no-no.ensures _ _ _ _ c.if-no-ne0.false c.start_state.ensures c.clear_tokens.ensures
-    c.clear_tokens-2.ensures
+    start_goes_on _ _ _ c.start_no-no.ensures _ _ _ _ c.if-no-ne0.false c.start_state.ensures (c.fill.ensures.after (λ y e. e)) (c.fill-2.ensures.after (λ y e. e))
