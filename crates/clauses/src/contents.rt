@@ -2,14 +2,14 @@
 ghost use Rattle.std.specs.Prelude.{◌≡◌, length};
 ghost use Rattle.cells.specs.View.{view};
 ghost use Rattle.cells.specs.World.{world};
-ghost use Rattle.clauses.specs.Contents.{ready, stages, front, back, contents, legal_word, filled, legal_words, held_tokens};
+ghost use Rattle.clauses.specs.Contents.{ready, stages, front, back, contents, legal_word, legal_words, held_tokens};
 ghost use Rattle.clauses.specs.Contents.{heard_tokens};
 
 use cells::layout::TOKEN_WORDS;
 use cells::{end, port, unit};
 use circuits::hop_of;
 use grammar::port::Stages;
-use grammar::stage::{Stage, is_bad};
+use grammar::stage::Stage;
 use names::Slot;
 use names::size::PORTS;
 use ports::{Counters, stretch};
@@ -66,7 +66,7 @@ pub fn contents(st: &[u32], mem: &[u16], slot: Slot, p: usize) -> bool
         // a port that holds nothing holds nothing wrong
         return ready(st, mem, slot, p);
     }
-    !is_bad(back(st, mem, slot, p))
+    back(st, mem, slot, p) != Stage::Bad
 }
 
 fn legal_word(t: u32, ends: bool) -> bool
@@ -75,30 +75,14 @@ fn legal_word(t: u32, ends: bool) -> bool
     (t < 0x01C2) & (!(t == 0x0102) & (ends | !(t == 0x0101)))
 }
 
-// How many of so many words are held.
-fn filled(size: usize, held: u32) -> usize
-    ensures { result ≡ filled size held }
-{
-    if (held as usize) < size {
-        return held as usize;
-    }
-    size
-}
-
 // Each word that is held is legal, END where it is kept.
-#[tactic(auto, using(laws::proofs::All::all_none, crate::proofs::Meanings::filled_within))]
 fn legal_words(words: &[u32], held: u32, ends: bool) -> bool
     ensures { result ≡ legal_words ends (length words.now) held words.now }
 {
-    let most = filled(words.len(), held);
-    let mut i = 0;
-    while i < most {
-        if !legal_word(words[i], ends) {
-            return false;
-        }
-        i += 1;
-    }
-    true
+    words
+        .iter()
+        .take(held as usize)
+        .all(|t| legal_word(*t, ends))
 }
 
 // "tokens .. are legal": in a channel-end, no PAUSE.

@@ -8,7 +8,7 @@ use crate::contents::{back, front};
 use crate::pairs::{link_user, sending};
 use cells::link;
 use circuits::Peer;
-use grammar::stage::{Stage, crossed, is_same};
+use grammar::stage::{Stage, crossed};
 use names::Slot;
 use names::size::REPLY_PORT;
 
@@ -30,7 +30,7 @@ pub fn unfed(st: &[u32], mem: &[u16], slot: Slot, l: usize) -> bool
     if link::at(st, slot, l).cable.wired == 1 {
         return true;
     }
-    is_same(back(st, mem, slot, l), Stage::Fresh)
+    back(st, mem, slot, l) == Stage::Fresh
 }
 
 // Of what leaves by an unwired link nothing has left yet.
@@ -41,7 +41,7 @@ pub fn unsent(st: &[u32], mem: &[u16], slot: Slot, l: usize) -> bool
         return true;
     }
     let carried = carried_for(st, mem, slot, link_user(st, slot, l));
-    is_same(carried, Stage::Fresh)
+    carried == Stage::Fresh
 }
 
 // A disabled link is used by nobody.
@@ -57,7 +57,7 @@ fn in_body(st: &[u32], mem: &[u16], slot: Slot, x: Peer) -> bool
 {
     match x {
         Peer::Nobody => true,
-        Peer::Port(p) => is_same(back(st, mem, slot, p as usize), Stage::Body),
+        Peer::Port(p) => back(st, mem, slot, p as usize) == Stage::Body,
         Peer::End(_) => true,
     }
 }
@@ -73,5 +73,5 @@ pub fn sends(st: &[u32], mem: &[u16], slot: Slot, e: usize) -> bool
 pub fn replied(st: &[u32], mem: &[u16], slot: Slot) -> bool
     ensures { result ≡ replied (world st.now mem.now) slot.0 0 }
 {
-    is_same(back(st, mem, slot, REPLY_PORT), Stage::Fresh)
+    back(st, mem, slot, REPLY_PORT) == Stage::Fresh
 }

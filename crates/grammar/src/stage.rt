@@ -3,10 +3,10 @@ ghost use Rattle.std.specs.Prelude.{◌≡◌};
 ghost use Rattle.laws.specs.Pick.{pick};
 ghost use Rattle.tokens.specs.Shape.{shape_of};
 ghost use Rattle.tokens.specs.Shape as S;
-ghost use Rattle.grammar.specs.Stage.{of_one, is_byte, is_last, of_three, next_stage, due, is_bad, stage_number, same_stage, crossed};
+ghost use Rattle.grammar.specs.Stage.{of_one, is_byte, is_last, of_three, next_stage, due, crossed};
 ghost use Rattle.grammar.specs.declared.stage.Stage.TheVariants.{Bad, Fresh, Body};
 
-#[derive(Clone, Copy)]
+#[derive(Clone, Copy, PartialEq, Eq)]
 pub enum Stage {
     // a rule was broken
     Bad,
@@ -151,42 +151,6 @@ pub fn due(threes: u32, one: bool) -> Stage
         2 => Stage::TwoDue,
         3 => Stage::ThreeDue,
         _ => Stage::Bad,
-    }
-}
-
-pub fn is_bad(s: Stage) -> bool
-    ensures { result ≡ is_bad s }
-{
-    match s {
-        Stage::Bad => true,
-        Stage::Fresh => false,
-        Stage::Body => false,
-        Stage::OneDue => false,
-        Stage::ThreeDue => false,
-        Stage::TwoDue => false,
-        Stage::LastDue => false,
-    }
-}
-
-// The two stages are one.
-pub fn is_same(a: Stage, b: Stage) -> bool
-    ensures { result ≡ same_stage a b }
-{
-    number(a) == number(b)
-}
-
-// Each stage by a number of its own.
-fn number(s: Stage) -> u8
-    ensures { result ≡ stage_number s }
-{
-    match s {
-        Stage::Bad => 0,
-        Stage::Fresh => 1,
-        Stage::Body => 2,
-        Stage::OneDue => 3,
-        Stage::ThreeDue => 4,
-        Stage::TwoDue => 5,
-        Stage::LastDue => 6,
     }
 }
 

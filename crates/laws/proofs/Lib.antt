@@ -3,3 +3,4 @@ pub mod Order
 pub mod All
 pub mod Table
 pub mod Row
+pub mod Chains

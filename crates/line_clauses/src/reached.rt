@@ -11,7 +11,7 @@ use crate::loads::line_ready;
 use cells::line;
 use cells::link::{Far, far_at};
 use clauses::contents::back;
-use grammar::stage::{Stage, is_bad, next};
+use grammar::stage::{Stage, next};
 use lines::load::is_token;
 use lines::{CAPACITY, word_on};
 use names::Slot;
@@ -34,11 +34,9 @@ fn walk_line(ls: &[u16], c: Counters, slot: Slot, l: usize, s: Stage) -> Stage
     requires { LineFair c × (line_place slot.0 l + line_capacity ≤ length ls.now) }
     ensures { result ≡ walk s (tokens_of (on_line c ls.now (line_place slot.0 l))) }
 {
-    let mut i = 0;
     let mut at = s;
-    while i < c.held {
+    for i in 0..c.held {
         at = step_on(at, word_on(c, ls, slot, l, i));
-        i += 1;
     }
     at
 }
@@ -100,5 +98,5 @@ pub fn nothing_comes(st: &[u32], lined: usize, slot: Slot, p: usize) -> bool
 pub fn holds_over(st: &[u32], mem: &[u16], ls: &[u16], slot: Slot, p: usize) -> bool
     ensures { result ≡ holds_over (lent st.now mem.now ls.now) slot.0 p }
 {
-    !is_bad(reached(st, mem, ls, slot, p))
+    reached(st, mem, ls, slot, p) != Stage::Bad
 }

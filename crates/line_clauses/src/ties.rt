@@ -11,14 +11,13 @@ use cells::{line, link};
 use clauses::cables::far_enabled;
 use clauses::pairs::link_user;
 use clauses::ties::carried_for;
-use grammar::stage::is_same;
 use names::Slot;
 
 fn fed_over_to(st: &[u32], mem: &[u16], ls: &[u16], slot: Slot, l: usize, m: Slot, k: usize) -> bool
     ensures { result ≡ fed_over_to (lent st.now mem.now ls.now) slot.0 l m.0 k }
 {
     let carried = carried_for(st, mem, slot, link_user(st, slot, l));
-    is_same(reached(st, mem, ls, m, k), carried)
+    reached(st, mem, ls, m, k) == carried
 }
 
 // Over a cable the far port, with its line, ends where the circuit that is sent to it has come to.
