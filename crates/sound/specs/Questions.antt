@@ -1,16 +1,35 @@
 -- What is asked at every place of every node: one row of the Sound list, all that the list asks there, a tie, or that it is quiet.
-use Rattle.std.specs.Prelude.{ℕ, Bool, ◌&&◌, eqb}
+use Rattle.std.specs.Prelude.{ℕ, Bool, ◌&&◌, ◌≡◌, eqb}
 use Rattle.laws.specs.All.{every}
 use Rattle.names.specs.Size.{links, ports, tile_links, ends}
+use Rattle.names.specs.declared.Slot.{Slot}
 use Rattle.cells.specs.View.{Net}
 use Rattle.cells.specs.World.{World}
 use Rattle.clauses.specs.Ties.{unfed, unsent, idle, sends, replied}
 use Rattle.line_clauses.specs.Lines.{fed_over, between, towards, hello_last}
 use Rattle.sound.specs.Tests.{holds_at, places}
 use Rattle.sound.specs.Clauses.{sound_clauses, asked}
-use Rattle.sound.specs.declared.questions.Question.{Question}
-use Rattle.sound.specs.declared.questions.Question.TheVariants.{Row, OfNode, OfLink, OfPort, OfTile, OfEnd}
-use Rattle.sound.specs.declared.questions.Question.TheVariants.{Tied, Sends, Replied, QuietPort, QuietEnd, QuietLine}
+use Rattle.sound.specs.declared.tests.Test.{Test}
+
+pub data Question : Type 0 where
+  -- one row of the Sound list, its number and its test
+  Row : ℕ → Test → Question
+  -- all that the Sound list asks of a node, link, port, tile link and channel-end
+  OfNode : Question
+  OfLink : Question
+  OfPort : Question
+  OfTile : Question
+  OfEnd : Question
+  -- the ties: those of a link, of a channel-end, of port 12
+  Tied : Question
+  Sends : Question
+  Replied : Question
+  -- no token and no circuit in a port
+  QuietPort : Question
+  -- no token, no claim and no open circuit at a channel-end
+  QuietEnd : Question
+  -- nothing on a line
+  QuietLine : Question
 
 -- all that the ties ask of a link
 abbrev pub tied : World → ℕ → ℕ → Bool
@@ -61,3 +80,7 @@ places_of QuietLine = links
 
 unfoldable pub everywhere : Question → World → Bool
 everywhere q w = every w.net.nodes (places_of q) (answer_at q w)
+
+-- what a call may answer at a place is what f says there
+abbrev pub Answers : (Slot → ℕ → Bool → Type 0) → (ℕ → ℕ → Bool) → Type 0
+Answers call f = (slot : Slot) (i : ℕ) (r : Bool) → call slot i r → r ≡ f slot.0 i

@@ -10,10 +10,13 @@ ghost use Rattle.cells.specs.World.{lent};
 ghost use Rattle.sound.specs.Clauses.{clause, counts, cables, tokens, outputs, claims, openings, travels, sound_clauses, ask, ask_all};
 ghost use Rattle.sound.specs.Sound.{unsound_clause, sound, tight, quiet};
 
-use crate::questions::{Question, everywhere};
-use crate::tests::Test;
+use crate::passes::{of_end, of_link, of_node, of_port, of_tile};
+use crate::questions::{everywhere, quiet_end, quiet_line, quiet_port, tied};
+use crate::tests::{Test, holds_at, places};
 use cells::layout::shaped;
 use clauses::pairs::Role;
+use clauses::ties::{replied, sends};
+use names::size::{ENDS, LINKS, PORTS, TILE_LINKS};
 
 // A row of the list: what was found before it, else its number, where that is past `after` and its test
 // fails.
@@ -23,7 +26,8 @@ fn ask(st: &[u32], mem: &[u16], ls: &[u16], after: u32, found: u32, number: u8, 
     if !(found == 0) {
         return found;
     }
-    let passes = (number as u32 <= after) | everywhere(st, mem, ls, Question::Row(number, t));
+    let passes = (number as u32 <= after)
+        | everywhere(st, places(t), |slot, i| holds_at(st, mem, ls, t, slot, i));
     if passes {
         return 0;
     }
@@ -134,26 +138,28 @@ pub fn is_sound(st: &[u32], mem: &[u16], ls: &[u16]) -> bool
     if !shaped(st, mem, ls) {
         return false;
     }
-    let ports = everywhere(st, mem, ls, Question::OfPort);
-    let inside = ports
-        & (everywhere(st, mem, ls, Question::OfTile) & everywhere(st, mem, ls, Question::OfEnd));
-    everywhere(st, mem, ls, Question::OfNode) & (everywhere(st, mem, ls, Question::OfLink) & inside)
+    let ports = everywhere(st, PORTS, |slot, p| of_port(st, mem, ls, slot, p));
+    let tiles = everywhere(st, TILE_LINKS, |slot, t| of_tile(st, mem, ls, slot, t));
+    let ends = everywhere(st, ENDS, |slot, c| of_end(st, mem, ls, slot, c));
+    let nodes = everywhere(st, 1, |slot, i| of_node(st, mem, ls, slot, i));
+    let links = everywhere(st, LINKS, |slot, l| of_link(st, mem, ls, slot, l));
+    nodes & (links & (ports & (tiles & ends)))
 }
 
 // The ties hold.
 pub fn is_tight(st: &[u32], mem: &[u16], ls: &[u16]) -> bool
     ensures { result ≡ tight (lent st.now mem.now ls.now) }
 {
-    let sent = everywhere(st, mem, ls, Question::Sends)
-        & everywhere(st, mem, ls, Question::Replied);
-    everywhere(st, mem, ls, Question::Tied) & sent
+    let sent = everywhere(st, ENDS, |slot, c| sends(st, mem, slot, c));
+    let answered = everywhere(st, 1, |slot, _| replied(st, mem, slot));
+    everywhere(st, LINKS, |slot, l| tied(st, mem, ls, slot, l)) & (sent & answered)
 }
 
 // No token, no claim and no open circuit anywhere, and nothing on a line.
 pub fn is_quiet(st: &[u32], mem: &[u16], ls: &[u16]) -> bool
     ensures { result ≡ quiet (lent st.now mem.now ls.now) }
 {
-    let inside = everywhere(st, mem, ls, Question::QuietEnd)
-        & everywhere(st, mem, ls, Question::QuietLine);
-    everywhere(st, mem, ls, Question::QuietPort) & inside
+    let ends = everywhere(st, ENDS, |slot, c| quiet_end(st, slot, c));
+    let lines = everywhere(st, LINKS, |slot, l| quiet_line(st, slot, l));
+    everywhere(st, PORTS, |slot, p| quiet_port(st, slot, p)) & (ends & lines)
 }

@@ -15,6 +15,7 @@ use line_clauses::reached::holds_over;
 use names::Slot;
 use names::size::{ENDS, LINKS, PORTS, TILE_LINKS};
 
+// An enum, and no closures: the published list, `sound_clauses`, has a test in each row.
 #[derive(Clone, Copy)]
 pub enum Test {
     // the counts of a node

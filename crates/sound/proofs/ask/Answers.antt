@@ -1,11 +1,9 @@
 -- `sound::ask` meets its contract. Assumes nothing.
-use Rattle.std.proofs.Common.{◌≡◌, ℕ, Bool, true, false, ◌||◌, eqb, leb}
+use Rattle.std.proofs.Common.{◌≡◌, ℕ, Bool, true, false, ◌||◌, eqb, leb, rules}
 use borrow.Author.Tests.{eq-eqb, ne_eqb}
 use Rattle.cells.specs.World.{World, lent}
 use Rattle.sound.specs.Clauses.{Clause, clause, ask}
-use Rattle.sound.specs.Tests.{holds}
-use Rattle.sound.specs.Questions.{everywhere}
-use Rattle.sound.specs.declared.questions.Question.TheVariants.{Row}
+use Rattle.sound.specs.Tests.{holds_at, holds}
 use Rattle.sound.proofs.ask.Goals as goal
 
 module _ (k f : ℕ) (c : Clause) (w : World) where
@@ -13,13 +11,13 @@ module _ (k f : ℕ) (c : Clause) (w : World) where
   unfolding ask
   found e = rw e
 
-  module _ {b : Bool} (none : eqb f 0 ≡ true) (asked : b ≡ everywhere (Row c.number c.test) w) where
+  module _ {b : Bool} (none : eqb f 0 ≡ true) (asked : b ≡ holds c.test w) where
     passed : (leb c.number k || b) ≡ true → 0 ≡ ask k f c w
-    unfolding ask everywhere holds
+    unfolding ask
     passed e = rw (none, ← asked, e)
 
     failed : (leb c.number k || b) ≡ false → c.number ≡ ask k f c w
-    unfolding ask everywhere holds
+    unfolding ask
     failed e = rw (none, ← asked, e)
 
 pub returns-then-not-found : goal.returns-then-not-found
@@ -28,13 +26,17 @@ returns-then-not-found c =
     found a.after a.found (clause a.number a.t) (lent a.st.now a.mem.now a.ls.now) (ne_eqb a.found 0 c.if-not-found.true)
 
 pub returns-then-passes : goal.returns-then-passes
+unfolding holds
 returns-then-passes c =
     let a = c.args in
+    let asked = c.everywhere.ensures (holds_at a.t (lent a.st.now a.mem.now a.ls.now)) (λ slot i r e. search rules) in
     passed a.after a.found (clause a.number a.t) (lent a.st.now a.mem.now a.ls.now) (eq-eqb a.found 0 c.if-not-found.false)
-    c.everywhere.ensures c.if-passes.true
+    (rw c.places.ensures at asked) c.if-passes.true
 
 pub returns : goal.returns
+unfolding holds
 returns c =
     let a = c.args in
+    let asked = c.everywhere.ensures (holds_at a.t (lent a.st.now a.mem.now a.ls.now)) (λ slot i r e. search rules) in
     failed a.after a.found (clause a.number a.t) (lent a.st.now a.mem.now a.ls.now) (eq-eqb a.found 0 c.if-not-found.false)
-    c.everywhere.ensures c.if-passes.false
+    (rw c.places.ensures at asked) c.if-passes.false

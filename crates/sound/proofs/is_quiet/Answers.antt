@@ -1,7 +1,14 @@
 -- `sound::is_quiet` meets its contract. Assumes nothing.
+use Rattle.std.proofs.Common.{rules}
+use Rattle.cells.specs.World.{lent}
+use Rattle.sound.specs.Questions.{QuietPort, QuietEnd, QuietLine, answer_at, everywhere}
 use Rattle.sound.specs.Sound.{quiet}
 use Rattle.sound.proofs.is_quiet.Goals as goal
 
 pub returns : goal.returns
-unfolding quiet
-returns c = rw (c.everywhere-3.ensures, c.everywhere.ensures, c.everywhere-2.ensures)
+unfolding quiet everywhere
+returns c =
+    let w = lent c.args.st.now c.args.mem.now c.args.ls.now in
+    rw (c.everywhere.ensures (answer_at QuietPort w) (λ slot i r e. search rules))
+    (rw (c.everywhere-ends.ensures (answer_at QuietEnd w) (λ slot i r e. search rules))
+    (rw (c.everywhere-lines.ensures (answer_at QuietLine w) (λ slot i r e. search rules))))

@@ -1,9 +1,9 @@
 -- `sound::is_sound` meets its contract: one pass over each table. Assumes nothing.
-use Rattle.std.proofs.Common.{◌≡◌, Bool, true, false}
+use Rattle.std.proofs.Common.{◌≡◌, Bool, true, false, rules}
 use mathlib.Core.Bool.{and-true}
+use Rattle.names.specs.Size.{links, ports, tile_links, ends}
 use Rattle.cells.specs.World.{World, lent, shaped}
-use Rattle.sound.specs.Clauses.{sound_clauses}
-use Rattle.sound.specs.Questions.{everywhere}
+use Rattle.sound.specs.Clauses.{sound_clauses, asked}
 use Rattle.sound.specs.Sound.{sound}
 use Rattle.sound.proofs.OnePass.{tables, passes, sound_passes}
 use Rattle.sound.proofs.is_sound.Goals as goal
@@ -21,9 +21,12 @@ returns-then-not-shaped c =
     wrong_length (lent a.st.now a.mem.now a.ls.now) c.shaped.ensures c.if-not-shaped.true
 
 pub returns : goal.returns
-unfolding everywhere
 returns c =
     let a = c.args in
-    answer (lent a.st.now a.mem.now a.ls.now) c.shaped.ensures c.if-not-shaped.false
-    (rw (c.everywhere-ports.ensures, c.everywhere.ensures, c.everywhere-2.ensures)
-    (rw (c.everywhere-3.ensures, c.everywhere-4.ensures, and-true)))
+    let w = lent a.st.now a.mem.now a.ls.now in
+    answer w c.shaped.ensures c.if-not-shaped.false
+    (rw (c.everywhere-nodes.ensures (asked sound_clauses 1 w) (λ slot i r e. search rules))
+    (rw (c.everywhere-links.ensures (asked sound_clauses links w) (λ slot i r e. search rules))
+    (rw (c.everywhere-ports.ensures (asked sound_clauses ports w) (λ slot i r e. search rules))
+    (rw (c.everywhere-tiles.ensures (asked sound_clauses tile_links w) (λ slot i r e. search rules))
+    (rw (c.everywhere-ends.ensures (asked sound_clauses ends w) (λ slot i r e. search rules), and-true))))))
