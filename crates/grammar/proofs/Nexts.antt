@@ -86,6 +86,13 @@ pub past_byte : (P : Shape → Type 0) (w : ℕ) → 0x700 ≤ w → P S.Wrong �
 unfolding shape_of three_shape legal_channel closes
 past_byte P w h a b = elim (ℕ_discrete w 0x7C3) [ yes e ↦ rw e b | no e ↦ rw (nothing w h e) a ]
 
+-- all that is past a header of one byte
+pub past_one : (P : Shape → Type 0) (w : ℕ) → 0x300 ≤ w → P S.Wrong → P S.Channel → P S.ThreeByte → P S.Unit → P (shape_of w)
+past_one P w h a b c d =
+    ⊎_elim (λ l. rw (gap w (omega arith) h l) a)
+    (λ l. ⊎_elim (λ m. byte P w l m b c) (λ m. past_byte P w m a d) (order w 0x700))
+    (order w 0x600)
+
 -- the last of a header: a channel, the sink, SSCTRL
 pub low_channel : (w : ℕ) → w < 0x620 → legal_channel (w - 0x600) ≡ true
 low_channel w h = (legal_channel_lem (w - 0x600)).back (inl (omega arith))

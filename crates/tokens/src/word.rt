@@ -73,15 +73,11 @@ pub fn is_three(word: u16) -> bool
 }
 
 // END and PAUSE close a hop. Data 1 and 2, and header bytes of these values, close nothing.
-#[tactic(auto, using(crate::proofs::Words::closing_word, crate::proofs::Words::open_word))]
+#[tactic(auto, unfolding(crate::specs::Word::closes))]
 pub fn closes(word: u16) -> bool
     ensures { result ≡ closes word }
 {
-    match word {
-        0x0000..=0x0100 => false,
-        0x0101..=0x0102 => true,
-        0x0103..=0xFFFF => false,
-    }
+    matches!(word, END | PAUSE)
 }
 
 pub fn is_pause(word: u16) -> bool
