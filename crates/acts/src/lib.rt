@@ -17,7 +17,7 @@ use cells::{end, node, port};
 use circuits::{Peer, of_peer};
 use names::size::{END_BUFFER, SINK};
 use names::{NodeNumber, Slot};
-use ports::{Counters, put_at, stretch, take_at};
+use ports::{Ports, put_at, take_at};
 use tokens::header::{Header, Width};
 use tokens::word::{closes, is_pause};
 
@@ -74,15 +74,12 @@ pub fn push_header(st: &mut [u32], mem: &mut [u16], slot: Slot, p: usize, h: Hea
 }
 
 // The i-th token of a port, oldest first.
-#[tactic(auto, using(laws::proofs::Row::row_at, laws::proofs::Row::row_long))]
 pub fn word_at(st: &[u32], mem: &[u16], slot: Slot, p: usize, i: u32) -> u16
     requires { Holds (world st.now mem.now) slot.0 p (i + 1) }
     ensures { result ≡ word_at (world st.now mem.now) slot.0 p i }
 {
     let k = port::at(st, slot, p);
-    let words = stretch(mem, slot, p);
-    let at = ((k.counters.head + i) % Counters::CAPACITY) as usize;
-    words[at]
+    Ports::word(k.counters, mem, slot, p, i)
 }
 
 // Takes the oldest token of a port.

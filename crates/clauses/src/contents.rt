@@ -8,11 +8,11 @@ ghost use Rattle.clauses.specs.Contents.{heard_tokens};
 use cells::layout::TOKEN_WORDS;
 use cells::{end, port, unit};
 use circuits::hop_of;
-use grammar::port::Stages;
+use grammar::port::{Stages, stages_of};
 use grammar::stage::Stage;
 use names::Slot;
 use names::size::PORTS;
-use ports::{Counters, stretch};
+use ports::{Counters, Ports};
 
 // The memory has this port's stretch, and its counters are those of a ring.
 fn ready(st: &[u32], mem: &[u16], slot: Slot, p: usize) -> bool
@@ -25,17 +25,14 @@ fn ready(st: &[u32], mem: &[u16], slot: Slot, p: usize) -> bool
 }
 
 // Where a port's tokens begin and end, to one who walks over them.
-#[tactic(auto, using(crate::proofs::Readies::fair, crate::proofs::Readies::reaches, crate::proofs::Readies::read_off, laws::proofs::Row::row_long))]
+#[tactic(auto, using(crate::proofs::Readies::fair, crate::proofs::Readies::reaches, crate::proofs::Readies::read_off))]
 fn stages(st: &[u32], mem: &[u16], slot: Slot, p: usize) -> Stages
     ensures { result ≡ stages (world st.now mem.now) slot.0 p }
 {
     if ready(st, mem, slot, p) {
         let k = port::at(st, slot, p);
-        return grammar::port::stages_of(
-            hop_of(k.leg.circuit, k.leg.tile),
-            stretch(mem, slot, p),
-            k.counters,
-        );
+        let words = Ports::words(k.counters, mem, slot, p);
+        return stages_of(hop_of(k.leg.circuit, k.leg.tile), &words);
     }
     Stages {
         front: Stage::Bad,

@@ -1,5 +1,5 @@
 // What a port holds with the line to it behind.
-ghost use Rattle.std.specs.Prelude.{◌≡◌, [], ◌∷◌, ◌+◌, ◌≤◌, length};
+ghost use Rattle.std.specs.Prelude.{◌≡◌, ◌+◌, ◌≤◌, length};
 ghost use Rattle.lines.specs.Line.{line_capacity, LineFair, line_place, on_line};
 ghost use Rattle.lines.specs.Load.{tokens_of};
 ghost use Rattle.grammar.specs.Walk.{walk};
@@ -13,32 +13,19 @@ use cells::link::{Far, far_at};
 use clauses::contents::back;
 use grammar::stage::{Stage, next};
 use lines::load::is_token;
-use lines::{CAPACITY, word_on};
+use lines::{CAPACITY, words_on};
 use names::Slot;
 use names::size::LINKS;
 use ports::Counters;
 
-// One thing on a line: a token leads on, a credit or a HELLO does not.
-fn step_on(s: Stage, word: u16) -> Stage
-    ensures { result ≡ walk s (tokens_of (word ∷ [])) }
-{
-    if is_token(word) {
-        return next(s, word);
-    }
-    s
-}
-
-// The walk over the tokens on a line, from where it begins.
-#[tactic(auto, using(lines::proofs::Loads::rest_all, lines::proofs::Loads::rest_done, lines::proofs::Loads::rest_next, lines::proofs::Loads::rest_of, crate::proofs::Walks::walk_next))]
+// The walk over the tokens on a line, from where it begins: a credit or a HELLO does not lead on.
 fn walk_line(ls: &[u16], c: Counters, slot: Slot, l: usize, s: Stage) -> Stage
     requires { LineFair c × (line_place slot.0 l + line_capacity ≤ length ls.now) }
     ensures { result ≡ walk s (tokens_of (on_line c ls.now (line_place slot.0 l))) }
 {
-    let mut at = s;
-    for i in 0..c.held {
-        at = step_on(at, word_on(c, ls, slot, l, i));
-    }
-    at
+    words_on(c, ls, slot, l)
+        .filter(|word| is_token(*word))
+        .fold(s, next)
 }
 
 fn walked_on(st: &[u32], ls: &[u16], m: Slot, k: usize, s: Stage) -> Stage

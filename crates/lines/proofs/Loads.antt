@@ -1,16 +1,15 @@
--- How much is on a line: what so many things can come to, and the things in one loop from the near end. Assumes nothing.
-use Prim.Native.Nat.{ℕ, ◌+◌, ◌-◌, ◌%◌, ◌<◌, ◌≤◌}
-use mathlib.Core.Path.{◌≡◌, ap, ◌∙◌}
-use mathlib.Core.List.{List, [], ◌∷◌}
-use native.Mathlib.Nat.{mod-lt}
+-- How much is on a line: what so many things can come to, and the things one after another from the near end. Assumes nothing.
+use Prim.Native.Nat.{ℕ, ◌+◌, ◌≤◌}
+use mathlib.Core.Path.{◌≡◌, refl, ap}
+use mathlib.Core.List.{List, [], ◌∷◌, ◌++◌}
 use native.Mathlib.Omega.{arith}
 use lib.Dec.{eqb}
+use lib.ListN.{length}
 use Rattle.laws.proofs.Order.{by_test}
-use Rattle.laws.proofs.Row.{row_at}
-use Rattle.ports.specs.Ring.{ring, stretch}
+use Rattle.ports.specs.Ring.{stretch}
 use Rattle.ports.specs.declared.Counters.{Counters}
-use Rattle.ports.proofs.Rings.{ring_start, ring_next, ring_done}
-use Rattle.lines.specs.Line.{line_capacity, on_line, word_on}
+use Rattle.ports.proofs.Rings.{ring_long}
+use Rattle.lines.specs.Line.{line_capacity, LineFair, on_line}
 use Rattle.lines.specs.Load.{credit_word, is_hello, credit_of, before, no_load, load_of, Within}
 use Rattle.lines.specs.declared.load.Load.{Load}
 
@@ -34,6 +33,11 @@ within_more n m k h z =
       hellos = omega (arith, z.hellos);
       behind = omega (arith, z.behind);
     }
+
+-- nothing comes to nothing
+pub within_none : (n : ℕ) → Within n no_load
+within_none n =
+    record { tokens = omega arith; credit = omega arith; credits = omega arith; hellos = omega arith; behind = omega arith }
 
 -- one thing more
 pub within_before : (n x : ℕ) (k : Load) → n ≤ line_capacity → Within n k → Within (n + 1) (before x k)
@@ -63,29 +67,19 @@ within_before n x k few z =
       behind = omega (arith, z.behind);
     }))))
 
--- What is on a line as a loop goes over it
-module _ (m : List ℕ) (a : ℕ) (c : Counters) where
-  -- from its i-th on
-  abbrev pub rest_of : ℕ → List ℕ
-  rest_of i = ring line_capacity (stretch line_capacity m a) (c.head + i) (c.held - i)
+-- What is on a line, gone over from its near end: all that is still in front of what has come to k
+abbrev pub in_front : List ℕ → Load → Load
+in_front [] k = k
+in_front (x ∷ q) k = before x (in_front q k)
 
-  pub rest_all : rest_of 0 ≡ on_line c m a
-  rest_all = ring_start line_capacity (stretch line_capacity m a) c.head c.held
+pub in_front_none : (q : List ℕ) → in_front q no_load ≡ load_of q
+in_front_none [] = refl
+in_front_none (x ∷ q) = ap (before x) (in_front_none q)
 
-  pub rest_next : (i : ℕ) → i < c.held → rest_of i ≡ word_on c m a i ∷ rest_of (i + 1)
-  rest_next i h =
-      let at = row_at line_capacity a ((c.head + i) % line_capacity) m 0 (mod-lt (c.head + i) (omega arith)) in
-      ring_next line_capacity (stretch line_capacity m a) c.head c.held i h ∙ rw at
+pub in_front_last : (q : List ℕ) (x : ℕ) (k : Load) → in_front (q ++ (x ∷ [])) k ≡ in_front q (before x k)
+in_front_last [] x k = refl
+in_front_last (y ∷ q) x k = ap (before y) (in_front_last q x k)
 
-  pub rest_done : (i : ℕ) → c.held ≤ i → rest_of i ≡ []
-  rest_done = ring_done line_capacity (stretch line_capacity m a) c.head c.held
-
-  -- the load, from the near end: nothing at first; at each turn one thing more in front of the rest
-  pub load_none : load_of (rest_of c.held) ≡ no_load
-  load_none = ap load_of (rest_done c.held (omega arith))
-
-  pub load_turn : (i j : ℕ) → i ≡ j + 1 → i ≤ c.held → load_of (rest_of j) ≡ before (word_on c m a j) (load_of (rest_of i))
-  load_turn i j e h = ap load_of (rest_next j (omega arith)) ∙ rw e
-
-  pub load_all : load_of (rest_of 0) ≡ load_of (on_line c m a)
-  load_all = ap load_of rest_all
+-- it is no more than a line holds
+pub on_line_long : (c : Counters) (m : List ℕ) (a : ℕ) → LineFair c → length (on_line c m a) ≤ line_capacity
+on_line_long c m a f = rw (ring_long line_capacity (stretch line_capacity m a) c.head c.held) f.held_in

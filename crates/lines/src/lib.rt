@@ -4,32 +4,38 @@
 
 pub mod load;
 
-ghost use Rattle.std.specs.Prelude.{◌≡◌, ◌+◌, ◌^◌, ◌≤◌, ◌<◌, length};
+ghost use Rattle.std.specs.Prelude.{◌≡◌, ◌+◌, ◌≤◌, ◌<◌, length};
 ghost use Rattle.ports.specs.Ring.{put_counters};
-ghost use Rattle.lines.specs.Line.{line_capacity, LineFair, off_counters, line_place, on_memory, off_memory, first_off, word_on};
+ghost use Rattle.lines.specs.Line.{line_capacity, LineFair, off_counters, line_place, on_memory, off_memory, first_off, word_on, on_line};
 
 use names::Slot;
 use names::size::LINKS;
-use ports::{Counters, Taken};
+use ports::words::Words;
+use ports::{Counters, Queues, Taken};
 
 // What a line holds at most: 64 tokens, a credit and a HELLO.
 pub const CAPACITY: u32 = 66;
 
-// Where the stretch of the line that starts at a link begins. Callers have a memory that reaches past it.
-fn place(slot: Slot, l: usize) -> usize
-    requires { line_place slot.0 l < 2 ^ 64 }
-    ensures { result ≡ line_place slot.0 l }
-{
-    (slot.0 * LINKS + l) * CAPACITY as usize
-}
+// The lines' memory: the lines that start at the links of each node.
+pub type Lines = Queues<LINKS, CAPACITY>;
+
+// What is on a line.
+pub type LineWords<'a> = Words<'a, CAPACITY>;
 
 // The i-th on the line that starts at a link, the first to arrive at 0.
 pub fn word_on(c: Counters, lines: &[u16], slot: Slot, l: usize, i: u32) -> u16
     requires { LineFair c × (i < line_capacity) × (line_place slot.0 l + line_capacity ≤ length lines.now) }
     ensures { result ≡ word_on c lines.now (line_place slot.0 l) i }
 {
-    let at = place(slot, l) + ((c.head + i) % CAPACITY) as usize;
-    lines[at]
+    Lines::word(c, lines, slot, l, i)
+}
+
+// What is on the line that starts at a link, the first to arrive first.
+pub fn words_on<'a>(c: Counters, lines: &'a [u16], slot: Slot, l: usize) -> LineWords<'a>
+    requires { LineFair c × (line_place slot.0 l + line_capacity ≤ length lines.now) }
+    ensures { result ≡ on_line c lines.now (line_place slot.0 l) }
+{
+    Lines::words(c, lines, slot, l)
 }
 
 // Puts a token, a credit or a HELLO on the line that starts at a link, behind what is on it.
@@ -37,12 +43,7 @@ pub fn put_on(c: Counters, lines: &mut [u16], slot: Slot, l: usize, word: u16) -
     requires { LineFair c × (c.held < line_capacity) × (line_place slot.0 l + line_capacity ≤ length lines.old) }
     ensures { (result ≡ put_counters c) × (lines.new ≡ on_memory c lines.old (line_place slot.0 l) word) }
 {
-    let at = place(slot, l) + ((c.head + c.held) % CAPACITY) as usize;
-    lines[at] = word;
-    Counters {
-        head: c.head,
-        held: c.held + 1,
-    }
+    Lines::put(c, lines, slot, l, word)
 }
 
 // Takes the first off the far end of that line, and clears the word that it leaves.
@@ -51,12 +52,5 @@ pub fn take_off(c: Counters, lines: &mut [u16], slot: Slot, l: usize) -> Taken
     ensures { (result.counters ≡ off_counters c) × (result.token ≡ first_off c lines.old (line_place slot.0 l))
         × (lines.new ≡ off_memory c lines.old (line_place slot.0 l)) }
 {
-    let at = place(slot, l) + c.head as usize;
-    let token = lines[at];
-    lines[at] = 0;
-    let counters = Counters {
-        head: (c.head + 1) % CAPACITY,
-        held: c.held - 1,
-    };
-    Taken { counters, token }
+    Lines::take(c, lines, slot, l)
 }

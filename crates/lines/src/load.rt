@@ -3,7 +3,7 @@ ghost use Rattle.std.specs.Prelude.{◌≡◌, ◌+◌, ◌≤◌, ◌<◌, leng
 ghost use Rattle.lines.specs.Line.{line_capacity, LineFair, line_place, on_line};
 ghost use Rattle.lines.specs.Load.{credit_word, is_hello, credit_of, is_token, before, load_of, Within};
 
-use crate::word_on;
+use crate::words_on;
 use names::Slot;
 use ports::Counters;
 
@@ -72,24 +72,28 @@ fn before(word: u16, k: Load) -> Load
     requires { Within line_capacity k }
     ensures { result ≡ before word k }
 {
-    let mut x = k;
     if is_hello(word) {
-        x.hellos = k.hellos + 1;
-        x.behind = k.behind + k.tokens;
-        return x;
+        return Load {
+            hellos: k.hellos + 1,
+            behind: k.behind + k.tokens,
+            ..k
+        };
     }
-    let g = credit_of(word);
-    if g != 0 {
-        x.credit = k.credit + g;
-        x.credits = k.credits + 1;
-        return x;
+    match credit_of(word) {
+        0 => Load {
+            tokens: k.tokens + 1,
+            ..k
+        },
+        g => Load {
+            credit: k.credit + g,
+            credits: k.credits + 1,
+            ..k
+        },
     }
-    x.tokens = k.tokens + 1;
-    x
 }
 
 // How much is on the line that starts at a link: from its near end to its far end, so that what is behind a HELLO is known when it comes.
-#[tactic(auto, using(crate::proofs::Loads::load_all, crate::proofs::Loads::load_none, crate::proofs::Loads::load_turn, crate::proofs::Loads::rest_of, crate::proofs::Loads::within_before, crate::proofs::Loads::within_more))]
+#[tactic(auto, using(crate::proofs::Loads::in_front_none, crate::proofs::Loads::within_more))]
 pub fn load_at(c: Counters, lines: &[u16], slot: Slot, l: usize) -> Load
     requires { LineFair c × (line_place slot.0 l + line_capacity ≤ length lines.now) }
     ensures { result ≡ load_of (on_line c lines.now (line_place slot.0 l)) }
@@ -101,10 +105,8 @@ pub fn load_at(c: Counters, lines: &[u16], slot: Slot, l: usize) -> Load
         hellos: 0,
         behind: 0,
     };
-    let mut i = c.held;
-    while i > 0 {
-        i -= 1;
-        k = before(word_on(c, lines, slot, l, i), k);
+    for word in words_on(c, lines, slot, l).rev() {
+        k = before(word, k);
     }
     k
 }

@@ -72,24 +72,45 @@ module _ (cap : ℕ) where
       → contents cap (put_counters p) (put_words cap p s t) ≡ contents cap p s ++ (t ∷ [])
   put_appends p s t l e = rw add-one (ring_put s p.head p.held t l e)
 
-  pub take_removes : (p : Counters) (s : List ℕ) → Fair cap p → 0 < p.held
-      → contents cap p s ≡ first_word p s ∷ contents cap (take_counters cap p) (take_words p s)
+  -- What a queue holds, as one goes over it: nothing, the oldest and the others, the others and the last
+  pub held_none : (p : Counters) (s : List ℕ) → p.held ≡ 0 → contents cap p s ≡ []
   unfolding ring
-  take_removes p s f l =
+  held_none p s e = rw e
+
+  pub held_first : (p : Counters) (s : List ℕ) → Fair cap p → 0 < p.held → contents cap p s ≡ first_word p s ∷ contents cap (take_counters cap p) s
+  unfolding ring
+  held_first p s f l =
       let b : ℕ = p.head in
       let n : ℕ = p.held - 1 in
       let e : p.held ≡ suc n = omega arith in
       let h : b % cap ≡ b = mod-eq_of_lt f.head_in in
+      let round : suc b % cap ≡ (b + 1) % cap % cap = ap (λ (k : ℕ). k % cap) (omega arith) ∙ sym (mod-mod (b + 1) cap) in
+      ap (ring cap s b) e
+      ∙ ap (λ (k : ℕ). get_or s k 0 ∷ ring cap s (suc b) n) h
+      ∙ ap (λ (x : List ℕ). get_or s b 0 ∷ x) (ring_round s (suc b) ((b + 1) % cap) n round)
+
+  ring_last : (s : List ℕ) (h n : ℕ) → ring cap s h (suc n) ≡ ring cap s h n ++ (get_or s ((h + n) % cap) 0 ∷ [])
+  unfolding ring
+  ring_last s h zero = let e : h + 0 ≡ h = omega arith in rw e
+  ring_last s h (suc n) =
+      let e : h + suc n ≡ suc h + n = omega arith in
+      ap (λ (x : List ℕ). get_or s (h % cap) 0 ∷ x)
+      (ring_last s (suc h) n ∙ ap (λ (k : ℕ). ring cap s (suc h) n ++ (get_or s (k % cap) 0 ∷ [])) (sym e))
+
+  pub held_last : (p : Counters) (s : List ℕ) → 0 < p.held
+      → contents cap p s ≡ ring cap s p.head (p.held - 1) ++ (get_or s ((p.head + (p.held - 1)) % cap) 0 ∷ [])
+  held_last p s l = let e : p.held ≡ suc (p.held - 1) = omega arith in ap (ring cap s p.head) e ∙ ring_last s p.head (p.held - 1)
+
+  pub take_removes : (p : Counters) (s : List ℕ) → Fair cap p → 0 < p.held
+      → contents cap p s ≡ first_word p s ∷ contents cap (take_counters cap p) (take_words p s)
+  take_removes p s f l =
+      let b : ℕ = p.head in
+      let n : ℕ = p.held - 1 in
       let sum : (i : ℕ) → (b + (1 + i)) % cap ≡ ((b + 1) % cap + i) % cap =
       λ i. ap (λ (k : ℕ). k % cap) (omega arith) ∙ sym (mod-add-mod (b + 1) cap i) in
       let past : (i : ℕ) → i < n → ((b + 1) % cap + i) % cap ≡ b → ⊥ =
       λ i q z. further cap (1 + i) (omega arith) (omega (arith, f.held_in)) b f.head_in (sum i ∙ z) in
-      let o : ring cap (set s b 0) ((b + 1) % cap) n ≡ ring cap s (suc b) n =
-      ring_other s b 0 ((b + 1) % cap) n past
-      ∙ ring_round s ((b + 1) % cap) (suc b) n (mod-mod (b + 1) cap ∙ ap (λ (k : ℕ). k % cap) (omega arith)) in
-      ap (ring cap s b) e
-      ∙ ap (λ (k : ℕ). get_or s k 0 ∷ ring cap s (suc b) n) h
-      ∙ ap (λ (x : List ℕ). get_or s b 0 ∷ x) (sym o)
+      held_first p s f l ∙ ap (λ (x : List ℕ). first_word p s ∷ x) (sym (ring_other s b 0 ((b + 1) % cap) n past))
 
   -- The ring as a loop goes over it: all of it at first, one token less at each turn, none at last
   module _ (s : List ℕ) (h n : ℕ) where

@@ -1,8 +1,12 @@
 -- A queue of any capacity: counters over its own stretch of a memory, which is a ring of that many words. A port's queue (Queue.antt,
 -- Memory.antt) is one of 64.
-use Rattle.std.specs.Prelude.{ℕ, zero, suc, ◌+◌, ◌-◌, ◌*◌, ◌%◌, ◌<◌, ◌≤◌, List, [], ◌∷◌, get_or, set}
+use Rattle.std.specs.Prelude.{ℕ, zero, suc, ◌+◌, ◌-◌, ◌*◌, ◌%◌, ◌^◌, ◌<◌, ◌≤◌, List, [], ◌∷◌, get_or, set}
 use Rattle.laws.specs.Row.{row}
 use Rattle.ports.specs.declared.Counters.{Counters}
+
+-- the capacities for which counters of 32 bits go round
+abbrev pub Serves : ℕ → Type 0
+Serves cap = (0 < cap) × (cap + cap ≤ 2 ^ 32)
 
 -- counters that such a queue can have
 pub record Fair (cap : ℕ) (p : Counters) : Type 0 where
