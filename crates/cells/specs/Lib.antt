@@ -5,3 +5,4 @@ pub mod View
 pub mod Changes
 pub mod World
 pub mod Start
+pub mod Memories

@@ -1,9 +1,11 @@
 // Where each record of a node lies. The records of a node stand in the order node, links, ports, tile
 // links, channel-ends, control unit, lines.
 ghost use Rattle.std.specs.Prelude.{◌≡◌, ◌+◌, ◌*◌, ◌^◌, ◌<◌, ◌≤◌, length};
-ghost use Rattle.cells.specs.World.{lent, shaped};
+ghost use Rattle.cells.specs.Memories.{world_of};
+ghost use Rattle.cells.specs.World.{shaped};
 ghost use Rattle.cells.specs.Layout.{stride, Within, begins, nodes_in, words_of};
 
+use crate::memories::Memories;
 use crate::{end, line, link, node, port, unit};
 use names::Slot;
 use names::size::{ENDS, LINKS, NODES, PORTS, TILE_LINKS};
@@ -133,15 +135,15 @@ pub fn copy(to: &mut [u32], from: &[u32])
 
 // The lengths are those of 1 to 16 nodes.
 #[tactic(auto, using(laws::proofs::All::and_false), unfolding(crate::specs::World::shaped, crate::specs::View::view))]
-pub fn shaped(st: &[u32], mem: &[u16], ls: &[u16]) -> bool
-    ensures { result ≡ shaped (lent st.now mem.now ls.now) }
+pub fn shaped(m: &Memories) -> bool
+    ensures { result ≡ shaped (world_of m.now) }
 {
-    let n = nodes(st);
-    if st.len() % STRIDE != 0 {
+    let n = nodes(m.state);
+    if m.state.len() % STRIDE != 0 {
         return false;
     }
     if n > NODES {
         return false;
     }
-    (1 <= n) & ((mem.len() == n * TOKEN_WORDS) & (ls.len() == n * LINE_WORDS))
+    (1 <= n) & ((m.tokens.len() == n * TOKEN_WORDS) & (m.lines.len() == n * LINE_WORDS))
 }

@@ -7,6 +7,7 @@ pub mod end;
 pub mod layout;
 pub mod line;
 pub mod link;
+pub mod memories;
 pub mod node;
 pub mod port;
 pub mod tile;

@@ -1,11 +1,13 @@
 // What ports, channel-ends and control units hold.
 ghost use Rattle.std.specs.Prelude.{◌≡◌, length};
+ghost use Rattle.cells.specs.Memories.{world_of};
 ghost use Rattle.cells.specs.View.{view};
 ghost use Rattle.cells.specs.World.{world};
 ghost use Rattle.clauses.specs.Contents.{ready, stages, front, back, contents, legal_word, legal_words, held_tokens};
 ghost use Rattle.clauses.specs.Contents.{heard_tokens};
 
 use cells::layout::TOKEN_WORDS;
+use cells::memories::Memories;
 use cells::{end, port, unit};
 use circuits::hop_of;
 use grammar::port::{Stages, stages_of};
@@ -15,23 +17,23 @@ use names::size::PORTS;
 use ports::{Counters, Ports};
 
 // The memory has this port's stretch, and its counters are those of a ring.
-fn ready(st: &[u32], mem: &[u16], slot: Slot, p: usize) -> bool
-    ensures { result ≡ ready (world st.now mem.now) slot.0 p }
+fn ready(m: &Memories, slot: Slot, p: usize) -> bool
+    ensures { result ≡ ready (world_of m.now) slot.0 p }
 {
-    let k = port::at(st, slot, p);
-    (slot.0 < mem.len() / TOKEN_WORDS)
+    let k = port::at(m.state, slot, p);
+    (slot.0 < m.tokens.len() / TOKEN_WORDS)
         & ((p < PORTS)
             & ((k.counters.head < Counters::CAPACITY) & (k.counters.held <= Counters::CAPACITY)))
 }
 
 // Where a port's tokens begin and end, to one who walks over them.
 #[tactic(auto, using(crate::proofs::Readies::fair, crate::proofs::Readies::reaches, crate::proofs::Readies::read_off))]
-fn stages(st: &[u32], mem: &[u16], slot: Slot, p: usize) -> Stages
-    ensures { result ≡ stages (world st.now mem.now) slot.0 p }
+fn stages(m: &Memories, slot: Slot, p: usize) -> Stages
+    ensures { result ≡ stages (world_of m.now) slot.0 p }
 {
-    if ready(st, mem, slot, p) {
-        let k = port::at(st, slot, p);
-        let words = Ports::words(k.counters, mem, slot, p);
+    if ready(m, slot, p) {
+        let k = port::at(m.state, slot, p);
+        let words = Ports::words(k.counters, m.tokens, slot, p);
         return stages_of(hop_of(k.leg.circuit, k.leg.tile), &words);
     }
     Stages {
@@ -40,30 +42,30 @@ fn stages(st: &[u32], mem: &[u16], slot: Slot, p: usize) -> Stages
     }
 }
 
-pub fn front(st: &[u32], mem: &[u16], slot: Slot, p: usize) -> Stage
-    ensures { result ≡ front (world st.now mem.now) slot.0 p }
+pub fn front(m: &Memories, slot: Slot, p: usize) -> Stage
+    ensures { result ≡ front (world_of m.now) slot.0 p }
 {
-    let s = stages(st, mem, slot, p);
+    let s = stages(m, slot, p);
     s.front
 }
 
-pub fn back(st: &[u32], mem: &[u16], slot: Slot, p: usize) -> Stage
-    ensures { result ≡ back (world st.now mem.now) slot.0 p }
+pub fn back(m: &Memories, slot: Slot, p: usize) -> Stage
+    ensures { result ≡ back (world_of m.now) slot.0 p }
 {
-    let s = stages(st, mem, slot, p);
+    let s = stages(m, slot, p);
     s.back
 }
 
 // The sentences of the list on what may stand in a port.
-pub fn contents(st: &[u32], mem: &[u16], slot: Slot, p: usize) -> bool
-    ensures { result ≡ contents (world st.now mem.now) slot.0 p }
+pub fn contents(m: &Memories, slot: Slot, p: usize) -> bool
+    ensures { result ≡ contents (world_of m.now) slot.0 p }
 {
-    let k = port::at(st, slot, p);
+    let k = port::at(m.state, slot, p);
     if k.counters.held == 0 {
         // a port that holds nothing holds nothing wrong
-        return ready(st, mem, slot, p);
+        return ready(m, slot, p);
     }
-    back(st, mem, slot, p) != Stage::Bad
+    back(m, slot, p) != Stage::Bad
 }
 
 fn legal_word(t: u32, ends: bool) -> bool

@@ -16,6 +16,7 @@ ghost use Rattle.fresh.specs.declared.Start.TheVariants.{Fresh};
 use answers::Answer;
 use cells::layout::shaped;
 use cells::link::{Cable, Flow, Link, Setup};
+use cells::memories::Memories;
 use cells::node::Node;
 use cells::{link, node};
 use circuits::Circuit;
@@ -124,7 +125,11 @@ fn start_no(st: &[u32], mem: &[u16], ls: &[u16], nodes: usize) -> u8
     if !counted {
         return NO_SUCH;
     }
-    let fitting = shaped(st, mem, ls) & (node::count(st) == nodes);
+    let fitting = shaped(&Memories {
+        state: st,
+        tokens: mem,
+        lines: ls,
+    }) & (node::count(st) == nodes);
     if !fitting {
         return UNSOUND;
     }

@@ -9,6 +9,7 @@ ghost use Rattle.cells.specs.World.{lent};
 ghost use Rattle.sound.specs.Sound.{unsound_clause, sound, tight, quiet};
 
 use cells::layout::{LINE_WORDS, STRIDE, TOKEN_WORDS};
+use cells::memories::Memories;
 use cells::node::count;
 use sound::{is_quiet, is_sound, is_tight, unsound_clause};
 
@@ -47,7 +48,11 @@ pub extern "C" fn tarvelgyo_node_count(st: &[u32]) -> usize
 pub extern "C" fn tarvelgyo_is_sound(st: &[u32], mem: &[u16], ls: &[u16]) -> bool
     ensures { result ≡ sound (lent st.now mem.now ls.now) }
 {
-    is_sound(st, mem, ls)
+    is_sound(&Memories {
+        state: st,
+        tokens: mem,
+        lines: ls,
+    })
 }
 
 // 0 where the state is sound, else the number of the first clause that fails.
@@ -55,19 +60,31 @@ pub extern "C" fn tarvelgyo_is_sound(st: &[u32], mem: &[u16], ls: &[u16]) -> boo
 pub extern "C" fn tarvelgyo_unsound_clause(st: &[u32], mem: &[u16], ls: &[u16]) -> u32
     ensures { result ≡ unsound_clause (lent st.now mem.now ls.now) }
 {
-    unsound_clause(st, mem, ls)
+    unsound_clause(&Memories {
+        state: st,
+        tokens: mem,
+        lines: ls,
+    })
 }
 
 #[unsafe(no_mangle)]
 pub extern "C" fn tarvelgyo_is_tight(st: &[u32], mem: &[u16], ls: &[u16]) -> bool
     ensures { result ≡ tight (lent st.now mem.now ls.now) }
 {
-    is_tight(st, mem, ls)
+    is_tight(&Memories {
+        state: st,
+        tokens: mem,
+        lines: ls,
+    })
 }
 
 #[unsafe(no_mangle)]
 pub extern "C" fn tarvelgyo_is_quiet(st: &[u32], mem: &[u16], ls: &[u16]) -> bool
     ensures { result ≡ quiet (lent st.now mem.now ls.now) }
 {
-    is_quiet(st, mem, ls)
+    is_quiet(&Memories {
+        state: st,
+        tokens: mem,
+        lines: ls,
+    })
 }

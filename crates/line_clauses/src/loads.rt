@@ -1,5 +1,6 @@
 // How much is on lines, and what Sound asks of it.
 ghost use Rattle.std.specs.Prelude.{◌≡◌, [], ◌+◌, leb};
+ghost use Rattle.cells.specs.Memories.{world_of};
 ghost use Rattle.ports.specs.Queue.{capacity};
 ghost use Rattle.cells.specs.View.{view};
 ghost use Rattle.cells.specs.World.{lined};
@@ -8,6 +9,7 @@ ghost use Rattle.line_clauses.specs.Lines.{count_with, count_to, counted, lines_
 
 use cells::layout::LINE_WORDS;
 use cells::link::{Far, far_at};
+use cells::memories::Memories;
 use cells::{line, link, port};
 use lines::CAPACITY;
 use lines::load::{Load, load_at};
@@ -16,22 +18,22 @@ use names::size::LINKS;
 use ports::Counters;
 
 // The lines' memory has this line's stretch, and its counters are those of a ring.
-pub fn line_ready(st: &[u32], ls: &[u16], slot: Slot, l: usize) -> bool
-    ensures { result ≡ line_ready (lined st.now ls.now) slot.0 l }
+pub fn line_ready(m: &Memories, slot: Slot, l: usize) -> bool
+    ensures { result ≡ line_ready (world_of m.now) slot.0 l }
 {
-    let k = line::at(st, slot, l);
-    (slot.0 < ls.len() / LINE_WORDS)
+    let k = line::at(m.state, slot, l);
+    (slot.0 < m.lines.len() / LINE_WORDS)
         & ((l < LINKS) & ((k.ring.head < CAPACITY) & (k.ring.held <= CAPACITY)))
 }
 
 // How much is on a line; too many credits and HELLOs where it cannot be read.
 #[tactic(auto, using(crate::proofs::Readies::line_fair, crate::proofs::Readies::line_reaches), unfolding(crate::specs::Lines::load_at))]
-pub fn load_on(st: &[u32], ls: &[u16], slot: Slot, l: usize) -> Load
-    ensures { result ≡ load_at (lined st.now ls.now) slot.0 l }
+pub fn load_on(m: &Memories, slot: Slot, l: usize) -> Load
+    ensures { result ≡ load_at (world_of m.now) slot.0 l }
 {
-    if line_ready(st, ls, slot, l) {
-        let k = line::at(st, slot, l);
-        return load_at(k.ring, ls, slot, l);
+    if line_ready(m, slot, l) {
+        let k = line::at(m.state, slot, l);
+        return load_at(k.ring, m.lines, slot, l);
     }
     Load {
         tokens: 0,
@@ -49,10 +51,10 @@ fn few(k: Load) -> bool
 }
 
 // "allows one credit and one HELLO there"
-pub fn few_on(st: &[u32], ls: &[u16], slot: Slot, l: usize) -> bool
-    ensures { result ≡ few_on (lined st.now ls.now) slot.0 l }
+pub fn few_on(m: &Memories, slot: Slot, l: usize) -> bool
+    ensures { result ≡ few_on (world_of m.now) slot.0 l }
 {
-    few(load_on(st, ls, slot, l))
+    few(load_on(m, slot, l))
 }
 
 // Without a cable nothing is on a line, and nothing is issued.
@@ -84,21 +86,21 @@ fn room_with(st: &[u32], slot: Slot, l: usize, m: Slot, k: usize, going: Load, c
     )
 }
 
-fn room_to(st: &[u32], ls: &[u16], slot: Slot, l: usize, m: Slot, k: usize) -> bool
-    ensures { result ≡ room_to (lined st.now ls.now) slot.0 l m.0 k }
+fn room_to(m: &Memories, slot: Slot, l: usize, far: Slot, k: usize) -> bool
+    ensures { result ≡ room_to (world_of m.now) slot.0 l far.0 k }
 {
-    let going = load_on(st, ls, slot, l);
-    let coming = load_on(st, ls, m, k);
-    room_with(st, slot, l, m, k, going, coming)
+    let going = load_on(m, slot, l);
+    let coming = load_on(m, far, k);
+    room_with(m.state, slot, l, far, k, going, coming)
 }
 
 // Credit in hand and on the line to the link, and tokens on the line from it and held at the far end, are at most 64.
-pub fn room_over(st: &[u32], ls: &[u16], slot: Slot, l: usize) -> bool
-    ensures { result ≡ room_over (lined st.now ls.now) slot.0 l }
+pub fn room_over(m: &Memories, slot: Slot, l: usize) -> bool
+    ensures { result ≡ room_over (world_of m.now) slot.0 l }
 {
-    match far_at(st, slot, l) {
+    match far_at(m.state, slot, l) {
         Far::Nowhere => true,
-        Far::At(m, k) => room_to(st, ls, slot, l, m, k),
+        Far::At(far, k) => room_to(m, slot, l, far, k),
     }
 }
 
@@ -119,40 +121,40 @@ fn count_with(
     !(coming.hellos == 0) | (x.issued as u64 == sum)
 }
 
-fn count_to(st: &[u32], ls: &[u16], slot: Slot, l: usize, m: Slot, k: usize) -> bool
-    ensures { result ≡ count_to (lined st.now ls.now) slot.0 l m.0 k }
+fn count_to(m: &Memories, slot: Slot, l: usize, far: Slot, k: usize) -> bool
+    ensures { result ≡ count_to (world_of m.now) slot.0 l far.0 k }
 {
-    let going = load_on(st, ls, slot, l);
-    let coming = load_on(st, ls, m, k);
-    count_with(st, slot, l, m, k, going, coming)
+    let going = load_on(m, slot, l);
+    let coming = load_on(m, far, k);
+    count_with(m.state, slot, l, far, k, going, coming)
 }
 
 // While no HELLO is coming to a receiver, its count is the far end's credit, the credit on the line to that end and the tokens on the line
 // from it.
-pub fn counted(st: &[u32], ls: &[u16], slot: Slot, l: usize) -> bool
-    ensures { result ≡ counted (lined st.now ls.now) slot.0 l }
+pub fn counted(m: &Memories, slot: Slot, l: usize) -> bool
+    ensures { result ≡ counted (world_of m.now) slot.0 l }
 {
-    match far_at(st, slot, l) {
+    match far_at(m.state, slot, l) {
         Far::Nowhere => true,
-        Far::At(m, k) => count_to(st, ls, slot, l, m, k),
+        Far::At(far, k) => count_to(m, slot, l, far, k),
     }
 }
 
-fn lines_to(st: &[u32], ls: &[u16], slot: Slot, l: usize, m: Slot, k: usize) -> bool
-    ensures { result ≡ lines_to (lined st.now ls.now) slot.0 l m.0 k }
+fn lines_to(m: &Memories, slot: Slot, l: usize, far: Slot, k: usize) -> bool
+    ensures { result ≡ lines_to (world_of m.now) slot.0 l far.0 k }
 {
-    let going = load_on(st, ls, slot, l);
-    let coming = load_on(st, ls, m, k);
-    let counted = count_with(st, slot, l, m, k, going, coming) & unlined(st, slot, l);
-    room_with(st, slot, l, m, k, going, coming) & (few(going) & counted)
+    let going = load_on(m, slot, l);
+    let coming = load_on(m, far, k);
+    let counted = count_with(m.state, slot, l, far, k, going, coming) & unlined(m.state, slot, l);
+    room_with(m.state, slot, l, far, k, going, coming) & (few(going) & counted)
 }
 
 // All that Sound asks of the lines at a link, each of the two read once.
-pub fn lines_at(st: &[u32], ls: &[u16], slot: Slot, l: usize) -> bool
-    ensures { result ≡ lines_at (lined st.now ls.now) slot.0 l }
+pub fn lines_at(m: &Memories, slot: Slot, l: usize) -> bool
+    ensures { result ≡ lines_at (world_of m.now) slot.0 l }
 {
-    match far_at(st, slot, l) {
-        Far::Nowhere => few_on(st, ls, slot, l) & unlined(st, slot, l),
-        Far::At(m, k) => lines_to(st, ls, slot, l, m, k),
+    match far_at(m.state, slot, l) {
+        Far::Nowhere => few_on(m, slot, l) & unlined(m.state, slot, l),
+        Far::At(far, k) => lines_to(m, slot, l, far, k),
     }
 }

@@ -1,5 +1,6 @@
 // What a port holds with the line to it behind.
 ghost use Rattle.std.specs.Prelude.{◌≡◌, ◌+◌, ◌≤◌, length};
+ghost use Rattle.cells.specs.Memories.{world_of};
 ghost use Rattle.lines.specs.Line.{line_capacity, LineFair, line_place, on_line};
 ghost use Rattle.lines.specs.Load.{tokens_of};
 ghost use Rattle.grammar.specs.Walk.{walk};
@@ -10,6 +11,7 @@ ghost use Rattle.line_clauses.specs.Lines.{walked_on, reached_from, reached, cle
 use crate::loads::line_ready;
 use cells::line;
 use cells::link::{Far, far_at};
+use cells::memories::Memories;
 use clauses::contents::back;
 use grammar::stage::{Stage, next};
 use lines::load::is_token;
@@ -28,33 +30,33 @@ fn walk_line(ls: &[u16], c: Counters, slot: Slot, l: usize, s: Stage) -> Stage
         .fold(s, next)
 }
 
-fn walked_on(st: &[u32], ls: &[u16], m: Slot, k: usize, s: Stage) -> Stage
-    ensures { result ≡ walked_on (lined st.now ls.now) m.0 k s }
+fn walked_on(m: &Memories, far: Slot, k: usize, s: Stage) -> Stage
+    ensures { result ≡ walked_on (world_of m.now) far.0 k s }
 {
-    if line_ready(st, ls, m, k) {
-        let x = line::at(st, m, k);
-        return walk_line(ls, x.ring, m, k, s);
+    if line_ready(m, far, k) {
+        let x = line::at(m.state, far, k);
+        return walk_line(m.lines, x.ring, far, k, s);
     }
     Stage::Bad
 }
 
-fn reached_from(st: &[u32], ls: &[u16], s: Stage, f: Far) -> Stage
-    ensures { result ≡ reached_from (lined st.now ls.now) s f }
+fn reached_from(m: &Memories, s: Stage, f: Far) -> Stage
+    ensures { result ≡ reached_from (world_of m.now) s f }
 {
     match f {
         Far::Nowhere => s,
-        Far::At(m, k) => walked_on(st, ls, m, k, s),
+        Far::At(far, k) => walked_on(m, far, k, s),
     }
 }
 
 // Where a port's tokens end once those on the line to it have come.
-pub fn reached(st: &[u32], mem: &[u16], ls: &[u16], slot: Slot, p: usize) -> Stage
-    ensures { result ≡ reached (lent st.now mem.now ls.now) slot.0 p }
+pub fn reached(m: &Memories, slot: Slot, p: usize) -> Stage
+    ensures { result ≡ reached (world_of m.now) slot.0 p }
 {
-    let s = back(st, mem, slot, p);
+    let s = back(m, slot, p);
     if p < LINKS {
-        let f = far_at(st, slot, p);
-        return reached_from(st, ls, s, f);
+        let f = far_at(m.state, slot, p);
+        return reached_from(m, s, f);
     }
     s
 }
@@ -82,8 +84,8 @@ pub fn nothing_comes(st: &[u32], lined: usize, slot: Slot, p: usize) -> bool
 
 // The sentences of the list on what may stand in a port, asked of the port with its line behind. Where nothing is on its way to it,
 // `contents` says the same.
-pub fn holds_over(st: &[u32], mem: &[u16], ls: &[u16], slot: Slot, p: usize) -> bool
-    ensures { result ≡ holds_over (lent st.now mem.now ls.now) slot.0 p }
+pub fn holds_over(m: &Memories, slot: Slot, p: usize) -> bool
+    ensures { result ≡ holds_over (world_of m.now) slot.0 p }
 {
-    reached(st, mem, ls, slot, p) != Stage::Bad
+    reached(m, slot, p) != Stage::Bad
 }

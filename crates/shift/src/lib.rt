@@ -10,6 +10,7 @@ ghost use Rattle.shift.specs.Lists.{left, one_step};
 ghost use Rattle.shift.specs.Needs.{Sure, known};
 
 use answers::{Answer, answer_number};
+use cells::memories::Memories;
 use names::Slot;
 use sound::{is_sound, is_tight};
 
@@ -24,10 +25,18 @@ fn known(st: &[u32], mem: &[u16], ls: &[u16], sure: bool, more: bool) -> bool
     if !more {
         return false;
     }
-    if !is_sound(st, mem, ls) {
+    if !is_sound(&Memories {
+        state: st,
+        tokens: mem,
+        lines: ls,
+    }) {
         return false;
     }
-    is_tight(st, mem, ls)
+    is_tight(&Memories {
+        state: st,
+        tokens: mem,
+        lines: ls,
+    })
 }
 
 // The public Step, without its test where the state is known to be sound.

@@ -1,22 +1,25 @@
 // A question asked at every place of every node; of the questions, what the ties ask and that it is quiet.
 ghost use Rattle.std.specs.Prelude.{◌≡◌, ℕ, Bool};
+ghost use Rattle.cells.specs.Memories.{world_of};
 ghost use Rattle.laws.specs.All.{all, every};
 ghost use Rattle.cells.specs.View.{view};
 ghost use Rattle.cells.specs.World.{lent};
 ghost use Rattle.sound.specs.Questions.{Answers, tied, quiet_port, quiet_end, quiet_line};
 
+use cells::memories::Memories;
 use cells::{end, line, node, port};
 use clauses::ties::{idle, unfed, unsent};
 use line_clauses::ties::{between, fed_over, hello_last, towards};
 use names::Slot;
 
 // All that the ties ask of a link.
-pub fn tied(st: &[u32], mem: &[u16], ls: &[u16], slot: Slot, l: usize) -> bool
-    ensures { result ≡ tied (lent st.now mem.now ls.now) slot.0 l }
+#[tactic(auto, unfolding(line_clauses::specs::Lines::load_at))]
+pub fn tied(m: &Memories, slot: Slot, l: usize) -> bool
+    ensures { result ≡ tied (world_of m.now) slot.0 l }
 {
-    let lined = between(st, slot, l) & (towards(st, ls, slot, l) & hello_last(st, ls, slot, l));
-    let used = unsent(st, mem, slot, l) & (idle(st, slot, l) & lined);
-    fed_over(st, mem, ls, slot, l) & (unfed(st, mem, slot, l) & used)
+    let lined = between(m.state, slot, l) & (towards(m, slot, l) & hello_last(m, slot, l));
+    let used = unsent(m, slot, l) & (idle(m.state, slot, l) & lined);
+    fed_over(m, slot, l) & (unfed(m, slot, l) & used)
 }
 
 pub fn quiet_port(st: &[u32], slot: Slot, p: usize) -> bool

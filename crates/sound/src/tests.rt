@@ -1,8 +1,10 @@
 // The tests of the Sound list, place by place.
 ghost use Rattle.std.specs.Prelude.{◌≡◌};
+ghost use Rattle.cells.specs.Memories.{world_of};
 ghost use Rattle.cells.specs.World.{lent};
 ghost use Rattle.sound.specs.Tests.{holds_at, places};
 
+use cells::memories::Memories;
 use cells::{end, line, link, node, port, tile, unit};
 use clauses::cables::{cable, credited, greeted};
 use clauses::contents::{heard_tokens, held_tokens};
@@ -61,30 +63,31 @@ pub enum Test {
 }
 
 // The test at one place.
-pub fn holds_at(st: &[u32], mem: &[u16], ls: &[u16], t: Test, slot: Slot, i: usize) -> bool
-    ensures { result ≡ holds_at t (lent st.now mem.now ls.now) slot.0 i }
+#[tactic(auto, unfolding(line_clauses::specs::Lines::load_at))]
+pub fn holds_at(m: &Memories, t: Test, slot: Slot, i: usize) -> bool
+    ensures { result ≡ holds_at t (world_of m.now) slot.0 i }
 {
     match t {
-        Test::Nodes => node_counts(node::at(st, slot)),
-        Test::Links => link_counts(link::at(st, slot, i)),
-        Test::Ports => port_counts(port::at(st, slot, i), i),
-        Test::Tiles => tile_counts(tile::at(st, slot, i)),
-        Test::Ends => end_counts(end::at(st, slot, i)),
-        Test::Units => unit_counts(unit::at(st, slot)),
-        Test::Credited => credited(st, slot, i),
-        Test::Greeted => greeted(st, slot, i),
-        Test::Room => room_over(st, ls, slot, i),
-        Test::Cable => cable(st, slot, i),
-        Test::Contents => holds_over(st, mem, ls, slot, i),
-        Test::Held => held_tokens(st, slot, i),
-        Test::Agrees(r) => agrees(st, slot, r, i),
-        Test::OpenEnd => open_end(st, slot, i),
-        Test::Silent => silent(st, slot),
-        Test::Heard => heard_tokens(st, slot),
-        Test::Lines => line_counts(line::at(st, slot, i)),
-        Test::Few => few_on(st, ls, slot, i),
-        Test::Counted => counted(st, ls, slot, i),
-        Test::Unlined => unlined(st, slot, i),
+        Test::Nodes => node_counts(node::at(m.state, slot)),
+        Test::Links => link_counts(link::at(m.state, slot, i)),
+        Test::Ports => port_counts(port::at(m.state, slot, i), i),
+        Test::Tiles => tile_counts(tile::at(m.state, slot, i)),
+        Test::Ends => end_counts(end::at(m.state, slot, i)),
+        Test::Units => unit_counts(unit::at(m.state, slot)),
+        Test::Credited => credited(m.state, slot, i),
+        Test::Greeted => greeted(m.state, slot, i),
+        Test::Room => room_over(m, slot, i),
+        Test::Cable => cable(m.state, slot, i),
+        Test::Contents => holds_over(m, slot, i),
+        Test::Held => held_tokens(m.state, slot, i),
+        Test::Agrees(r) => agrees(m.state, slot, r, i),
+        Test::OpenEnd => open_end(m.state, slot, i),
+        Test::Silent => silent(m.state, slot),
+        Test::Heard => heard_tokens(m.state, slot),
+        Test::Lines => line_counts(line::at(m.state, slot, i)),
+        Test::Few => few_on(m, slot, i),
+        Test::Counted => counted(m, slot, i),
+        Test::Unlined => unlined(m.state, slot, i),
     }
 }
 

@@ -1,5 +1,6 @@
 // What is said of a state: the clauses that it fails.
 use crate::write::LINES;
+use cells::memories::Memories;
 use sound::{clause_after, unsound_clause};
 use std::io;
 
@@ -9,10 +10,24 @@ fn say(rt: &impl Print, text: &str) -> io::Result<()> {
 
 // Every clause that fails, one after the other.
 fn say_failing(rt: &impl Print, st: &[u32], mem: &[u16], ls: &[u16]) -> io::Result<()> {
-    let mut clause = clause_after(st, mem, ls, 0);
+    let mut clause = clause_after(
+        &Memories {
+            state: st,
+            tokens: mem,
+            lines: ls,
+        },
+        0,
+    );
     while !(clause == 0) {
         print!(rt; " {clause}")?;
-        clause = clause_after(st, mem, ls, clause);
+        clause = clause_after(
+            &Memories {
+                state: st,
+                tokens: mem,
+                lines: ls,
+            },
+            clause,
+        );
     }
     Ok(())
 }
@@ -26,7 +41,11 @@ pub fn report_over(
     ls: &[u16],
 ) -> io::Result<()> {
     say(rt, label)?;
-    let first = unsound_clause(st, mem, ls);
+    let first = unsound_clause(&Memories {
+        state: st,
+        tokens: mem,
+        lines: ls,
+    });
     if first == 0 {
         return say(rt, ": sound\n");
     }

@@ -1,7 +1,8 @@
 -- `sound::ask` meets its contract. Assumes nothing.
 use Rattle.std.proofs.Common.{◌≡◌, ℕ, Bool, true, false, ◌||◌, eqb, leb, rules}
 use borrow.Author.Tests.{eq-eqb, ne_eqb}
-use Rattle.cells.specs.World.{World, lent}
+use Rattle.cells.specs.World.{World}
+use Rattle.cells.specs.Memories.{world_of}
 use Rattle.sound.specs.Clauses.{Clause, clause, ask}
 use Rattle.sound.specs.Tests.{holds_at, holds}
 use Rattle.sound.proofs.ask.Goals as goal
@@ -23,20 +24,20 @@ module _ (k f : ℕ) (c : Clause) (w : World) where
 pub returns-then-not-found : goal.returns-then-not-found
 returns-then-not-found c =
     let a = c.args in
-    found a.after a.found (clause a.number a.t) (lent a.st.now a.mem.now a.ls.now) (ne_eqb a.found 0 c.if-not-found.true)
+    found a.after a.found (clause a.number a.t) (world_of a.m.now) (ne_eqb a.found 0 c.if-not-found.true)
 
 pub returns-then-passes : goal.returns-then-passes
 unfolding holds
 returns-then-passes c =
     let a = c.args in
-    let asked = c.everywhere.ensures (holds_at a.t (lent a.st.now a.mem.now a.ls.now)) (λ slot i r e. search rules) in
-    passed a.after a.found (clause a.number a.t) (lent a.st.now a.mem.now a.ls.now) (eq-eqb a.found 0 c.if-not-found.false)
+    let asked = c.everywhere.ensures (holds_at a.t (world_of a.m.now)) (λ slot i r e. search rules) in
+    passed a.after a.found (clause a.number a.t) (world_of a.m.now) (eq-eqb a.found 0 c.if-not-found.false)
     (rw c.places.ensures at asked) c.if-passes.true
 
 pub returns : goal.returns
 unfolding holds
 returns c =
     let a = c.args in
-    let asked = c.everywhere.ensures (holds_at a.t (lent a.st.now a.mem.now a.ls.now)) (λ slot i r e. search rules) in
-    failed a.after a.found (clause a.number a.t) (lent a.st.now a.mem.now a.ls.now) (eq-eqb a.found 0 c.if-not-found.false)
+    let asked = c.everywhere.ensures (holds_at a.t (world_of a.m.now)) (λ slot i r e. search rules) in
+    failed a.after a.found (clause a.number a.t) (world_of a.m.now) (eq-eqb a.found 0 c.if-not-found.false)
     (rw c.places.ensures at asked) c.if-passes.false

@@ -1,6 +1,6 @@
 -- `sound::is_quiet` meets its contract. Assumes nothing.
 use Rattle.std.proofs.Common.{rules}
-use Rattle.cells.specs.World.{lent}
+use Rattle.cells.specs.Memories.{world_of}
 use Rattle.sound.specs.Questions.{QuietPort, QuietEnd, QuietLine, answer_at, everywhere}
 use Rattle.sound.specs.Sound.{quiet}
 use Rattle.sound.proofs.is_quiet.Goals as goal
@@ -8,7 +8,7 @@ use Rattle.sound.proofs.is_quiet.Goals as goal
 pub returns : goal.returns
 unfolding quiet everywhere
 returns c =
-    let w = lent c.args.st.now c.args.mem.now c.args.ls.now in
+    let w = world_of c.args.m.now in
     rw (c.everywhere.ensures (answer_at QuietPort w) (λ slot i r e. search rules))
     (rw (c.everywhere-ends.ensures (answer_at QuietEnd w) (λ slot i r e. search rules))
     (rw (c.everywhere-lines.ensures (answer_at QuietLine w) (λ slot i r e. search rules))))

@@ -2,7 +2,8 @@
 use Rattle.std.proofs.Common.{◌≡◌, Bool, true, false, rules}
 use mathlib.Core.Bool.{and-true}
 use Rattle.names.specs.Size.{links, ports, tile_links, ends}
-use Rattle.cells.specs.World.{World, lent, shaped}
+use Rattle.cells.specs.World.{World, shaped}
+use Rattle.cells.specs.Memories.{world_of}
 use Rattle.sound.specs.Clauses.{sound_clauses, asked}
 use Rattle.sound.specs.Sound.{sound}
 use Rattle.sound.proofs.OnePass.{tables, passes, sound_passes}
@@ -18,12 +19,12 @@ module _ (w : World) where
 pub returns-then-not-shaped : goal.returns-then-not-shaped
 returns-then-not-shaped c =
     let a = c.args in
-    wrong_length (lent a.st.now a.mem.now a.ls.now) c.shaped.ensures c.if-not-shaped.true
+    wrong_length (world_of a.m.now) c.shaped.ensures c.if-not-shaped.true
 
 pub returns : goal.returns
 returns c =
     let a = c.args in
-    let w = lent a.st.now a.mem.now a.ls.now in
+    let w = world_of a.m.now in
     answer w c.shaped.ensures c.if-not-shaped.false
     (rw (c.everywhere-nodes.ensures (asked sound_clauses 1 w) (λ slot i r e. search rules))
     (rw (c.everywhere-links.ensures (asked sound_clauses links w) (λ slot i r e. search rules))

@@ -18,6 +18,6 @@ no_rest ws =
     let e : length ws - nodes_in ws * stride ≡ length ws % stride = omega arith in
     is_empty_lem (drop (nodes_in ws * stride) ws) ∙ ap (λ (n : ℕ). eqb n 0) (length-drop (nodes_in ws * stride) ws ∙ e)
 
-pub returns-then-st-ne0 : goal.returns-then-st-ne0
+pub returns-then-m-ne0 : goal.returns-then-m-ne0
 unfolding shaped view
-returns-then-st-ne0 c = let ws = c.args.st.now in rw (no_rest ws, ne_eqb (length ws % stride) 0 c.if-st-ne0.true)
+returns-then-m-ne0 c = let ws = c.args.m.now.state.now in rw (no_rest ws, ne_eqb (length ws % stride) 0 c.if-m-ne0.true)

@@ -2,17 +2,12 @@
 use Rattle.std.proofs.Common.{◌∙◌}
 use borrow.Author.Tests.{lt-ltb, le-ltb}
 use Rattle.line_clauses.specs.Lines.{reached}
-use Rattle.line_clauses.proofs.Lent.{from_lent}
 use Rattle.line_clauses.proofs.reached.reached.Goals as goal
 
 pub returns-then-p-lt-LINKS : goal.returns-then-p-lt-LINKS
 unfolding reached
 returns-then-p-lt-LINKS c =
-    let a = c.args in
-    rw (lt-ltb _ _ c.if-p-lt-LINKS.true)
-    (c.reached_from.ensures
-    ∙ from_lent a.st.now a.mem.now a.ls.now c.back-s.result c.far_at-f.result
-    ∙ rw (c.far_at-f.ensures, c.back-s.ensures))
+    rw (lt-ltb _ _ c.if-p-lt-LINKS.true) (c.reached_from.ensures ∙ rw (c.far_at-f.ensures, c.back-s.ensures))
 
 pub returns : goal.returns
 unfolding reached

@@ -3,7 +3,8 @@ use Rattle.std.proofs.Common.{◌≡◌, ℕ, Bool, true, false, ◌&&◌, refl}
 use mathlib.Core.Bool.{and-true}
 use Rattle.names.specs.Size.{links}
 use Rattle.cells.specs.View.{whole_link, whole_line}
-use Rattle.cells.specs.World.{World, lent}
+use Rattle.cells.specs.World.{World}
+use Rattle.cells.specs.Memories.{world_of}
 use Rattle.clauses.specs.Counts.{link_counts, line_counts}
 use Rattle.clauses.specs.Cables.{cable, credited, greeted}
 use Rattle.clauses.specs.Pairs.{agrees}
@@ -39,4 +40,4 @@ returns c =
     let a = c.args in
     rw (c.link_counts.ensures, c.at-2.ensures, c.credited.ensures, c.line_counts.ensures)
     (rw (c.at.ensures, c.cable.ensures, c.greeted.ensures)
-    (rw (c.lines_at.ensures, c.agrees.ensures) (links_asked (lent a.st.now a.mem.now a.ls.now) a.slot.0 a.l)))
+    (rw (c.lines_at.ensures, c.agrees.ensures) (links_asked (world_of a.m.now) a.slot.0 a.l)))

@@ -1,6 +1,6 @@
 -- `sound::passes::of_port` meets its contract. Assumes nothing.
 use Rattle.std.proofs.Common.{◌≡◌, sym, ◌∙◌}
-use Rattle.cells.specs.World.{lent}
+use Rattle.cells.specs.Memories.{world_of}
 use Rattle.line_clauses.specs.Lines.{holds_over}
 use Rattle.line_clauses.proofs.Walks.{holds_still}
 use Rattle.sound.proofs.Alone.{port_alone}
@@ -10,7 +10,7 @@ use Rattle.sound.proofs.passes.of_port.Goals.{then-nothing_comes, else-nothing_c
 pub returns-then-alone : goal.returns-then-alone
 returns-then-alone c =
     let a = c.args in
-    let w = lent a.st.now a.mem.now a.ls.now in
+    let w = world_of a.m.now in
     -- either way it is what the port holds with its line behind
     let held : c.if-nothing_comes.held ≡ holds_over w a.slot.0 a.p =
     elim c.if-nothing_comes.branch [
@@ -25,7 +25,7 @@ returns-then-alone c =
 pub returns : goal.returns
 returns c =
     let a = c.args in
-    let w = lent a.st.now a.mem.now a.ls.now in
+    let w = world_of a.m.now in
     let held : c.if-nothing_comes.held ≡ holds_over w a.slot.0 a.p =
     elim c.if-nothing_comes.branch [
       | then-nothing_comes x ↦
