@@ -2,4 +2,3 @@
 pub mod Shows
 pub mod Crosses
 pub mod Told
-pub mod Probes

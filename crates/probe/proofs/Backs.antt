@@ -11,6 +11,7 @@ use lib.Dec.{ltb, leb}
 use lib.ListN.{length, get_or, take, drop, length-append, length-drop, take-append-drop}
 use lib.Seq.{take-append-le, drop-append-le, drop_at, take_all, take_at, take-suc, take-length, length-take-le}
 use borrow.Author.Tests.{le-ltb, eq-eqb, ltb-false, not-false}
+use Rattle.std.specs.Prelude.{Ok, Err}
 use Rattle.laws.specs.All.{NoneBelow}
 use Rattle.laws.proofs.All.{first_none, first_least, also, below, as_is}
 use Rattle.laws.proofs.Order.{next, by_test, never}
@@ -19,7 +20,7 @@ use Rattle.probe.specs.Form.{Form, unmarked, writable, written, transitions, fir
 use Rattle.probe.specs.Form.{whole, said_at, meaningless, tokens_in, gathered, first_meaningless}
 use Rattle.probe.specs.Calls.{Out, out, filled, delivered, writing, reading}
 use Rattle.probe.specs.Facts.{Tells, Faithful}
-use Rattle.probe.specs.declared.answer.Answer.TheVariants.{Filled, Bad, NoSuch}
+use Rattle.probe.specs.declared.answer.Refusal.TheVariants.{Bad, NoSuch}
 use Rattle.probe.specs.declared.sequence.Said.TheVariants.{Token}
 use Rattle.probe.proofs.Levels.{after_small}
 
@@ -147,17 +148,17 @@ answers e = ap (λ (o : Out). o.answer) e
 pub back : (F : Form)
     → Faithful F
     → (ts b c d : List ℕ) (n : ℕ)
-    → writing F ts b ≡ out (Filled n) c
+    → writing F ts b ≡ out (Ok n) c
     → reading F (take n c) d ≡ delivered (map unmarked ts) d
 unfolding writing delivered
 back F f ts b c d n e =
     by_test (ltb (first_unwritable F ts) (length ts))
-    (λ h. let q : Bad (first_unwritable F ts) ≡ Filled n = answers (rw h at e) in never (cc))
+    (λ h. let q : Err (Bad (first_unwritable F ts)) ≡ Ok n = answers (rw h at e) in never (cc))
     (λ h. by_test (leb (length (transitions F ts)) (length b))
     (λ l.
-    let q : Filled (length (transitions F ts)) ≡ Filled n = answers (rw (h, l) at e) in
+    let q : Ok (length (transitions F ts)) ≡ Ok n = answers (rw (h, l) at e) in
     let count : length (transitions F ts) ≡ n = (cc) in
     let kept : filled (transitions F ts) b ≡ c = ap (λ (o : Out). o.buffer) (rw (h, l) at e) in
     let laid : take n c ≡ transitions F ts = rw (← kept) (take_at (transitions F ts) (drop (length (transitions F ts)) b) n count) in
     rw laid (reads_back F f ts (all_writable F ts (ltb-false _ _ h)) d))
-    (λ l. let q : NoSuch ≡ Filled n = answers (rw (h, l) at e) in never (cc)))
+    (λ l. let q : Err NoSuch ≡ Ok n = answers (rw (h, l) at e) in never (cc)))

@@ -9,13 +9,14 @@ use native.Mathlib.Omega.{arith}
 use lib.Dec.{eqb, ltb, leb}
 use lib.ListN.{length, get_or}
 use borrow.Author.Tests.{lt-ltb, le-ltb, ltb-true, ltb-false, ne_eqb, eqb-false, not-true, not-false}
+use Rattle.std.specs.Prelude.{Ok, Err}
 use Rattle.laws.specs.All.{NoneBelow}
 use Rattle.laws.proofs.All.{first_here, first_none, first_least, first_passes}
 use Rattle.laws.proofs.Order.{by_test, never, clash}
 use Rattle.probe.specs.Form.{Form, writable, transitions, first_unwritable, whole, said_at, meaningless, tokens, first_meaningless}
 use Rattle.probe.specs.Calls.{Out, out, delivered, writing, reading}
 use Rattle.probe.specs.Facts.{FirstUnwritable, FirstBad, Short}
-use Rattle.probe.specs.declared.answer.Answer.TheVariants.{Filled, Bad, Cut, NoSuch}
+use Rattle.probe.specs.declared.answer.Refusal.TheVariants.{Bad, Cut, NoSuch}
 use Rattle.probe.specs.declared.sequence.Said.{Said}
 use Rattle.probe.specs.declared.sequence.Said.TheVariants.{Token, Return, Nothing}
 
@@ -32,11 +33,11 @@ has_meaning Nothing h = absurd (h refl)
 no_meaning : (s : Said) → meaningless s ≡ false → s ≡ Nothing → ⊥
 no_meaning s e h = clash (ap meaningless (sym h) ∙ e)
 
--- an answer is Filled or NoSuch where nothing is wrong
+-- an answer is a count or NoSuch where nothing is wrong
 answers : {o p : Out} → o ≡ p → o.answer ≡ p.answer
 answers e = ap (λ (o : Out). o.answer) e
 
-fills : (ys b : List ℕ) → ((delivered ys b).answer ≡ Filled (length ys)) ⊎ (delivered ys b ≡ out NoSuch b)
+fills : (ys b : List ℕ) → ((delivered ys b).answer ≡ Ok (length ys)) ⊎ (delivered ys b ≡ out (Err NoSuch) b)
 unfolding delivered
 fills ys b = by_test (leb (length ys) (length b)) (λ e. inl (rw e)) (λ e. inr (rw e))
 
@@ -53,7 +54,7 @@ module _ (F : Form) (xs : List ℕ) (wide : 0 < F.width) where
   bads : ℕ → Bool
   bads i = meaningless (said_at F xs i)
 
-  pub bad_given : (b : List ℕ) (p : ℕ) → FirstBad F xs p → reading F xs b ≡ out (Bad p) b
+  pub bad_given : (b : List ℕ) (p : ℕ) → FirstBad F xs p → reading F xs b ≡ out (Err (Bad p)) b
   unfolding reading first_meaningless bads
   bad_given b p w =
       let i = w.which in
@@ -77,7 +78,7 @@ module _ (F : Form) (xs : List ℕ) (wide : 0 < F.width) where
   unfolding first_meaningless bads
   none_bad h j l = no_meaning _ (first_least bads (whole F xs) j (omega (arith, in_whole j l)))
 
-  pub cut_given : (b : List ℕ) → Short F xs → reading F xs b ≡ out Cut b
+  pub cut_given : (b : List ℕ) → Short F xs → reading F xs b ≡ out (Err Cut) b
   unfolding reading first_meaningless bads
   cut_given b w =
       let none : NoneBelow bads (whole F xs) = λ j h. has_meaning (said_at F xs j) (w.sound j (whole_in j h)) in
@@ -85,26 +86,26 @@ module _ (F : Form) (xs : List ℕ) (wide : 0 < F.width) where
       rw (at, le-ltb (whole F xs) (whole F xs) (omega arith), ne_eqb (length xs % F.width) 0 w.over)
 
   -- .. and back: what each answer tells
-  pub bad_found : (b : List ℕ) (p : ℕ) → (reading F xs b).answer ≡ Bad p → FirstBad F xs p
+  pub bad_found : (b : List ℕ) (p : ℕ) → (reading F xs b).answer ≡ Err (Bad p) → FirstBad F xs p
   unfolding reading
   bad_found b p e =
       by_test (ltb (first_meaningless F xs) (whole F xs))
       (λ h.
-      let q : Bad (first_meaningless F xs * F.width) ≡ Bad p = rw h at e in
+      let q : Err (Bad (first_meaningless F xs * F.width)) ≡ Err (Bad p) = rw h at e in
       let place : first_meaningless F xs * F.width ≡ p = (cc) in
       rw (← place) (first_bad (ltb-true _ _ h)))
       (λ h. by_test (eqb (length xs % F.width) 0)
-      (λ d. let z : (delivered (tokens F xs) b).answer ≡ Bad p = rw (h, d) at e in
+      (λ d. let z : (delivered (tokens F xs) b).answer ≡ Err (Bad p) = rw (h, d) at e in
       ⊎_elim (λ f. never (cc)) (λ f. let g = answers f in never (cc)) (fills (tokens F xs) b))
-      (λ d. let q : Cut ≡ Bad p = rw (h, d) at e in never (cc)))
+      (λ d. let q : Err Cut ≡ Err (Bad p) = rw (h, d) at e in never (cc)))
 
-  pub cut_found : (b : List ℕ) → (reading F xs b).answer ≡ Cut → Short F xs
+  pub cut_found : (b : List ℕ) → (reading F xs b).answer ≡ Err Cut → Short F xs
   unfolding reading
   cut_found b e =
       by_test (ltb (first_meaningless F xs) (whole F xs))
-      (λ h. let q : Bad (first_meaningless F xs * F.width) ≡ Cut = rw h at e in never (cc))
+      (λ h. let q : Err (Bad (first_meaningless F xs * F.width)) ≡ Err Cut = rw h at e in never (cc))
       (λ h. by_test (eqb (length xs % F.width) 0)
-      (λ d. let z : (delivered (tokens F xs) b).answer ≡ Cut = rw (h, d) at e in
+      (λ d. let z : (delivered (tokens F xs) b).answer ≡ Err Cut = rw (h, d) at e in
       ⊎_elim (λ f. never (cc)) (λ f. let g = answers f in never (cc)) (fills (tokens F xs) b))
       (λ d. record { sound = none_bad (ltb-false _ _ h); over = eqb-false _ 0 d }))
 
@@ -113,7 +114,7 @@ module _ (F : Form) (ts : List ℕ) where
   lacks : ℕ → Bool
   lacks i = not (writable F (get_or ts i 0))
 
-  pub word_given : (b : List ℕ) (p : ℕ) → FirstUnwritable F ts p → writing F ts b ≡ out (Bad p) b
+  pub word_given : (b : List ℕ) (p : ℕ) → FirstUnwritable F ts p → writing F ts b ≡ out (Err (Bad p)) b
   unfolding writing first_unwritable lacks
   word_given b p w =
       let none : NoneBelow lacks p = λ j h. ap not (w.before j h) in
@@ -129,23 +130,23 @@ module _ (F : Form) (ts : List ℕ) where
         before = λ j l. not-false _ (first_least lacks (length ts) j l);
       }
 
-  pub word_found : (b : List ℕ) (p : ℕ) → (writing F ts b).answer ≡ Bad p → FirstUnwritable F ts p
+  pub word_found : (b : List ℕ) (p : ℕ) → (writing F ts b).answer ≡ Err (Bad p) → FirstUnwritable F ts p
   unfolding writing
   word_found b p e =
       by_test (ltb (first_unwritable F ts) (length ts))
       (λ h.
-      let q : Bad (first_unwritable F ts) ≡ Bad p = rw h at e in
+      let q : Err (Bad (first_unwritable F ts)) ≡ Err (Bad p) = rw h at e in
       let place : first_unwritable F ts ≡ p = (cc) in
       rw (← place) (first_word (ltb-true _ _ h)))
-      (λ h. let z : (delivered (transitions F ts) b).answer ≡ Bad p = rw h at e in
+      (λ h. let z : (delivered (transitions F ts) b).answer ≡ Err (Bad p) = rw h at e in
       ⊎_elim (λ f. never (cc)) (λ f. let g = answers f in never (cc)) (fills (transitions F ts) b))
 
--- What is not Filled leaves the buffer as it was
-delivered_keeps : (ys b : List ℕ) → ((n : ℕ) → (delivered ys b).answer ≡ Filled n → ⊥) → (delivered ys b).buffer ≡ b
+-- A refusal leaves the buffer as it was
+delivered_keeps : (ys b : List ℕ) → ((n : ℕ) → (delivered ys b).answer ≡ Ok n → ⊥) → (delivered ys b).buffer ≡ b
 unfolding delivered
 delivered_keeps ys b h = by_test (leb (length ys) (length b)) (λ e. absurd (h (length ys) (rw e))) (λ e. rw e)
 
-pub read_keeps : (F : Form) (xs b : List ℕ) → ((n : ℕ) → (reading F xs b).answer ≡ Filled n → ⊥) → (reading F xs b).buffer ≡ b
+pub read_keeps : (F : Form) (xs b : List ℕ) → ((n : ℕ) → (reading F xs b).answer ≡ Ok n → ⊥) → (reading F xs b).buffer ≡ b
 unfolding reading
 read_keeps F xs b h =
     by_test (ltb (first_meaningless F xs) (whole F xs))
@@ -154,7 +155,7 @@ read_keeps F xs b h =
     (λ d. rw (e, d) (delivered_keeps (tokens F xs) b (λ n q. h n (rw (e, d) q))))
     (λ d. rw (e, d)))
 
-pub write_keeps : (F : Form) (ts b : List ℕ) → ((n : ℕ) → (writing F ts b).answer ≡ Filled n → ⊥) → (writing F ts b).buffer ≡ b
+pub write_keeps : (F : Form) (ts b : List ℕ) → ((n : ℕ) → (writing F ts b).answer ≡ Ok n → ⊥) → (writing F ts b).buffer ≡ b
 unfolding writing
 write_keeps F ts b h =
     by_test (ltb (first_unwritable F ts) (length ts))

@@ -1,5 +1,6 @@
 -- The laws of transitions.
 pub mod Tables
+pub mod Places
 pub mod Levels
 pub mod Lays
 pub mod Closings

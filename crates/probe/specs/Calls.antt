@@ -1,12 +1,12 @@
 -- The two calls over any form: "the first found from the front is given, NoSuch last, and all return no tokens and fill nothing" (document
 -- 02, Ask 8).
-use Rattle.std.specs.Prelude.{ℕ, ◌*◌, ◌%◌, List, ◌++◌, ltb, leb, eqb, length, drop}
+use Rattle.std.specs.Prelude.{ℕ, ◌*◌, ◌%◌, List, ◌++◌, ltb, leb, eqb, length, drop, Ok, Err}
 use Rattle.laws.specs.Pick.{pick}
 use Rattle.probe.specs.Form.{Form, transitions, first_unwritable, whole, tokens, first_meaningless}
 use Rattle.probe.specs.Serial.{serial}
 use Rattle.probe.specs.Fast.{fast}
-use Rattle.probe.specs.declared.answer.Answer.{Answer}
-use Rattle.probe.specs.declared.answer.Answer.TheVariants.{Filled, Bad, Cut, NoSuch}
+use Rattle.probe.specs.Answer.{Answer}
+use Rattle.probe.specs.declared.answer.Refusal.TheVariants.{Bad, Cut, NoSuch}
 use Rattle.probe.specs.declared.form.Mode.{Mode}
 use Rattle.probe.specs.declared.form.Mode.TheVariants.{Serial, Fast}
 
@@ -29,14 +29,14 @@ filled ys buffer = ys ++ drop (length ys) buffer
 
 unfoldable pub delivered : List ℕ → List ℕ → Out
 delivered ys buffer =
-    pick (leb (length ys) (length buffer)) (out (Filled (length ys)) (filled ys buffer)) (out NoSuch buffer)
+    pick (leb (length ys) (length buffer)) (out (Ok (length ys)) (filled ys buffer)) (out (Err NoSuch) buffer)
 
 unfoldable pub writing : Form → List ℕ → List ℕ → Out
 writing F ts buffer =
-    pick (ltb (first_unwritable F ts) (length ts)) (out (Bad (first_unwritable F ts)) buffer) (delivered (transitions F ts) buffer)
+    pick (ltb (first_unwritable F ts) (length ts)) (out (Err (Bad (first_unwritable F ts))) buffer) (delivered (transitions F ts) buffer)
 
 -- the place of a sequence is that of its first transition, counted from 0
 unfoldable pub reading : Form → List ℕ → List ℕ → Out
 reading F xs buffer =
-    pick (ltb (first_meaningless F xs) (whole F xs)) (out (Bad (first_meaningless F xs * F.width)) buffer)
-    (pick (eqb (length xs % F.width) 0) (delivered (tokens F xs) buffer) (out Cut buffer))
+    pick (ltb (first_meaningless F xs) (whole F xs)) (out (Err (Bad (first_meaningless F xs * F.width))) buffer)
+    (pick (eqb (length xs % F.width) 0) (delivered (tokens F xs) buffer) (out (Err Cut) buffer))

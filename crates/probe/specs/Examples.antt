@@ -1,6 +1,6 @@
 -- The worked examples of the papers and of the tables read off them, of the very definitions that the contracts cite: what is written, what
 -- is read, what is refused.
-use Rattle.std.specs.Prelude.{ℕ, ◌≡◌, List, [], ◌∷◌, replicate}
+use Rattle.std.specs.Prelude.{ℕ, ◌≡◌, List, [], ◌∷◌, replicate, Ok, Err}
 use Rattle.laws.specs.All.{Each}
 use Rattle.tokens.specs.Control.{end, pause, writec}
 use Rattle.tokens.specs.Word.{data_word, control_word, header_word, unit_word}
@@ -9,8 +9,8 @@ use Rattle.probe.specs.Form.{Form, transitions}
 use Rattle.probe.specs.Calls.{reading}
 use Rattle.probe.specs.Serial.{serial}
 use Rattle.probe.specs.Fast.{fast}
-use Rattle.probe.specs.declared.answer.Answer.{Answer}
-use Rattle.probe.specs.declared.answer.Answer.TheVariants.{Filled, Bad, Cut, NoSuch}
+use Rattle.probe.specs.Answer.{Answer}
+use Rattle.probe.specs.declared.answer.Refusal.TheVariants.{Bad, Cut, NoSuch}
 
 -- tokens are written as transitions; a capture is answered so, with a buffer of that many words
 pub data Example : Type 0 where
@@ -71,21 +71,21 @@ examples =
     ∷ Writes fast (nine ∷ hello ∷ credit8 ∷ credit16 ∷ credit64 ∷ ends ∷ [])
     (0 ∷ 2 ∷ 1 ∷ 4 ∷ 4 ∷ 2 ∷ 4 ∷ 2 ∷ 4 ∷ 0 ∷ 4 ∷ 0 ∷ 4 ∷ 3 ∷ 4 ∷ 3 ∷ 4 ∷ 1 ∷ 4 ∷ 1 ∷ 4 ∷ 4 ∷ 0 ∷ 1 ∷ 4 ∷ 3 ∷ 3 ∷ 2 ∷ [])
     -- sequences of no meaning: END by a single escape, a credit by one, two escapes apart, a wire that is not there
-    ∷ Reads fast (0 ∷ 0 ∷ 1 ∷ 4 ∷ []) 1 (Bad 0)
-    ∷ Reads fast (3 ∷ 3 ∷ 3 ∷ 3 ∷ 4 ∷ 2 ∷ 0 ∷ 0 ∷ []) 2 (Bad 4)
-    ∷ Reads fast (4 ∷ 3 ∷ 4 ∷ 4 ∷ []) 1 (Bad 0)
-    ∷ Reads fast (0 ∷ 0 ∷ 0 ∷ 5 ∷ []) 1 (Bad 0)
+    ∷ Reads fast (0 ∷ 0 ∷ 1 ∷ 4 ∷ []) 1 (Err (Bad 0))
+    ∷ Reads fast (3 ∷ 3 ∷ 3 ∷ 3 ∷ 4 ∷ 2 ∷ 0 ∷ 0 ∷ []) 2 (Err (Bad 4))
+    ∷ Reads fast (4 ∷ 3 ∷ 4 ∷ 4 ∷ []) 1 (Err (Bad 0))
+    ∷ Reads fast (0 ∷ 0 ∷ 0 ∷ 5 ∷ []) 1 (Err (Bad 0))
     -- bad parity
-    ∷ Reads serial (0 ∷ 0 ∷ 0 ∷ 0 ∷ 1 ∷ 0 ∷ 0 ∷ 1 ∷ 1 ∷ 0 ∷ []) 1 (Bad 0)
-    ∷ Reads serial (0 ∷ 0 ∷ 0 ∷ 0 ∷ 1 ∷ 0 ∷ 0 ∷ 1 ∷ 1 ∷ 1 ∷ 0 ∷ 0 ∷ 0 ∷ 0 ∷ 0 ∷ 0 ∷ 0 ∷ 1 ∷ 0 ∷ 0 ∷ []) 2 (Bad 10)
+    ∷ Reads serial (0 ∷ 0 ∷ 0 ∷ 0 ∷ 1 ∷ 0 ∷ 0 ∷ 1 ∷ 1 ∷ 0 ∷ []) 1 (Err (Bad 0))
+    ∷ Reads serial (0 ∷ 0 ∷ 0 ∷ 0 ∷ 1 ∷ 0 ∷ 0 ∷ 1 ∷ 1 ∷ 1 ∷ 0 ∷ 0 ∷ 0 ∷ 0 ∷ 0 ∷ 0 ∷ 0 ∷ 1 ∷ 0 ∷ 0 ∷ []) 2 (Err (Bad 10))
     -- short captures, whatever stands in what is left and whatever room there is
-    ∷ Reads fast (4 ∷ 4 ∷ 4 ∷ []) 1 Cut
-    ∷ Reads fast (0 ∷ 2 ∷ 1 ∷ 4 ∷ 4 ∷ 4 ∷ 0 ∷ 1 ∷ 4 ∷ 3 ∷ []) 4 Cut
-    ∷ Reads fast (0 ∷ 2 ∷ 1 ∷ 4 ∷ 4 ∷ 4 ∷ 0 ∷ []) 0 Cut
-    ∷ Reads serial (0 ∷ 0 ∷ 0 ∷ 0 ∷ 2 ∷ []) 1 Cut
+    ∷ Reads fast (4 ∷ 4 ∷ 4 ∷ []) 1 (Err Cut)
+    ∷ Reads fast (0 ∷ 2 ∷ 1 ∷ 4 ∷ 4 ∷ 4 ∷ 0 ∷ 1 ∷ 4 ∷ 3 ∷ []) 4 (Err Cut)
+    ∷ Reads fast (0 ∷ 2 ∷ 1 ∷ 4 ∷ 4 ∷ 4 ∷ 0 ∷ []) 0 (Err Cut)
+    ∷ Reads serial (0 ∷ 0 ∷ 0 ∷ 0 ∷ 2 ∷ []) 1 (Err Cut)
     -- no room for the whole, which is one token: the return is passed over
-    ∷ Reads fast (4 ∷ 4 ∷ 0 ∷ 1 ∷ 4 ∷ 3 ∷ 3 ∷ 2 ∷ []) 0 NoSuch
-    ∷ Reads fast (4 ∷ 4 ∷ 0 ∷ 1 ∷ 4 ∷ 3 ∷ 3 ∷ 2 ∷ []) 1 (Filled 1)
+    ∷ Reads fast (4 ∷ 4 ∷ 0 ∷ 1 ∷ 4 ∷ 3 ∷ 3 ∷ 2 ∷ []) 0 (Err NoSuch)
+    ∷ Reads fast (4 ∷ 4 ∷ 0 ∷ 1 ∷ 4 ∷ 3 ∷ 3 ∷ 2 ∷ []) 1 (Ok 1)
     ∷ []
 
 abbrev pub AllHold : Type 0

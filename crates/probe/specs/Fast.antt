@@ -1,5 +1,5 @@
 -- "The fast XMOS link": four symbols a sequence, a value by a transition on wire 0 to 3, an escape by one on wire 4 (002, 4.3).
-use Rattle.std.specs.Prelude.{ℕ, zero, suc, ◌+◌, ◌-◌, ◌/◌, Bool, true, false, ◌&&◌, ◌||◌, List, [], ◌∷◌, ◌++◌, ltb, leb, eqb, get_or}
+use Rattle.std.specs.Prelude.{ℕ, zero, suc, ◌+◌, ◌-◌, ◌/◌, ◌≡◌, refl, Bool, true, false, ◌&&◌, ◌||◌, List, [], ◌∷◌, ◌++◌, ltb, leb, eqb, get_or}
 use Rattle.laws.specs.Pick.{pick}
 use Rattle.laws.specs.All.{all, first}
 use Rattle.laws.specs.Row.{tab}
@@ -133,3 +133,7 @@ fast_says q =
 -- every token but the returns, which would not be read back
 unfoldable pub fast : Form
 fast = record { width = 4; writes = λ t. ltb t (control_word first_return); one = fast_one; says = fast_says }
+
+pub fast_width : 4 ≡ fast.width
+unfolding fast
+fast_width = refl

@@ -2,7 +2,7 @@
 -- bit first. The ninth transition signals whether this is a control or data token. A transition on 1 signals a control-token, a transition
 -- on 0 signals a data-token. The final transition causes both wires to go back to low state." (002, 4.2) "The final bit is an even parity
 -- bit that causes both wires to go back to low state when transmitted." (000, 3.1.1)
-use Rattle.std.specs.Prelude.{ℕ, ◌+◌, ◌*◌, ◌/◌, ◌%◌, true, ◌&&◌, List, [], ◌∷◌, ◌++◌, ltb, eqb, get_or}
+use Rattle.std.specs.Prelude.{ℕ, ◌+◌, ◌*◌, ◌/◌, ◌%◌, ◌≡◌, refl, true, ◌&&◌, List, [], ◌∷◌, ◌++◌, ltb, eqb, get_or}
 use Rattle.laws.specs.Pick.{pick}
 use Rattle.laws.specs.All.{all}
 use Rattle.tokens.specs.Word.{value_of}
@@ -32,3 +32,7 @@ serial_says q =
 -- "The two signal wires are both at rest between tokens": what is written does not go by the wires
 unfoldable pub serial : Form
 serial = record { width = 10; writes = λ t. true; one = λ s t. serial_one t; says = serial_says }
+
+pub serial_width : 10 ≡ serial.width
+unfolding serial
+serial_width = refl

@@ -1,13 +1,11 @@
-// What the two calls answer. A refusal leaves the buffer as it was.
+// What the two calls answer: so many words of the buffer were filled, or a refusal, which leaves the buffer as it was.
 ghost use Rattle.std.specs.Prelude.{◌≡◌};
 ghost use Rattle.probe.specs.Answer.{answer_number, answer_value};
 
 use names::no::NO_SUCH;
 
 #[derive(Clone, Copy)]
-pub enum Answer {
-    // so many words of the buffer were filled
-    Filled(usize),
+pub enum Refusal {
     // the word or the sequence at this place has no form or no meaning
     Bad(usize),
     // the capture ends within a sequence
@@ -21,25 +19,24 @@ pub const BAD: u8 = 14;
 
 pub const CUT: u8 = 15;
 
-pub fn number(a: Answer) -> u8
-    ensures { result ≡ answer_number a }
+pub fn number(answer: Result<usize, Refusal>) -> u8
+    ensures { result ≡ answer_number answer }
 {
-    match a {
-        Answer::Filled(_) => 0,
-        Answer::Bad(_) => BAD,
-        Answer::Cut => CUT,
-        Answer::NoSuch => NO_SUCH,
+    match answer {
+        Ok(_) => 0,
+        Err(Refusal::Bad(_)) => BAD,
+        Err(Refusal::Cut) => CUT,
+        Err(Refusal::NoSuch) => NO_SUCH,
     }
 }
 
 // The count or the place that an answer bears.
-pub fn bears(a: Answer) -> usize
-    ensures { result ≡ answer_value a }
+pub fn bears(answer: Result<usize, Refusal>) -> usize
+    ensures { result ≡ answer_value answer }
 {
-    match a {
-        Answer::Filled(n) => n,
-        Answer::Bad(place) => place,
-        Answer::Cut => 0,
-        Answer::NoSuch => 0,
+    match answer {
+        Ok(count) => count,
+        Err(Refusal::Bad(place)) => place,
+        Err(Refusal::Cut | Refusal::NoSuch) => 0,
     }
 }

@@ -1,22 +1,22 @@
 // The fast link (002, 4.3): four symbols a sequence, values by wires 0 to 3, the escape by wire 4.
-ghost use Rattle.std.specs.Prelude.{◌≡◌, true, false, [], ◌∷◌, ◌++◌, ◌+◌, ◌<◌, ◌≤◌, eqb, length, take};
-ghost use Rattle.laws.specs.Row.{row};
+ghost use Rattle.std.specs.Prelude.{◌≡◌, true, false, ◌++◌, ◌<◌, eqb, length};
 ghost use Rattle.probe.specs.Fast.{link_value, special, control_form, end_forms, pause_forms};
-ghost use Rattle.probe.specs.Fast.{return_forms, least_of, returned, closing, control_one, fast_one};
-ghost use Rattle.probe.specs.Fast.{control_said, row_says, symbols_say, fast_says};
+ghost use Rattle.probe.specs.Fast.{return_forms, least_of, returned, control_one, fast, fast_width};
+ghost use Rattle.probe.specs.Fast.{control_said, row_says, symbols_say};
 ghost use Rattle.probe.specs.Wires.{after};
-ghost use Rattle.probe.specs.Needs.{Lies, symbols_of, lowest_two, alone};
+ghost use Rattle.probe.specs.Needs.{place_in, lowest_two, alone};
+ghost use Rattle.std.proofs.Common.{lit<};
 
+use crate::form::Link;
 use crate::sequence::{Said, Sequence};
 use crate::wires::after;
+use arrayvec::ArrayVec;
 use tokens::control::{END, PAUSE};
 use tokens::word;
 use tokens::word::{of_control, value};
 
-pub const WIDTH: usize = 4;
-
 // The word of RTNZ0, the first return that has a control token's form.
-pub const FIRST_RETURN: u16 = 0x01FC;
+const FIRST_RETURN: u16 = 0x01FC;
 
 const ESCAPE: u8 = 4;
 
@@ -26,17 +26,17 @@ const LINK_LEVEL: [u8; 4] = [0xE0, 0xE1, 0xE6, 0xE4];
 // For each set of high data wires the two to change, 4 times the first and the second: the two lowest, or wire 0 twice.
 const PAIRS: [u8; 16] = [0, 0, 0, 1, 0, 2, 6, 1, 0, 3, 7, 1, 11, 2, 6, 1];
 
-// The v of escape v escape v, 4 where a control token is not of that kind.
+// The v of escape v escape v, where a control token is of that kind.
 #[tactic(auto, unfolding(laws::specs::All::first, crate::specs::Fast::link_value))]
-fn link_value(c: u8) -> u8
-    ensures { result ≡ link_value c }
+fn link_value(c: u8) -> Option<u8>
+    ensures { result ≡ place_in (link_value c) 4 }
 {
     match c {
-        0xE0 => 0,
-        0xE1 => 1,
-        0xE6 => 2,
-        0xE4 => 3,
-        _ => 4,
+        0xE0 => Some(0),
+        0xE1 => Some(1),
+        0xE6 => Some(2),
+        0xE4 => Some(3),
+        _ => None,
     }
 }
 
@@ -45,29 +45,13 @@ fn link_value(c: u8) -> u8
 fn special(c: u8) -> bool
     ensures { result ≡ special c }
 {
-    (c == END) | (c == PAUSE) | (link_value(c) < 4)
+    c == END || c == PAUSE || link_value(c).is_some()
 }
 
-// A sequence of the fast link.
-#[derive(Clone, Copy)]
-struct Four(u8, u8, u8, u8);
-
-fn single(f: Four) -> Sequence
-    ensures { Lies result (symbols_of f) }
+fn single(four: [u8; 4]) -> Sequence
+    ensures { result.items ≡ four }
 {
-    Sequence {
-        symbols: [f.0, f.1, f.2, f.3, 0, 0, 0, 0, 0, 0],
-        len: 4,
-    }
-}
-
-fn double(f: Four, g: Four) -> Sequence
-    ensures { Lies result (symbols_of f ++ symbols_of g) }
-{
-    Sequence {
-        symbols: [f.0, f.1, f.2, f.3, g.0, g.1, g.2, g.3, 0, 0],
-        len: 8,
-    }
+    ArrayVec::try_from(&four[..]).unwrap()
 }
 
 // The two data wires that END, PAUSE or NOPD changes, to leave as few high as can be.
@@ -78,84 +62,83 @@ fn pair(wires: u8) -> u8
     PAIRS[data]
 }
 
-// The data wire that is alone high beside wire 4, 4 where none is.
+// The data wire that is alone high beside wire 4.
 #[tactic(auto, unfolding(crate::specs::Needs::alone, laws::specs::All::first))]
-fn alone(wires: u8) -> u8
-    ensures { result ≡ alone wires }
+fn alone(wires: u8) -> Option<u8>
+    ensures { result ≡ place_in (alone wires) 4 }
 {
     match wires {
-        0x11 => 0,
-        0x12 => 1,
-        0x14 => 2,
-        0x18 => 3,
-        _ => 4,
+        0x11 => Some(0),
+        0x12 => Some(1),
+        0x14 => Some(2),
+        0x18 => Some(3),
+        _ => None,
     }
 }
 
 // RTNZ or NOPD, whichever brings more wires low.
 #[tactic(auto, using(crate::proofs::Closings::alone_least, crate::proofs::Closings::two_least))]
-fn returning(wires: u8) -> Four
+fn returning(wires: u8) -> [u8; 4]
     requires { wires < 32 }
-    ensures { symbols_of result ≡ least_of wires return_forms }
+    ensures { result ≡ least_of wires return_forms }
 {
-    let v = alone(wires);
-    if v < 4 {
-        return Four(ESCAPE, 3, 3, v);
+    if let Some(v) = alone(wires) {
+        return [ESCAPE, 3, 3, v];
     }
     let two = pair(wires);
-    Four(ESCAPE, two / 4, two % 4, ESCAPE)
+    [ESCAPE, two / 4, two % 4, ESCAPE]
 }
 
 #[tactic(auto, using(crate::proofs::Closings::end_least), unfolding(crate::proofs::Closings::end_of))]
-fn ending(wires: u8) -> Four
+fn ending(wires: u8) -> [u8; 4]
     requires { wires < 32 }
-    ensures { symbols_of result ≡ least_of wires end_forms }
+    ensures { result ≡ least_of wires end_forms }
 {
     let two = pair(wires);
-    Four(ESCAPE, ESCAPE, two / 4, two % 4)
+    [ESCAPE, ESCAPE, two / 4, two % 4]
 }
 
 #[tactic(auto, using(crate::proofs::Closings::pause_least), unfolding(crate::proofs::Closings::pause_of))]
-fn pausing(wires: u8) -> Four
+fn pausing(wires: u8) -> [u8; 4]
     requires { wires < 32 }
-    ensures { symbols_of result ≡ least_of wires pause_forms }
+    ensures { result ≡ least_of wires pause_forms }
 {
     let two = pair(wires);
-    Four(two / 4, two % 4, ESCAPE, ESCAPE)
+    [two / 4, two % 4, ESCAPE, ESCAPE]
 }
 
 // END or PAUSE, and the return that the wires need behind it.
-#[tactic(auto, using(crate::proofs::Levels::after_small, crate::proofs::Closings::returned_none, crate::proofs::Closings::returned_some))]
-fn closed(wires: u8, f: Four) -> Sequence
+#[tactic(auto, using(crate::proofs::Levels::after_small, crate::proofs::Closings::returned_some))]
+fn closed(wires: u8, four: [u8; 4]) -> Sequence
     requires { wires < 32 }
-    ensures { Lies result (symbols_of f ++ returned (after wires (symbols_of f))) }
+    ensures { result.items ≡ four ++ returned (after wires four) }
 {
-    let q = single(f);
-    let left = after(wires, q);
-    if left == 0 {
-        return q;
+    let mut sequence = single(four);
+    let left = after(wires, &four);
+    if left != 0 {
+        sequence.try_extend_from_slice(&returning(left)).unwrap();
     }
-    double(f, returning(left))
+    sequence
 }
 
 // A control token by a single escape, whose place tells the two top bits.
-fn escaped(c: u8) -> Four
-    ensures { symbols_of result ≡ control_form c }
+fn escaped(c: u8) -> [u8; 4]
+    ensures { result ≡ control_form c }
 {
     let x = c / 16 % 4;
     let y = c / 4 % 4;
     let z = c % 4;
     match c {
-        0x00..=0x3F => Four(x, y, z, ESCAPE),
-        0x40..=0x7F => Four(x, y, ESCAPE, z),
-        0x80..=0xBF => Four(x, ESCAPE, y, z),
-        0xC0..=0xFF => Four(ESCAPE, x, y, z),
+        0x00..=0x3F => [x, y, z, ESCAPE],
+        0x40..=0x7F => [x, y, ESCAPE, z],
+        0x80..=0xBF => [x, ESCAPE, y, z],
+        0xC0..=0xFF => [ESCAPE, x, y, z],
     }
 }
 
 fn control_one(wires: u8, c: u8) -> Sequence
     requires { wires < 32 }
-    ensures { Lies result (control_one wires c) }
+    ensures { result.items ≡ control_one wires c }
 {
     if c == END {
         return closed(wires, ending(wires));
@@ -163,24 +146,10 @@ fn control_one(wires: u8, c: u8) -> Sequence
     if c == PAUSE {
         return closed(wires, pausing(wires));
     }
-    let v = link_value(c);
-    if v < 4 {
-        return single(Four(ESCAPE, v, ESCAPE, v));
+    if let Some(v) = link_value(c) {
+        return single([ESCAPE, v, ESCAPE, v]);
     }
     single(escaped(c))
-}
-
-// A token from the wires' state.
-#[tactic(auto, unfolding(crate::specs::Fast::fast_one))]
-pub fn one(wires: u8, token: u16) -> Sequence
-    requires { wires < 32 }
-    ensures { Lies result (fast_one wires token) }
-{
-    let v = value(token);
-    if token < 0x0100 {
-        return single(Four(v / 64 % 4, v / 16 % 4, v / 4 % 4, v % 4));
-    }
-    control_one(wires, v)
 }
 
 // A control token that was told by a single escape.
@@ -285,19 +254,43 @@ fn symbols_say(a: u8, b: u8, c: u8, d: u8) -> Said
     two_values(a, b, c, d)
 }
 
-// What four transitions say.
-#[tactic(auto, using(crate::proofs::Fasts::each_wired, crate::proofs::Fasts::four_said, crate::proofs::Fasts::four_unsaid))]
-pub fn says(capture: &[u8], at: usize) -> Said
-    requires { at + 4 ≤ length capture.now }
-    ensures { result ≡ fast_says (row 4 at capture.now) }
-{
-    let a = capture[at];
-    let b = capture[at + 1];
-    let c = capture[at + 2];
-    let d = capture[at + 3];
-    let wired = (a < 5) & (b < 5) & (c < 5) & (d < 5);
-    if !wired {
-        return Said::Nothing;
+pub struct Fast;
+
+impl Link for Fast {
+    ghost form = { fast };
+
+    ghost WIDTH = { 4 };
+
+    ghost wide = { lit< tt };
+
+    ghost width_is = { fast_width };
+
+    const WIDTH: usize = 4;
+
+    #[tactic(auto, unfolding(crate::specs::Fast::fast))]
+    fn writes(token: u16) -> bool {
+        token < FIRST_RETURN
     }
-    symbols_say(a, b, c, d)
+
+    // A token from the wires' state.
+    #[tactic(auto, unfolding(crate::specs::Fast::fast, crate::specs::Fast::fast_one))]
+    fn one(wires: u8, token: u16) -> Sequence {
+        let v = value(token);
+        if token < 0x0100 {
+            return single([v / 64 % 4, v / 16 % 4, v / 4 % 4, v % 4]);
+        }
+        control_one(wires, v)
+    }
+
+    // What four transitions say.
+    #[tactic(auto, using(crate::proofs::Fasts::four_said), unfolding(crate::specs::Fast::fast))]
+    fn says(symbols: &[u8]) -> Said {
+        let &[a, b, c, d] = symbols else {
+            unreachable!()
+        };
+        if a > 4 || b > 4 || c > 4 || d > 4 {
+            return Said::Nothing;
+        }
+        symbols_say(a, b, c, d)
+    }
 }

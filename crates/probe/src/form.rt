@@ -1,64 +1,40 @@
-// The two forms of the physical layer behind one set of functions: what each has of its own is in serial and fast.
-ghost use Rattle.std.specs.Prelude.{◌≡◌, ◌+◌, ◌<◌, ◌≤◌, length};
-ghost use Rattle.laws.specs.Row.{row};
-ghost use Rattle.probe.specs.Form.{unmarked, writable};
-ghost use Rattle.probe.specs.Calls.{form_of};
-ghost use Rattle.probe.specs.Needs.{Lies};
+// What the serial and the fast link share: each is a form of the physical layer, and writing and reading go over any form.
+ghost use Rattle.std.specs.Prelude.{◌≡◌, ℕ, ◌<◌, length};
+ghost use Rattle.probe.specs.Form.{Form};
 
 use crate::sequence::{Said, Sequence};
-use crate::{fast, serial};
 
+// Which link the tokens cross.
 #[derive(Clone, Copy)]
 pub enum Mode {
     Serial,
     Fast,
 }
 
-// How many transitions a sequence has.
-#[tactic(auto, unfolding(crate::specs::Fast::fast, crate::specs::Serial::serial))]
-pub fn width(mode: Mode) -> usize
-    ensures { result ≡ (form_of mode).width }
-{
-    match mode {
-        Mode::Serial => serial::WIDTH,
-        Mode::Fast => fast::WIDTH,
-    }
-}
+pub trait Link {
+    ghost form: { Form };
 
-// A token's word can be written.
-#[tactic(auto, unfolding(crate::specs::Fast::fast, crate::specs::Serial::serial, crate::specs::Form::writable))]
-pub fn writable(mode: Mode, word: u16) -> bool
-    ensures { result ≡ writable (form_of mode) word }
-{
-    if word > 0x07FF {
-        return false;
-    }
-    match mode {
-        Mode::Serial => true,
-        Mode::Fast => word % 512 < fast::FIRST_RETURN,
-    }
-}
+    ghost WIDTH: { ℕ };
 
-// A token written from the wires' state.
-#[tactic(auto, unfolding(crate::specs::Fast::fast, crate::specs::Serial::serial))]
-pub fn one(mode: Mode, wires: u8, word: u16) -> Sequence
-    requires { wires < 32 }
-    ensures { Lies result ((form_of mode).one wires (unmarked word)) }
-{
-    match mode {
-        Mode::Serial => serial::one(word % 512),
-        Mode::Fast => fast::one(wires, word % 512),
-    }
-}
+    // How many transitions a sequence has.
+    const WIDTH: usize;
 
-// What the sequence that begins at a place says.
-#[tactic(auto, unfolding(crate::specs::Fast::fast, crate::specs::Serial::serial))]
-pub fn says(mode: Mode, capture: &[u8], at: usize) -> Said
-    requires { at + (form_of mode).width ≤ length capture.now }
-    ensures { result ≡ (form_of mode).says (row (form_of mode).width at capture.now) }
-{
-    match mode {
-        Mode::Serial => serial::says(capture, at),
-        Mode::Fast => fast::says(capture, at),
-    }
+    // A token can be written.
+    fn writes(token: u16) -> bool
+        ensures { result ≡ form.writes token };
+
+    // A token written from the wires' state.
+    fn one(wires: u8, token: u16) -> Sequence
+        requires { wires < 32 }
+        ensures { result.items ≡ form.one wires token };
+
+    // What a sequence says.
+    fn says(symbols: &[u8]) -> Said
+        requires { length symbols.now ≡ WIDTH }
+        ensures { result ≡ form.says symbols.now };
+
+    // A sequence has transitions.
+    ghost wide: { 0 < WIDTH };
+
+    ghost width_is: { WIDTH ≡ form.width };
 }

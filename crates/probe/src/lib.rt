@@ -15,41 +15,27 @@ pub mod writer;
 ghost use Rattle.std.specs.Prelude.{◌≡◌};
 ghost use Rattle.probe.specs.Calls.{form_of, out, writing, reading};
 
-use crate::answer::Answer;
+use crate::answer::Refusal;
+use crate::fast::Fast;
 use crate::form::Mode;
-use crate::reader::{Judged, judge, unload};
-use crate::writer::{Measured, fill, first_unwritable, measure};
+use crate::serial::Serial;
 
 // Tokens, oldest first, as transitions from all wires low.
-#[tactic(auto, using(crate::proofs::Writing::delivered_short, crate::proofs::Writing::delivered_whole, crate::proofs::Writing::measured_fits, crate::proofs::Writing::measured_over, crate::proofs::Writing::wrote, crate::proofs::Writing::wrote_bad))]
-pub fn write(mode: Mode, tokens: &[u16], buffer: &mut [u8]) -> Answer
+pub fn write(mode: Mode, tokens: &[u16], buffer: &mut [u8]) -> Result<usize, Refusal>
     ensures { out result buffer.new ≡ writing (form_of mode) tokens.now buffer.old }
 {
-    let bad = first_unwritable(mode, tokens);
-    if bad < tokens.len() {
-        return Answer::Bad(bad);
+    match mode {
+        Mode::Serial => writer::write::<Serial>(tokens, buffer),
+        Mode::Fast => writer::write::<Fast>(tokens, buffer),
     }
-    let Measured::Fits(n) = measure(mode, tokens, buffer.len()) else {
-        return Answer::NoSuch;
-    };
-    fill(mode, tokens, buffer);
-    Answer::Filled(n)
 }
 
 // A capture as tokens, without their header marks.
-#[tactic(auto, using(crate::proofs::Reading::whole_long))]
-pub fn read(mode: Mode, capture: &[u8], buffer: &mut [u16]) -> Answer
+pub fn read(mode: Mode, capture: &[u8], buffer: &mut [u16]) -> Result<usize, Refusal>
     ensures { out result buffer.new ≡ reading (form_of mode) capture.now buffer.old }
 {
-    match judge(mode, capture) {
-        Judged::Bad(place) => Answer::Bad(place),
-        Judged::Cut => Answer::Cut,
-        Judged::Whole(n) => {
-            if buffer.len() < n {
-                return Answer::NoSuch;
-            }
-            unload(mode, capture, buffer);
-            Answer::Filled(n)
-        }
+    match mode {
+        Mode::Serial => reader::read::<Serial>(capture, buffer),
+        Mode::Fast => reader::read::<Fast>(capture, buffer),
     }
 }

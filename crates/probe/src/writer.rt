@@ -1,83 +1,73 @@
 // Tokens to transitions: the first word that has no form, how many transitions there are, and these.
-ghost use Rattle.std.specs.Prelude.{◌≡◌, ◌+◌, ◌≤◌, length};
-ghost use Rattle.std.proofs.Math.Seq.{paste};
-ghost use Rattle.probe.specs.Form.{transitions, first_unwritable};
-ghost use Rattle.probe.specs.Calls.{form_of, filled};
-ghost use Rattle.probe.specs.Needs.{Room, measured};
+ghost use Rattle.std.specs.Prelude.{◌≡◌, ◌≤◌, length};
+ghost use Rattle.probe.specs.Form.{transitions, writable};
+ghost use Rattle.probe.specs.Calls.{filled, out, writing};
+ghost use Rattle.probe.specs.Needs.{unwritable, measured};
 
-use crate::form::{Mode, one, writable};
-use crate::sequence::Sequence;
+use crate::answer::Refusal;
+use crate::form::Link;
 use crate::wires::after;
 
-// The place of the first word that cannot be written; past the last where each can.
-#[tactic(auto, using(laws::proofs::All::none_more, crate::proofs::Writing::unwritable_here, crate::proofs::Writing::unwritable_none))]
-pub fn first_unwritable(mode: Mode, tokens: &[u16]) -> usize
-    ensures { result ≡ first_unwritable (form_of mode) tokens.now }
+// The lowest of the header marks, which are bits 9 and 10 of a word.
+const LOWEST_MARK: u16 = 512;
+
+// A token's word can be written.
+#[tactic(auto, unfolding(crate::specs::Form::writable))]
+pub fn writable<L: Link>(word: u16) -> bool
+    ensures { result ≡ writable L.form word }
 {
-    let mut i = 0;
-    while i < tokens.len() {
-        if !writable(mode, tokens[i]) {
-            return i;
-        }
-        i += 1;
-    }
-    i
+    word <= 0x07FF && L::writes(word % LOWEST_MARK)
 }
 
-// How many transitions tokens take.
-#[derive(Clone, Copy)]
-pub enum Measured {
-    Fits(usize),
-    // more than the most that was asked for
-    Over,
+// The place of the first word that cannot be written.
+pub fn first_unwritable<L: Link>(tokens: &[u16]) -> Option<usize>
+    ensures { result ≡ unwritable L.form tokens.now }
+{
+    tokens.iter().position(|word| !writable::<L>(*word))
 }
 
-#[tactic(auto, using(crate::proofs::Writing::all_measured, crate::proofs::Writing::upto_small))]
-pub fn measure(mode: Mode, tokens: &[u16], most: usize) -> Measured
-    ensures { result ≡ measured (length (transitions (form_of mode) tokens.now)) most }
+// How many transitions tokens take, where these are no more than the most that is asked for.
+pub fn measure<L: Link>(tokens: &[u16], most: usize) -> Option<usize>
+    ensures { result ≡ measured (length (transitions L.form tokens.now)) most }
 {
     let mut wires = 0;
-    let mut n: usize = 0;
-    let mut i = 0;
-    while i < tokens.len() {
-        let q = one(mode, wires, tokens[i]);
-        if most - n < q.len {
-            return Measured::Over;
+    let mut count: usize = 0;
+    for word in tokens {
+        let sequence = L::one(wires, *word % LOWEST_MARK);
+        if most - count < sequence.len() {
+            return None;
         }
-        n += q.len;
-        wires = after(wires, q);
-        i += 1;
+        count += sequence.len();
+        wires = after(wires, &sequence);
     }
-    Measured::Fits(n)
-}
-
-// Lays a sequence into a buffer.
-fn put(q: Sequence, buffer: &mut [u8], at: usize)
-    requires { Room q × (at + q.len ≤ length buffer.old) }
-    ensures { buffer.new ≡ paste buffer.old at q.symbols q.len }
-{
-    let symbols = q.symbols;
-    let mut i = 0;
-    while i < q.len {
-        buffer[at + i] = symbols[i];
-        i += 1;
-    }
+    Some(count)
 }
 
 // The transitions of tokens, for which the buffer has room.
-#[tactic(auto, using(crate::proofs::Lays::filled_long, crate::proofs::Writing::put_next, crate::proofs::Writing::upto_next, crate::proofs::Writing::upto_none, crate::proofs::Writing::upto_small, crate::proofs::Writing::written_grows, crate::proofs::Writing::written_none, crate::proofs::Writing::longer))]
-pub fn fill(mode: Mode, tokens: &[u16], buffer: &mut [u8])
-    requires { length (transitions (form_of mode) tokens.now) ≤ length buffer.old }
-    ensures { buffer.new ≡ filled (transitions (form_of mode) tokens.now) buffer.old }
+pub fn fill<L: Link>(tokens: &[u16], buffer: &mut [u8])
+    requires { length (transitions L.form tokens.now) ≤ length buffer.old }
+    ensures { buffer.new ≡ filled (transitions L.form tokens.now) buffer.old }
 {
     let mut wires = 0;
     let mut at: usize = 0;
-    let mut i = 0;
-    while i < tokens.len() {
-        let q = one(mode, wires, tokens[i]);
-        put(q, buffer, at);
-        at += q.len;
-        wires = after(wires, q);
-        i += 1;
+    for word in tokens {
+        let sequence = L::one(wires, *word % LOWEST_MARK);
+        let end = at + sequence.len();
+        buffer[at..end].copy_from_slice(&sequence);
+        wires = after(wires, &sequence);
+        at = end;
     }
+}
+
+// Tokens, oldest first, as transitions from all wires low.
+#[tactic(auto, using(crate::proofs::Writing::wrote_bad))]
+pub(crate) fn write<L: Link>(tokens: &[u16], buffer: &mut [u8]) -> Result<usize, Refusal>
+    ensures { out result buffer.new ≡ writing L.form tokens.now buffer.old }
+{
+    if let Some(place) = first_unwritable::<L>(tokens) {
+        return Err(Refusal::Bad(place));
+    }
+    let count = measure::<L>(tokens, buffer.len()).ok_or(Refusal::NoSuch)?;
+    fill::<L>(tokens, buffer);
+    Ok(count)
 }

@@ -1,19 +1,63 @@
 -- `probe::reader::judge` meets its contract: what the i-th sequence says is counted, and it has a meaning. Assumes nothing.
-use Rattle.std.proofs.Common.{◌≡◌, arith, ap, sym, ◌∙◌}
-use Rattle.laws.proofs.All.{none_more}
-use Rattle.probe.specs.Form.{meaningless, said_at}
-use Rattle.probe.specs.Calls.{form_of}
-use Rattle.probe.proofs.Reading.{is_said, gathered_more}
+use Rattle.std.proofs.Common.{arith, refl, sym, ◌∙◌, add-zero}
+use Rattle.std.specs.Iterator.Adapters.{enumerate_count}
+use Rattle.probe.proofs.Reading.{left_all, is_said, in_whole, is_whole, gathered_none, gathered_few, judging_more, judged_bad, judged_cut, judged_whole}
 use Rattle.probe.proofs.reader.judge.Goals as goal
 
+pub loop-i-init : goal.loop-i-init
+loop-i-init g c =
+    let items = c.enumerate-i-items.ensures in
+    let chunks = c.chunks_exact.ensures in
+    rw (c.into_iter-i-iterator.ensures.into_iter_gives, items.source, items.count) (record {
+      left = left_all g.L.Link.form c.args.capture.now _ _ (chunks.size ∙ c.WIDTH-width.ensures ∙ g.met.L.Link.width_is) chunks.rest;
+      count = rw gathered_none;
+      sound = λ j h. absurd (omega arith);
+    })
+
+pub overflow_add-count : goal.overflow_add-count
+overflow_add-count g c =
+    let steps = c.in-Some.ensures.steps in
+    let few = gathered_few g.L.Link.form c.args.capture.now (enumerate_count c.loop-i.i-iterator) in
+    omega (arith, few, c.loop-i.invariant.count, steps.1, steps.3)
+
+pub loop-i-preserved-in-Token : goal.loop-i-preserved-in-Token
+loop-i-preserved-in-Token g c =
+    let steps = c.in-Some.ensures.steps in
+    rw (steps.2, steps.0.0)
+    (judging_more g.L.Link.form c.args.capture.now _ _ _ _ _ _ c.loop-i.invariant steps.0.1.0 steps.0.1.1 _
+    (sym c.in-Token.is ∙ c.says.ensures) refl)
+
 pub loop-i-preserved : goal.loop-i-preserved
-loop-i-preserved c =
-    let a = c.args in
-    let F = form_of a.mode in
-    let l = c.loop-i in
-    let told : c.says-said.result ≡ said_at F a.capture.now l.i =
-    is_said F a.capture.now l.i c.width-k.result c.says-said.result c.width-k.ensures c.says-said.ensures in (
-      omega arith,
-      rw c.count-n.ensures (gathered_more F a.capture.now l.i l.n c.says-said.result l.invariant.1 told),
-      none_more _ l.i l.invariant.2 (ap meaningless (sym told) ∙ sym c.is_nothing.ensures ∙ c.if-is_nothing.false),
-    )
+loop-i-preserved g c =
+    let steps = c.in-Some.ensures.steps in
+    let more =
+    judging_more g.L.Link.form c.args.capture.now _ _ _ _ _ _ c.loop-i.invariant steps.0.1.0 steps.0.1.1 _
+    (sym c.in-Return.is ∙ c.says.ensures) refl in
+    rw (steps.2, steps.0.0) (rw add-zero at more)
+
+pub returns-in-Nothing : goal.returns-in-Nothing
+returns-in-Nothing g c =
+    let F = g.L.Link.form in
+    let steps = c.in-Some.ensures.steps in
+    let left = c.loop-i.invariant.left in
+    let here = is_said F c.args.capture.now _ _ _ left _ _ steps.0.1.0 steps.0.1.1 in
+    let wide = rw g.met.L.Link.width_is at g.met.L.Link.wide in
+    rw (steps.1, c.WIDTH-width.ensures, g.met.L.Link.width_is)
+    (judged_bad F c.args.capture.now _ c.loop-i.invariant.sound
+    (in_whole F c.args.capture.now _ _ _ left _ _ wide steps.0.1.0 steps.0.1.1) (sym here ∙ sym c.says.ensures ∙ c.in-Nothing.is))
+
+pub returns-then-capture-width-ne0 : goal.returns-then-capture-width-ne0
+returns-then-capture-width-ne0 g c =
+    let F = g.L.Link.form in
+    let wide = rw g.met.L.Link.width_is at g.met.L.Link.wide in
+    let all = is_whole F c.args.capture.now _ _ _ c.loop-i.invariant.left wide c.in-None.ensures.steps.0.1.0 in
+    judged_cut F c.args.capture.now _ c.loop-i.invariant.sound all
+    (rw (c.WIDTH-width.ensures, g.met.L.Link.width_is) at c.if-capture-width-ne0.true)
+
+pub returns : goal.returns
+returns g c =
+    let F = g.L.Link.form in
+    let wide = rw g.met.L.Link.width_is at g.met.L.Link.wide in
+    let all = is_whole F c.args.capture.now _ _ _ c.loop-i.invariant.left wide c.in-None.ensures.steps.0.1.0 in
+    judged_whole F c.args.capture.now _ c.loop-i.invariant.sound all _ c.loop-i.invariant.count
+    (rw (c.WIDTH-width.ensures, g.met.L.Link.width_is) at c.if-capture-width-ne0.false)

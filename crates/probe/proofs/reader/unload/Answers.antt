@@ -1,24 +1,48 @@
 -- `probe::reader::unload` meets its contract: the buffer has room for what the i-th sequence says. Assumes nothing.
-use Rattle.std.proofs.Common.{◌≡◌, ◌≤◌, ◌+◌, ◌/◌, length, arith, ap, refl, ◌∙◌}
-use Rattle.probe.specs.Form.{said_at, gathered, whole}
-use Rattle.probe.specs.Calls.{form_of}
-use Rattle.probe.proofs.Lays.{filled_long}
-use Rattle.probe.proofs.Reading.{is_whole, is_said, gathered_grows, gathered_more}
+use Rattle.std.proofs.Common.{◌≡◌, ◌+◌, [], ◌∷◌, ◌++◌, length, length-append, sym, ◌∙◌}
+use Rattle.probe.proofs.Reading.{left_all, is_whole, gathered_none, no_token, has_room, unloading_token, unloading_none}
 use Rattle.probe.proofs.reader.unload.Goals as goal
 
-pub lay-at-requires : goal.lay-at-requires
-lay-at-requires c =
-    let a = c.args in
-    let F = form_of a.mode in
-    let xs = a.capture.now in
-    let l = c.loop-i in
-    let k = c.width-k in
-    let told : c.says.result ≡ said_at F xs l.i = is_said F xs l.i k.result c.says.result k.ensures c.says.ensures in
-    let all : length xs / k.result ≡ whole F xs = is_whole F xs k.result (length xs / k.result) k.ensures refl in
-    let now : l.i ≤ whole F xs = rw (← all) l.invariant.0 in
-    let next : l.i + 1 ≤ whole F xs = rw (← all) (omega arith) in
-    let room : length (gathered F xs l.i) ≤ length a.buffer.now =
-    omega (arith, gathered_grows F xs (whole F xs) l.i now, c.requires) in
-    let still : length l.buffer ≡ length a.buffer.now = ap length l.invariant.2 ∙ filled_long (gathered F xs l.i) a.buffer.now room in
-    let more = gathered_more F xs l.i l.at c.says.result l.invariant.1 told in
-    omega (arith, more, gathered_grows F xs (whole F xs) (l.i + 1) next, c.requires, still)
+pub loop-symbols-init : goal.loop-symbols-init
+loop-symbols-init g c =
+    let chunks = c.chunks_exact-symbols-items.ensures in
+    rw (c.into_iter-symbols-iterator.ensures.into_iter_gives) (record {
+      left = left_all g.L.Link.form c.args.capture.now _ _ (chunks.size ∙ c.WIDTH.ensures ∙ g.met.L.Link.width_is) chunks.rest;
+      count = rw gathered_none;
+      laid = rw gathered_none;
+    })
+
+pub bounds-buffer-at : goal.bounds-buffer-at
+bounds-buffer-at g c =
+    let wide = rw g.met.L.Link.width_is at g.met.L.Link.wide in
+    let steps = c.in-Some.ensures.steps in
+    (has_room g.L.Link.form c.args.capture.now _ _ _ _ _ _ _ _ c.loop-symbols.invariant steps.1.0 steps.1.1 c.in-Token.word
+    (sym c.in-Token.is ∙ c.says.ensures) wide c.requires).0
+
+pub loop-symbols-preserved-in-Token : goal.loop-symbols-preserved-in-Token
+loop-symbols-preserved-in-Token g c =
+    let wide = rw g.met.L.Link.width_is at g.met.L.Link.wide in
+    let steps = c.in-Some.ensures.steps in
+    let more : length (c.loop-symbols.yielded ++ (c.in-Some.symbols ∷ [])) ≡ length c.loop-symbols.yielded + 1 = length-append _ _ in
+    let said = sym c.in-Token.is ∙ c.says.ensures in
+    let room =
+    has_room g.L.Link.form c.args.capture.now _ _ _ _ _ _ _ _ c.loop-symbols.invariant steps.1.0 steps.1.1 c.in-Token.word said wide
+    c.requires in
+    rw (more, steps.0)
+    (unloading_token g.L.Link.form c.args.capture.now _ _ _ _ _ _ _ _ c.loop-symbols.invariant steps.1.0 steps.1.1 c.in-Token.word said
+    room.1)
+
+pub loop-symbols-preserved : goal.loop-symbols-preserved
+loop-symbols-preserved g c =
+    let steps = c.in-Some.ensures.steps in
+    let more : length (c.loop-symbols.yielded ++ (c.in-Some.symbols ∷ [])) ≡ length c.loop-symbols.yielded + 1 = length-append _ _ in
+    let none = no_token _ c.in_default.not-Token in
+    rw (more, steps.0)
+    (unloading_none g.L.Link.form c.args.capture.now _ _ _ _ _ _ _ _ c.loop-symbols.invariant steps.1.0 steps.1.1 (rw (← c.says.ensures) none))
+
+pub returns : goal.returns
+returns g c =
+    let wide = rw g.met.L.Link.width_is at g.met.L.Link.wide in
+    let u = c.loop-symbols.invariant in
+    let all = is_whole g.L.Link.form c.args.capture.now _ _ _ u.left wide c.in-None.ensures.steps.1.0 in
+    rw (← all) u.laid
