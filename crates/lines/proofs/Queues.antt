@@ -21,6 +21,4 @@ module _ (c : Counters) (m : List ℕ) where
   -- a store into one line's stretch leaves every other line's
   pub other_line : (n l n' l' j v : ℕ) → l < links → l' < links → j < line_capacity → Off n l n' l'
       → on_line c (set m (line_place n l + j) v) (line_place n' l') ≡ on_line c m (line_place n' l')
-  other_line n l n' l' j v h h' b o =
-      Stretches.elsewhere line_capacity c m (line_place n' l') (line_place n l) line_capacity j v b
-      (Stretches.places_apart links n l n' l' h h' line_capacity o)
+  other_line = Stretches.other_queue links line_capacity c m

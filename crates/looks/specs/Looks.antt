@@ -3,8 +3,9 @@ use Rattle.std.specs.Prelude.{ℕ, ◌+◌, ◌*◌, ◌/◌, ◌%◌, ◌&&◌,
 use Rattle.laws.specs.Pick.{pick}
 use Rattle.names.specs.Size.{links, ports, end_buffer}
 use Rattle.ports.specs.Queue.{capacity}
-use Rattle.ports.specs.Memory.{place, stretch}
-use Rattle.lines.specs.Line.{line_capacity, line_place, word_on}
+use Rattle.ports.specs.Ring.{place}
+use Rattle.ports.specs.declared.Counters.{Counters}
+use Rattle.lines.specs.Line.{line_capacity}
 use Rattle.routing.specs.Direction.{entry_of}
 use Rattle.cells.specs.View.{Net}
 use Rattle.cells.specs.World.{World}
@@ -15,26 +16,22 @@ use Rattle.looks.specs.declared.Seen.TheVariants.{Token, Nothing}
 abbrev pub direction : Net → ℕ → ℕ → ℕ
 direction s n b = entry_of (s.own n 0).directions b
 
--- the i-th word of a ring that begins at h
-abbrev pub in_ring : List ℕ → ℕ → ℕ → ℕ
-in_ring s h i = get_or s ((h % capacity + i) % capacity) 0
+-- the i-th word of queue q of node n, oldest first, wherever in its ring it begins, if a memory that has `many` such queues for each node has
+-- that one and it holds so many
+unfoldable pub held_at : ℕ → ℕ → Counters → List ℕ → ℕ → ℕ → ℕ → Seen
+held_at many cap c m n q i =
+    pick
+    (ltb n (length m / (many * cap)) && (ltb q many && (ltb i c.held && ltb i cap)))
+    (Token (get_or m (place many cap n q + (c.head % cap + i) % cap) 0))
+    Nothing
 
 -- the i-th token held in port p of node n, oldest first, if the memory has that port and it holds so many
-unfoldable pub port_token : World → ℕ → ℕ → ℕ → Seen
-port_token w n p i =
-    pick
-    (ltb n (length w.memory / (ports * capacity)) && (ltb p ports && (ltb i (w.net.ports.counters n p).held && ltb i capacity)))
-    (Token (in_ring (stretch w.memory (place n p)) (w.net.ports.counters n p).head i))
-    Nothing
+abbrev pub port_token : World → ℕ → ℕ → ℕ → Seen
+port_token w n p i = held_at ports capacity (w.net.ports.counters n p) w.memory n p i
 
 -- the i-th on the line that starts at link l of node n, the first to arrive first, if the memory has that line and so many are on it
-unfoldable pub line_token : World → ℕ → ℕ → ℕ → Seen
-line_token w n l i =
-    let c = w.net.lines.rings n l in
-    pick
-    (ltb n (length w.line_memory / (links * line_capacity)) && (ltb l links && (ltb i c.held && ltb i line_capacity)))
-    (Token (word_on (record { head = c.head % line_capacity; held = 0 }) w.line_memory (line_place n l) i))
-    Nothing
+abbrev pub line_token : World → ℕ → ℕ → ℕ → Seen
+line_token w n l i = held_at links line_capacity (w.net.lines.rings n l) w.line_memory n l i
 
 -- the i-th token held in a channel-end, oldest first, if it holds so many
 unfoldable pub end_token : Net → ℕ → ℕ → ℕ → Seen

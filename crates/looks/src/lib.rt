@@ -4,18 +4,17 @@
 // network is quiet by crate sound (`is_quiet`).
 #![tactic(auto)]
 
-ghost use Rattle.std.specs.Prelude.{◌≡◌, ◌<◌, length};
-ghost use Rattle.ports.specs.Queue.{capacity};
+ghost use Rattle.std.specs.Prelude.{◌≡◌, ◌*◌, ◌^◌, ◌<◌};
+ghost use Rattle.ports.specs.Ring.{Serves};
 ghost use Rattle.cells.specs.View.{view};
 ghost use Rattle.cells.specs.World.{world, lined};
-ghost use Rattle.looks.specs.Looks.{direction, in_ring, port_token, line_token, end_token};
+ghost use Rattle.looks.specs.Looks.{direction, held_at, port_token, line_token, end_token};
 
-use cells::layout::{LINE_WORDS, TOKEN_WORDS};
 use cells::{end, line, node, port};
-use lines::{CAPACITY, word_on};
+use lines::CAPACITY;
 use names::Slot;
 use names::size::{END_BUFFER, LINKS, PORTS};
-use ports::{Counters, stretch};
+use ports::{Counters, Queues};
 
 // What a look at a token finds: its word.
 #[derive(Clone, Copy)]
@@ -33,60 +32,52 @@ pub fn direction_of(st: &[u32], slot: Slot, bit: u32) -> u32
     d.entry(bit)
 }
 
-// A word of a ring, from wherever it begins.
-fn in_ring(stretch: &[u16], head: u32, i: u32) -> u16
-    requires { (length stretch.now ≡ capacity) × (i < capacity) }
-    ensures { result ≡ in_ring stretch.now head i }
+// The i-th word of a queue, oldest first, wherever in its ring it begins: of a memory that has MANY
+// queues of N words for each node.
+#[tactic(auto, using(laws::proofs::All::and_false, ports::proofs::Stretches::reaches), unfolding(crate::specs::Looks::held_at))]
+fn held_at<const MANY: usize, const N: u32>(
+    c: Counters,
+    memory: &[u16],
+    slot: Slot,
+    queue: usize,
+    i: u32,
+) -> Seen
+    requires { (0 < MANY) × (MANY * N < 2 ^ 64) × Serves N }
+    ensures { result ≡ held_at MANY N c memory.now slot.0 queue i }
 {
-    let at = (head % Counters::CAPACITY + i) % Counters::CAPACITY;
-    let k = at as usize;
-    stretch[k]
+    if slot.0 >= memory.len() / (MANY * N as usize) {
+        return Seen::Nothing;
+    }
+    if queue >= MANY {
+        return Seen::Nothing;
+    }
+    if i >= c.held {
+        return Seen::Nothing;
+    }
+    if i >= N {
+        return Seen::Nothing;
+    }
+    let from = Counters {
+        head: c.head % N,
+        held: 0,
+    };
+    Seen::Token(Queues::<MANY, N>::word(from, memory, slot, queue, i) as u32)
 }
 
 // The i-th token held in a port, oldest first.
-#[tactic(auto, using(laws::proofs::All::and_false, laws::proofs::Row::row_long), unfolding(crate::specs::Looks::port_token))]
 pub fn port_token(st: &[u32], mem: &[u16], slot: Slot, p: usize, i: u32) -> Seen
     ensures { result ≡ port_token (world st.now mem.now) slot.0 p i }
 {
     let k = port::at(st, slot, p);
-    if slot.0 >= mem.len() / TOKEN_WORDS {
-        return Seen::Nothing;
-    }
-    if p >= PORTS {
-        return Seen::Nothing;
-    }
-    if i >= k.counters.held {
-        return Seen::Nothing;
-    }
-    if i >= Counters::CAPACITY {
-        return Seen::Nothing;
-    }
-    Seen::Token(in_ring(stretch(mem, slot, p), k.counters.head, i) as u32)
+    held_at::<PORTS, { Counters::CAPACITY }>(k.counters, mem, slot, p, i)
 }
 
 // The i-th on the line that starts at a link, the first to arrive first.
-#[tactic(auto, using(laws::proofs::All::and_false), unfolding(crate::specs::Looks::line_token))]
 pub fn line_token(st: &[u32], ls: &[u16], slot: Slot, l: usize, i: u32) -> Seen
     ensures { result ≡ line_token (lined st.now ls.now) slot.0 l i }
 {
     let k = line::at(st, slot, l);
-    if slot.0 >= ls.len() / LINE_WORDS {
-        return Seen::Nothing;
-    }
-    if l >= LINKS {
-        return Seen::Nothing;
-    }
-    if i >= k.ring.held {
-        return Seen::Nothing;
-    }
-    if i >= CAPACITY {
-        return Seen::Nothing;
-    }
-    let from = Counters {
-        head: k.ring.head % CAPACITY,
-        held: 0,
-    };
-    Seen::Token(word_on(from, ls, slot, l, i) as u32)
+    held_at::<LINKS, CAPACITY>(k.ring, ls, slot, l, i)
 }
 
 // The i-th token held in a channel-end, oldest first.

@@ -23,7 +23,7 @@ use Rattle.tokens.specs.declared.header.Target.TheVariants as T
 use Rattle.tokens.proofs.Channels.{legal_channel_lem}
 use Rattle.ports.specs.Queue.{capacity, ring}
 use Rattle.ports.specs.Memory.{place, stretch}
-use Rattle.ports.proofs.Ports.{ring_start, ring_next}
+use Rattle.ports.proofs.Rings.{ring_start, ring_next}
 use Rattle.grammar.specs.Stage.{next_stage, is_bad}
 use Rattle.grammar.specs.Walk.{walk}
 use Rattle.grammar.specs.declared.stage.Stage.TheVariants.{Fresh, TwoDue, LastDue}
@@ -117,10 +117,10 @@ module _ (w : World) (n p : ℕ) where
       let k = (w.net.ports.counters n p).held in
       let at : (i : ℕ) → get_or m ((b + i) % capacity) 0 ≡ word_at w n p i =
       λ i. row_at capacity (place n p) ((b + i) % capacity) w.memory 0 (omega arith) in
-      sym (ring_start m b k)
-      ∙ ring_next m b k 0 (omega arith)
-      ∙ ap (λ (q : List ℕ). get_or m ((b + 0) % capacity) 0 ∷ q) (ring_next m b k 1 (omega arith)
-      ∙ ap (λ (q : List ℕ). get_or m ((b + 1) % capacity) 0 ∷ q) (ring_next m b k 2 (omega arith)))
+      sym (ring_start capacity m b k)
+      ∙ ring_next capacity m b k 0 (omega arith)
+      ∙ ap (λ (q : List ℕ). get_or m ((b + 0) % capacity) 0 ∷ q) (ring_next capacity m b k 1 (omega arith)
+      ∙ ap (λ (q : List ℕ). get_or m ((b + 1) % capacity) 0 ∷ q) (ring_next capacity m b k 2 (omega arith)))
       ∙ rw (at 0, at 1, at 2)
 
 module _ (w : World) (s : sound w ≡ true) (n p : ℕ) (hn : n < w.net.nodes) (hp : p < ports) where
