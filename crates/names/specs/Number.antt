@@ -1,18 +1,16 @@
 -- A node's number, from a wide value and in bytes.
-use Rattle.std.specs.Prelude.{ℕ, ◌+◌, ◌*◌, ◌/◌, ◌%◌, Bool, true, false, ltb}
+use Rattle.std.specs.Prelude.{ℕ, ◌+◌, ◌*◌, ◌/◌, ◌%◌, Bool, true, false, ltb, Option, Some, None}
 use Rattle.laws.specs.Pick.{pick}
 use Rattle.names.specs.Size.{numbers}
 use Rattle.names.specs.declared.NodeNumber.{NodeNumber}
-use Rattle.names.specs.declared.Ranged.{Ranged}
-use Rattle.names.specs.declared.Ranged.TheVariants.{Number, OutOfRange}
 
 -- a wide value as a number, if it is one
-abbrev pub ranged : ℕ → Ranged
-ranged v = pick (ltb v numbers) (Number (record { 0 = v })) OutOfRange
+abbrev pub ranged : ℕ → Option NodeNumber
+ranged v = pick (ltb v numbers) (Some (record { 0 = v })) None
 
-abbrev pub is_ranged : Ranged → Bool
-is_ranged (Number n) = true
-is_ranged OutOfRange = false
+abbrev pub is_ranged : Option NodeNumber → Bool
+is_ranged (Some n) = true
+is_ranged None = false
 
 abbrev pub is_number : ℕ → Bool
 is_number v = is_ranged (ranged v)

@@ -8,8 +8,6 @@ pub mod size;
 ghost use Rattle.std.specs.Prelude.{◌≡◌};
 ghost use Rattle.names.specs.Number.{ranged, is_number, of_bytes, high_byte, low_byte};
 
-use crate::size::NUMBERS;
-
 // A node's place in the bench's table. As the argument of a call it may be any number: a slot that
 // is not there is NoSuch.
 #[derive(Clone, Copy)]
@@ -19,40 +17,30 @@ pub struct Slot(pub usize);
 #[derive(Clone, Copy)]
 pub struct NodeNumber(pub u16);
 
-// A wide value that was asked for as a number.
-#[derive(Clone, Copy)]
-pub enum Ranged {
-    Number(NodeNumber),
-    OutOfRange,
-}
-
 impl NodeNumber {
     // A caller's value, which is a number as soon as it is known to be in range.
-    pub fn of(value: u32) -> Ranged
+    pub fn of(value: u32) -> Option<Self>
         ensures { result ≡ ranged value }
     {
-        if value < NUMBERS {
-            return Ranged::Number(Self(value as u16));
-        }
-        Ranged::OutOfRange
+        u16::try_from(value).ok().map(Self)
     }
 
     pub fn of_bytes(high: u8, low: u8) -> Self
         ensures { result ≡ of_bytes high low }
     {
-        Self(high as u16 * 256 + low as u16)
+        Self(u16::from_be_bytes([high, low]))
     }
 
     pub fn high(self) -> u8
         ensures { result ≡ high_byte self }
     {
-        (self.0 / 256) as u8
+        self.0.to_be_bytes()[0]
     }
 
     pub fn low(self) -> u8
         ensures { result ≡ low_byte self }
     {
-        (self.0 % 256) as u8
+        self.0.to_be_bytes()[1]
     }
 }
 
@@ -60,8 +48,5 @@ impl NodeNumber {
 pub fn is_number(value: u32) -> bool
     ensures { result ≡ is_number value }
 {
-    match NodeNumber::of(value) {
-        Ranged::Number(_) => true,
-        Ranged::OutOfRange => false,
-    }
+    NodeNumber::of(value).is_some()
 }
