@@ -1,5 +1,5 @@
 -- A node's number, from a wide value and in bytes.
-use Rattle.std.specs.Prelude.{ℕ, ◌+◌, ◌*◌, ◌/◌, ◌%◌, Bool, true, false, ltb, Option, Some, None}
+use Rattle.std.specs.Prelude.{ℕ, ◌+◌, ◌*◌, ◌/◌, ◌%◌, Bool, ltb, Option, Some, None, is_some}
 use Rattle.laws.specs.Pick.{pick}
 use Rattle.names.specs.Size.{numbers}
 use Rattle.names.specs.declared.NodeNumber.{NodeNumber}
@@ -8,12 +8,8 @@ use Rattle.names.specs.declared.NodeNumber.{NodeNumber}
 abbrev pub ranged : ℕ → Option NodeNumber
 ranged v = pick (ltb v numbers) (Some (record { 0 = v })) None
 
-abbrev pub is_ranged : Option NodeNumber → Bool
-is_ranged (Some n) = true
-is_ranged None = false
-
 abbrev pub is_number : ℕ → Bool
-is_number v = is_ranged (ranged v)
+is_number v = is_some (ranged v)
 
 -- "number high byte, number low byte"
 abbrev pub high_byte : NodeNumber → ℕ
