@@ -17,10 +17,8 @@ use Rattle.circuits.specs.declared.Hop.TheVariants as Hops
 use Rattle.circuits.specs.declared.Cause.TheVariants.{Split, NoRoute}
 use Rattle.tokens.specs.declared.header.Target.{Target}
 use Rattle.tokens.specs.declared.header.Target.TheVariants as Targets
-use Rattle.routing.specs.Way.{way_to}
+use Rattle.routing.specs.Way.{way_to, Way, ThisNode, OtherNode}
 use Rattle.routing.specs.Direction.{entry_of}
-use Rattle.routing.specs.declared.way.Way.{Way}
-use Rattle.routing.specs.declared.way.Way.TheVariants.{ThisNode, OtherNode}
 use Rattle.answers.specs.Answer.{answer_value}
 use Rattle.answers.specs.Rows.{Row, refusal}
 use Rattle.answers.specs.declared.Answer.{Answer}

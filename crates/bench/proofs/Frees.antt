@@ -22,9 +22,7 @@ use Rattle.tokens.specs.Word.{closes}
 use Rattle.tokens.specs.declared.header.Target.{Target}
 use Rattle.tokens.specs.declared.header.Target.TheVariants.{Channel, Unit}
 use Rattle.routing.specs.Direction.{entry_of}
-use Rattle.routing.specs.Way.{way_to}
-use Rattle.routing.specs.declared.way.Way.{Way}
-use Rattle.routing.specs.declared.way.Way.TheVariants.{ThisNode, OtherNode}
+use Rattle.routing.specs.Way.{way_to, Way, ThisNode, OtherNode}
 use Rattle.answers.specs.Rows.{refusal}
 use Rattle.cells.specs.View.{Net}
 use Rattle.cells.specs.World.{World, hop}

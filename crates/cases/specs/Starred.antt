@@ -2,8 +2,7 @@
 use Rattle.std.specs.Prelude.{◌≡◌, [], ◌∷◌, ℕ}
 use Rattle.credits.specs.Grant.{grant_of}
 use Rattle.names.specs.declared.NodeNumber.{NodeNumber}
-use Rattle.routing.specs.Way.{way_to}
-use Rattle.routing.specs.declared.way.Way.TheVariants.{ThisNode, OtherNode}
+use Rattle.routing.specs.Way.{way_to, ThisNode, OtherNode}
 use Rattle.tokens.specs.Header.{header_of, values}
 use Rattle.tokens.specs.declared.header.Target.TheVariants.{Channel}
 use Rattle.tokens.specs.declared.header.Width.TheVariants.{One, Three}

@@ -6,7 +6,7 @@ ghost use Rattle.std.specs.Prelude.{◌+◌, ◌≤◌};
 ghost use Rattle.ports.specs.Queue.{capacity};
 
 use names::NodeNumber;
-use routing::way::{Way, way_to};
+use routing::way::way_to;
 use std::io;
 use tokens::control::output_no;
 use tokens::header::{Header, Target, Width, make_header};
@@ -41,8 +41,8 @@ fn header(rt: &impl Print, label: &str, t: Target, w: Width) -> io::Result<()> {
 fn bit(rt: &impl Print, label: &str, number: u16, own: u16, w: Width) -> io::Result<()> {
     say(rt, label)?;
     match way_to(NodeNumber(number), NodeNumber(own), w) {
-        Way::ThisNode => say(rt, " none: this node")?,
-        Way::OtherNode(b) => {
+        None => say(rt, " none: this node")?,
+        Some(b) => {
             say(rt, " ")?;
             say_number(rt, b)?;
         }

@@ -20,9 +20,7 @@ use Rattle.tokens.specs.Header.{narrow, legal_target}
 use Rattle.tokens.specs.declared.header.Target.{Target}
 use Rattle.tokens.specs.declared.header.Target.TheVariants.{Channel, Unit}
 use Rattle.tokens.proofs.Headers.{narrow_made}
-use Rattle.routing.specs.Way.{way_to}
-use Rattle.routing.specs.declared.way.Way.{Way}
-use Rattle.routing.specs.declared.way.Way.TheVariants.{ThisNode, OtherNode}
+use Rattle.routing.specs.Way.{way_to, Way, ThisNode, OtherNode}
 use Rattle.ports.specs.Queue.{capacity}
 use Rattle.cells.specs.World.{World}
 use Rattle.clauses.specs.Counts.{tile_port}

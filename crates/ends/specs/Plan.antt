@@ -9,9 +9,7 @@ use Rattle.circuits.specs.declared.Peer.TheVariants as Peers
 use Rattle.tokens.specs.Header.{header_of, is_narrow}
 use Rattle.tokens.specs.declared.header.Target.{Target}
 use Rattle.tokens.specs.declared.header.Target.TheVariants.{Channel, Unit}
-use Rattle.routing.specs.Way.{way_to}
-use Rattle.routing.specs.declared.way.Way.{Way}
-use Rattle.routing.specs.declared.way.Way.TheVariants.{ThisNode, OtherNode}
+use Rattle.routing.specs.Way.{way_to, Way, ThisNode, OtherNode}
 use Rattle.ports.specs.Queue.{capacity}
 use Rattle.cells.specs.View.{Net, whole_port}
 use Rattle.cells.specs.declared.end.Aim.{Aim}

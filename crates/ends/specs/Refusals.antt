@@ -10,9 +10,7 @@ use Rattle.tokens.specs.Word.{is_pause}
 use Rattle.tokens.specs.Header.{narrow}
 use Rattle.tokens.specs.declared.header.Target.{Target}
 use Rattle.tokens.specs.declared.header.Target.TheVariants.{Channel, Unit}
-use Rattle.routing.specs.Way.{way_to}
-use Rattle.routing.specs.declared.way.Way.{Way}
-use Rattle.routing.specs.declared.way.Way.TheVariants.{ThisNode, OtherNode}
+use Rattle.routing.specs.Way.{way_to, Way, ThisNode, OtherNode}
 use Rattle.ports.specs.Queue.{capacity}
 use Rattle.cells.specs.View.{Net}
 use Rattle.acts.specs.Acts.{width_at, number_at}

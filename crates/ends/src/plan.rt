@@ -12,7 +12,7 @@ use clauses::pairs::taken;
 use names::Slot;
 use names::size::{FIRST_TILE_PORT, REPLY_PORT};
 use ports::Counters;
-use routing::way::{Way, way_to};
+use routing::way::way_to;
 use tokens::header::{Target, is_narrow, make_header};
 
 #[derive(Clone, Copy)]
@@ -79,8 +79,8 @@ fn target_plan(st: &[u32], slot: Slot, g: Target, word: u16) -> Plan
 {
     match g {
         Target::Channel(m, c) => match way_to(m, number_at(st, slot), width_at(st, slot)) {
-            Way::ThisNode => channel_plan(st, slot, c, word),
-            Way::OtherNode(_) => port_plan(st, slot),
+            None => channel_plan(st, slot, c, word),
+            Some(_) => port_plan(st, slot),
         },
         Target::Unit(_) => port_plan(st, slot),
     }

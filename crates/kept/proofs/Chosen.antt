@@ -19,9 +19,7 @@ use Rattle.tokens.specs.Header.{header_of, is_narrow, legal_target}
 use Rattle.tokens.specs.declared.header.Target.{Target}
 use Rattle.tokens.specs.declared.header.Target.TheVariants.{Channel, Unit}
 use Rattle.tokens.proofs.Channels.{legal_channel_lem}
-use Rattle.routing.specs.Way.{way_to}
-use Rattle.routing.specs.declared.way.Way.{Way}
-use Rattle.routing.specs.declared.way.Way.TheVariants.{ThisNode, OtherNode}
+use Rattle.routing.specs.Way.{way_to, Way, ThisNode, OtherNode}
 use Rattle.ports.specs.Queue.{capacity}
 use Rattle.cells.specs.World.{World}
 use Rattle.acts.specs.Acts.{width_at, number_at, channel_claimed, channel_full}

@@ -13,10 +13,8 @@ use Rattle.tokens.specs.declared.header.Width.{Width}
 use Rattle.tokens.specs.declared.header.Width.TheVariants.{One, Three}
 use Rattle.tokens.specs.declared.header.Target.{Target}
 use Rattle.tokens.specs.declared.header.Target.TheVariants.{Channel, Unit}
-use Rattle.routing.specs.Way.{way_to}
+use Rattle.routing.specs.Way.{way_to, Way, ThisNode, OtherNode}
 use Rattle.routing.specs.Direction.{entry_of}
-use Rattle.routing.specs.declared.way.Way.{Way}
-use Rattle.routing.specs.declared.way.Way.TheVariants.{ThisNode, OtherNode}
 use Rattle.cells.specs.View.{Net}
 use Rattle.cells.specs.World.{World, hop}
 use Rattle.clauses.specs.Cables.{enabled}

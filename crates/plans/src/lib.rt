@@ -21,7 +21,7 @@ use cells::{link, node, port, unit};
 use circuits::{Cause, Hop, hop_of};
 use names::Slot;
 use names::size::{LINKS, REPLY_PORT, TILE_LINKS};
-use routing::way::{Way, way_to};
+use routing::way::way_to;
 use tokens::header::Target;
 
 #[derive(Clone, Copy)]
@@ -98,12 +98,12 @@ fn here_plan(st: &[u32], slot: Slot, g: Target) -> Plan
     }
 }
 
-fn by_way(st: &[u32], slot: Slot, p: usize, g: Target, way: Way) -> Plan
+fn by_way(st: &[u32], slot: Slot, p: usize, g: Target, way: Option<u32>) -> Plan
     ensures { result ≡ step_by_way (view st.now) slot.0 p g way }
 {
     match way {
-        Way::ThisNode => here_plan(st, slot, g),
-        Way::OtherNode(b) => {
+        None => here_plan(st, slot, g),
+        Some(b) => {
             let k = node::at(st, slot);
             let d = k.directions;
             route_plan(st, slot, d.entry(b), network_at(st, slot, p))

@@ -10,8 +10,7 @@ use borrow.Author.Tests.{eq-eqb, ne_eqb}
 use Rattle.names.specs.declared.NodeNumber.{NodeNumber}
 use Rattle.tokens.specs.Header.{compared_bits, compared}
 use Rattle.tokens.specs.declared.header.Width.{Width}
-use Rattle.routing.specs.Way.{bit, highest, way_to}
-use Rattle.routing.specs.declared.way.Way.TheVariants.{ThisNode, OtherNode}
+use Rattle.routing.specs.Way.{bit, highest, way_to, ThisNode, OtherNode}
 
 -- a bit of the exclusive or
 xor_bit : (k a b : ℕ) → bit k (bit_xor a b) ≡ bit_xor (bit k a) (bit k b)

@@ -1,12 +1,20 @@
 -- "Compare the header's number with the node's own: sixteen bits at three-byte width, the low three at one-byte width. Take the
 -- highest differing bit, 15..0; none means this node." (document 01, "Routing")
-use Rattle.std.specs.Prelude.{ℕ, zero, suc, ◌/◌, ◌%◌, ◌^◌, eqb}
+use Rattle.std.specs.Prelude.{ℕ, zero, suc, ◌/◌, ◌%◌, ◌^◌, eqb, Option, Some, None}
 use Rattle.laws.specs.Pick.{pick}
 use Rattle.names.specs.declared.NodeNumber.{NodeNumber}
 use Rattle.tokens.specs.Header.{compared_bits}
 use Rattle.tokens.specs.declared.header.Width.{Width}
-use Rattle.routing.specs.declared.way.Way.{Way}
-use Rattle.routing.specs.declared.way.Way.TheVariants.{ThisNode, OtherNode}
+
+-- another node, and by which bit, or this node
+abbrev pub Way : Type 0
+Way = Option ℕ
+
+pattern abbrev pub ThisNode : Way
+ThisNode = None
+
+pattern abbrev pub OtherNode : ℕ → Way
+OtherNode k = Some k
 
 -- bit k of a number
 abbrev pub bit : ℕ → ℕ → ℕ

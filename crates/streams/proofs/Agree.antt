@@ -16,9 +16,7 @@ use Rattle.tokens.specs.Word.{closes, control_word}
 use Rattle.tokens.specs.Header.{header_of, is_narrow}
 use Rattle.tokens.specs.declared.header.Target.{Target}
 use Rattle.tokens.specs.declared.header.Target.TheVariants.{Channel, Unit}
-use Rattle.routing.specs.Way.{way_to}
-use Rattle.routing.specs.declared.way.Way.{Way}
-use Rattle.routing.specs.declared.way.Way.TheVariants.{ThisNode, OtherNode}
+use Rattle.routing.specs.Way.{way_to, Way, ThisNode, OtherNode}
 use Rattle.answers.specs.Rows.{refusal, Passes}
 use Rattle.answers.specs.declared.Answer.{Answer}
 use Rattle.answers.specs.declared.Answer.TheVariants as Answers

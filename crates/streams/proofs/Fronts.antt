@@ -19,8 +19,7 @@ use Rattle.tokens.specs.Shape as S
 use Rattle.tokens.specs.Header.{compared, compared_bits}
 use Rattle.tokens.specs.declared.header.Width.{Width}
 use Rattle.tokens.specs.declared.header.Width.TheVariants.{One, Three}
-use Rattle.routing.specs.Way.{bit, highest, way_to}
-use Rattle.routing.specs.declared.way.Way.TheVariants.{ThisNode, OtherNode}
+use Rattle.routing.specs.Way.{bit, highest, way_to, ThisNode, OtherNode}
 use Rattle.grammar.specs.Stage.{next_stage, is_bad}
 use Rattle.grammar.specs.Walk.{walk}
 use Rattle.grammar.specs.declared.stage.Stage.{Stage}

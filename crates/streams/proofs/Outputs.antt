@@ -24,8 +24,7 @@ use Rattle.tokens.specs.declared.header.Target.{Target}
 use Rattle.tokens.specs.declared.header.Target.TheVariants.{Channel, Unit}
 use Rattle.tokens.proofs.Words.{open_word, closing_word}
 use Rattle.tokens.proofs.Channels.{legal_channel_lem}
-use Rattle.routing.specs.Way.{way_to}
-use Rattle.routing.specs.declared.way.Way.TheVariants.{ThisNode}
+use Rattle.routing.specs.Way.{way_to, ThisNode}
 use Rattle.grammar.specs.declared.stage.Stage.TheVariants.{Fresh, Body}
 use Rattle.cells.specs.World.{World}
 use Rattle.acts.specs.Acts.{with_net, width_at, number_at, pushed, pushed_all, networked, until_closed, claimed_by, handed}

@@ -19,9 +19,7 @@ use Rattle.tokens.specs.Word.{closes, data_word, control_word}
 use Rattle.tokens.specs.declared.header.Width.{Width}
 use Rattle.tokens.specs.declared.header.Target.{Target}
 use Rattle.tokens.specs.declared.header.Target.TheVariants.{Channel, Unit}
-use Rattle.routing.specs.Way.{way_to}
-use Rattle.routing.specs.declared.way.Way.{Way}
-use Rattle.routing.specs.declared.way.Way.TheVariants.{ThisNode, OtherNode}
+use Rattle.routing.specs.Way.{way_to, Way, ThisNode, OtherNode}
 use Rattle.answers.specs.declared.Answer.{Answer}
 use Rattle.answers.specs.declared.Answer.TheVariants as Answers
 use Rattle.cells.specs.World.{World, far_of, hop}

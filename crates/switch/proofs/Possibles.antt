@@ -20,10 +20,8 @@ use Rattle.tokens.specs.declared.header.Width.{Width}
 use Rattle.tokens.specs.declared.header.Width.TheVariants as Widths
 use Rattle.tokens.specs.declared.header.Target.{Target}
 use Rattle.tokens.specs.declared.header.Target.TheVariants.{Channel, Unit}
-use Rattle.routing.specs.Way.{way_to}
+use Rattle.routing.specs.Way.{way_to, Way, ThisNode, OtherNode}
 use Rattle.routing.specs.Direction.{entry_of}
-use Rattle.routing.specs.declared.way.Way.{Way}
-use Rattle.routing.specs.declared.way.Way.TheVariants.{ThisNode, OtherNode}
 use Rattle.ports.specs.Queue.{capacity}
 use Rattle.ports.specs.Memory.{place}
 use Rattle.cells.specs.World.{World, hop}

@@ -4,7 +4,7 @@ use Rattle.std.proofs.Common.{◌≡◌, ℕ, ◌+◌, ◌-◌, ◌<◌, ◌≤�
 use Prim.Native.Nat.{suc, ◌^◌}
 use lib.Bits.{bit_xor, xor_lt}
 use lib.Count.{count_leading_zeros, leading_top}
-use Rattle.routing.specs.declared.way.Way.TheVariants.{OtherNode}
+use Rattle.routing.specs.Way.{OtherNode}
 use Rattle.routing.proofs.Highest.{found}
 use Rattle.routing.proofs.way.highest_differing.Goals as goal
 
