@@ -4,6 +4,7 @@ use mathlib.Core.Path.{◌≡◌, refl, sym, ap, ◌∙◌}
 use mathlib.Core.Bool.{true, false}
 use mathlib.Core.List.{List}
 use lib.Dec.{eqb}
+use Rattle.std.specs.Prelude.{Option, Some, None}
 use Rattle.laws.specs.All.{Means}
 use Rattle.names.specs.No as Names
 use Rattle.answers.specs.Answer.{number_of}
@@ -20,8 +21,6 @@ use Rattle.plans.specs.declared.Plan.{Plan}
 use Rattle.plans.specs.declared.Plan.TheVariants.{Idle, Wait, OpenOut, OpenChannel, OpenUnit, Refuse, MoveOut, Hand, Hear, Drop}
 use Rattle.switch.proofs.Stepped.{heard_answers}
 use Rattle.travel.specs.Travel.{line_came}
-use Rattle.travel.specs.declared.Came.{Came}
-use Rattle.travel.specs.declared.Came.TheVariants as Comes
 use Rattle.bench.specs.Calls.{came_answer}
 use Rattle.bench.specs.Calls.{Call, Begin, Wire, Set, Aim, Output, Input, Step, Line, Steps, rows, made, apply}
 
@@ -52,9 +51,9 @@ no_refusal w n p Hear = heard_answers (λ a. number_of a ≡ Names.passes) refl 
 no_refusal w n p (Drop x) = refl
 
 -- nor is a line step's
-no_refusal_came : (x : Came) → number_of (came_answer x) ≡ Names.passes
-no_refusal_came Comes.Idle = refl
-no_refusal_came (Comes.Moved g) = refl
+no_refusal_came : (x : Option ℕ) → number_of (came_answer x) ≡ Names.passes
+no_refusal_came None = refl
+no_refusal_came (Some g) = refl
 
 -- what a call makes is no refusal
 passing : (w : World) (c : Call) → number_of (made w c).answer ≡ Names.passes

@@ -27,9 +27,7 @@ use Rattle.answers.specs.declared.Answer.TheVariants.{OpenedUnit, Refused, Dropp
 use Rattle.credits.specs.Grant as Grant
 use Rattle.cells.specs.View.{Net}
 use Rattle.lines.specs.Load.{is_hello, credit_of}
-use Rattle.cells.specs.World.{World, far_of, hop}
-use Rattle.cells.specs.declared.link.Far.{Far}
-use Rattle.cells.specs.declared.link.Far.TheVariants.{Nowhere, At}
+use Rattle.cells.specs.World.{World, far_of, hop, Far, Nowhere, At}
 use Rattle.acts.specs.Acts.{width_at, number_at, word_at, channel_claimed, channel_full}
 use Rattle.settings.specs.declared.Setting.TheVariants as Settings
 use Rattle.plans.specs.Plan.{marked_width, size_of, same_width, target_at, network_at, lowest_tile, here_plan, number_in, step_by_way, way_plan}

@@ -18,8 +18,7 @@ use Rattle.names.specs.declared.Slot.{Slot}
 use Rattle.circuits.specs.declared.Hop.TheVariants.{Out}
 use Rattle.ports.specs.Queue.{capacity}
 use Rattle.grammar.specs.Walk.{threes, begins_one}
-use Rattle.cells.specs.World.{World, shaped, far_of, hop, queue}
-use Rattle.cells.specs.declared.link.Far.TheVariants.{At}
+use Rattle.cells.specs.World.{World, shaped, far_of, hop, queue, At}
 use Rattle.travel.specs.Travel.{load_from}
 use Rattle.settings.specs.declared.Setting.TheVariants.{Enable}
 use Rattle.fresh.specs.Fresh.{start_of}

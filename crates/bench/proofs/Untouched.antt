@@ -15,9 +15,7 @@ use Rattle.ports.specs.Queue.{take_counters}
 use Rattle.ports.specs.declared.Counters.{Counters}
 use Rattle.lines.specs.Load.{credit_word, is_hello, credit_of}
 use Rattle.cells.specs.View.{Net, with_counters, with_flow, with_ring, with_issued}
-use Rattle.cells.specs.World.{World, far_of}
-use Rattle.cells.specs.declared.link.Far.{Far}
-use Rattle.cells.specs.declared.link.Far.TheVariants.{Nowhere, At}
+use Rattle.cells.specs.World.{World, far_of, Far, Nowhere, At}
 use Rattle.cells.specs.declared.link.Flow.{Flow}
 use Rattle.acts.specs.Acts.{with_net, width_at, pushed, pushed_all, popped}
 use Rattle.travel.specs.Travel.{put_on, taken_off, first_on, grant_due, issued_more, grants_back, paid_one, sends_on, token_in, greets}

@@ -9,9 +9,7 @@ use Rattle.names.specs.declared.Slot.{Slot}
 use Rattle.answers.specs.Rows.{refusal}
 use Rattle.answers.specs.declared.Answer.{Answer}
 use Rattle.answers.specs.declared.Answer.TheVariants as A
-use Rattle.cells.specs.World.{World, far_of}
-use Rattle.cells.specs.declared.link.Far.{Far}
-use Rattle.cells.specs.declared.link.Far.TheVariants.{Nowhere, At}
+use Rattle.cells.specs.World.{World, far_of, Far, Nowhere, At}
 use Rattle.plans.specs.Plan.{step_plan}
 use Rattle.switch.specs.Step.{step_performed}
 use Rattle.plans.specs.declared.Plan.{Plan}

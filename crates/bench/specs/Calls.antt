@@ -1,6 +1,7 @@
 -- The published statement of every call: which rows refuse it, what it makes where none does, and `apply`, which is both. A contract of
 -- the bench is one equation with `apply`, for all arguments and any memories lent.
 use Rattle.std.specs.Prelude.{ℕ, not, List, [], ◌∷◌, eqb, length}
+use Rattle.std.specs.Prelude.{Option, Some, None}
 use Rattle.names.specs.No.{Unsound, NoSuch}
 use Rattle.names.specs.declared.Slot.{Slot}
 use Rattle.answers.specs.Rows.{Row, refused_if}
@@ -24,8 +25,6 @@ use Rattle.ends.specs.declared.Wanted.{Wanted}
 use Rattle.ends.specs.declared.aim.Goal.{Goal}
 use Rattle.switch.specs.Step.{step_rows, step_made}
 use Rattle.travel.specs.Travel.{line_came, line_stepped}
-use Rattle.travel.specs.declared.Came.{Came}
-use Rattle.travel.specs.declared.Came.TheVariants as Comes
 use Rattle.sound.specs.Sound.{sound}
 use Rattle.bench.specs.declared.StepRecord.{StepRecord}
 
@@ -66,9 +65,9 @@ results w [] = []
 results w (x ∷ xs) = (step_by w x).answer ∷ results (step_by w x).next xs
 
 -- A LINE STEP (document 02, Ask 4): "Moved, with any grant, or Idle"
-abbrev pub came_answer : Came → Answer
-came_answer Comes.Idle = Answers.Idle
-came_answer (Comes.Moved g) = Answers.Arrived g
+abbrev pub came_answer : Option ℕ → Answer
+came_answer None = Answers.Idle
+came_answer (Some g) = Answers.Arrived g
 
 abbrev pub line_rows : Net → ℕ → ℕ → List Row
 line_rows s n l = refused_if (not (link_at s n l)) NoSuch ∷ []

@@ -18,7 +18,6 @@ use names::no::{NO_SUCH, UNSOUND};
 use settings::Setting;
 use settings::wire::link_at;
 use sound::is_sound;
-use travel::Came;
 use travel::arrive::line_step;
 
 // A record of a list of steps, as a host lends it: the list's own call is crate host's, and what it means
@@ -132,7 +131,7 @@ pub fn line(st: &mut [u32], mem: &mut [u16], ls: &mut [u16], slot: Slot, l: usiz
         return Answer::No(NO_SUCH);
     }
     match line_step(st, mem, ls, slot, l) {
-        Came::Idle => Answer::Idle,
-        Came::Moved(granted) => Answer::Arrived(granted),
+        Some(granted) => Answer::Arrived(granted),
+        None => Answer::Idle,
     }
 }

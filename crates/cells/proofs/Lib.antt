@@ -4,3 +4,4 @@ pub mod Puts
 pub mod Alone
 pub mod Whole
 pub mod Zeros
+pub mod Fars

@@ -1,9 +1,10 @@
 -- What the definitions above take and give: the state as tables, the token memory, and the memory of lines (document 02, Ask 4). A contract
 -- speaks of the memories that its function is lent: of `world st mem` where no line is touched, of `lined st ls` where no port is, else of
 -- `lent st mem ls`. A memory that is not lent is none; definitions that do not touch it pass it through.
-use Rattle.std.specs.Prelude.{ℕ, ◌*◌, Bool, true, false, ◌&&◌, List, [], ◌∷◌, eqb, leb, length}
+use Rattle.std.specs.Prelude.{ℕ, ◌*◌, Bool, true, false, ◌&&◌, List, [], ◌∷◌, eqb, leb, length, Option, Some, None}
 use Rattle.laws.specs.Pick.{pick}
 use Rattle.names.specs.Size.{nodes, links, ports}
+use Rattle.names.specs.declared.Slot.{Slot}
 use Rattle.circuits.specs.Circuit.{hop_of}
 use Rattle.circuits.specs.declared.Hop.{Hop}
 use Rattle.ports.specs.Queue.{capacity}
@@ -11,8 +12,6 @@ use Rattle.ports.specs.Memory.{place, held}
 use Rattle.lines.specs.Line.{line_capacity, line_place, on_line}
 use Rattle.cells.specs.View.{Net, view}
 use Rattle.cells.specs.declared.link.Cable.{Cable}
-use Rattle.cells.specs.declared.link.Far.{Far}
-use Rattle.cells.specs.declared.link.Far.TheVariants.{Nowhere, At}
 
 pub record World : Type 0 where
   pub net : Net
@@ -29,7 +28,16 @@ world st mem = lent st mem []
 abbrev pub lined : List ℕ → List ℕ → World
 lined st ls = lent st [] ls
 
--- where a cable leads
+-- where a cable leads: to a link of a slot, or nowhere
+abbrev pub Far : Type 0
+Far = Option (Slot × ℕ)
+
+pattern abbrev pub Nowhere : Far
+Nowhere = None
+
+pattern abbrev pub At : Slot → ℕ → Far
+At m k = Some (m, k)
+
 abbrev pub far_of : Cable → Far
 far_of k = pick (eqb k.wired 1) (At (record { 0 = k.far_slot }) k.far_link) Nowhere
 

@@ -46,21 +46,14 @@ pub struct Link {
     pub user: Circuit,
 }
 
-// Where a cable leads.
-#[derive(Clone, Copy)]
-pub enum Far {
-    Nowhere,
-    At(Slot, usize),
-}
-
-// The far end of a cable.
-pub fn far_of(k: Cable) -> Far
+// The far end of a cable: a link of a slot, if it leads anywhere.
+pub fn far_of(k: Cable) -> Option<(Slot, usize)>
     ensures { result ≡ far_of k }
 {
     if k.wired == 1 {
-        return Far::At(Slot(k.far_slot as usize), k.far_link as usize);
+        return Some((Slot(k.far_slot as usize), k.far_link as usize));
     }
-    Far::Nowhere
+    None
 }
 
 // What stands where there is no such record.
@@ -143,7 +136,7 @@ pub fn at(st: &[u32], slot: Slot, l: usize) -> Link
 }
 
 // Where the cable of a link leads.
-pub fn far_at(st: &[u32], slot: Slot, l: usize) -> Far
+pub fn far_at(st: &[u32], slot: Slot, l: usize) -> Option<(Slot, usize)>
     ensures { result ≡ far_of ((view st.now).links.cables slot.0 l) }
 {
     let k = at(st, slot, l);

@@ -26,12 +26,10 @@ use Rattle.circuits.specs.declared.Peer.TheVariants as Peers
 use Rattle.circuits.specs.declared.Hop.{Hop}
 use Rattle.circuits.specs.declared.Hop.TheVariants as Hops
 use Rattle.cells.specs.View.{Net, view, whole_port}
-use Rattle.cells.specs.World.{far_of, hop}
+use Rattle.cells.specs.World.{far_of, hop, Far, Nowhere, At}
 use Rattle.cells.specs.declared.node.Node.{Node}
 use Rattle.cells.specs.declared.link.Link.{Link}
 use Rattle.cells.specs.declared.link.Cable.{Cable}
-use Rattle.cells.specs.declared.link.Far.{Far}
-use Rattle.cells.specs.declared.link.Far.TheVariants.{Nowhere, At}
 use Rattle.cells.specs.declared.port.Port.{Port}
 use Rattle.cells.specs.declared.tile.Tile.{Tile}
 use Rattle.cells.specs.declared.line.Line.{Line}
@@ -40,6 +38,7 @@ use Rattle.cells.specs.declared.end.End.{End}
 use Rattle.cells.specs.declared.end.Aim.{Aim}
 use Rattle.cells.specs.declared.unit.Unit.{Unit}
 use Rattle.cells.specs.declared.unit.Hearing.{Hearing}
+use Rattle.cells.proofs.Fars.{same_far}
 use Rattle.clauses.specs.Counts.{node_counts, link_counts, tile_port, is_free, port_counts, tile_counts, aim_counts, end_counts, unit_counts}
 use Rattle.clauses.specs.Counts.{line_counts}
 use Rattle.clauses.specs.Cables.{on_far, leads_to, cable, credited, greeted, enabled}
@@ -157,7 +156,7 @@ pub on_far_lem : {P : Slot → ℕ → Type 0} (c : Far) (f : ℕ → ℕ → Bo
 on_far_lem Nowhere f m = record { sure = λ h p k e. never (cc); back = λ h. refl }
 on_far_lem {P} (At a b) f m =
     record {
-      sure = λ h p k e. let d : a ≡ p = cc in let g : b ≡ k = cc in subst (λ x. P x k) d (subst (λ y. P a y) g ((m a b).sure h));
+      sure = λ h p k e. let d : a ≡ p = (same_far e).0 in let g : b ≡ k = (same_far e).1 in subst (λ x. P x k) d (subst (λ y. P a y) g ((m a b).sure h));
       back = λ h. (m a b).back (h a b refl);
     }
 
@@ -166,7 +165,7 @@ leads_to_lem Nowhere n l = record { sure = λ h. clash (sym h); back = λ h. nev
 leads_to_lem (At m k) n l =
     same_as
     (λ z. let a = z.0 in let b = z.1 in λ i. At (record { 0 = a i }) (b i))
-    (λ e. let a : m ≡ record { 0 = n } = cc in (ap (λ (x : Slot). x.0) a, cc))
+    (λ e. (ap (λ (x : Slot). x.0) (same_far e).0, (same_far e).1))
     (also (equal m.0 n) (equal k l))
 
 -- the far end of a cable: there, another, and leading back
@@ -201,8 +200,8 @@ far_enabled_lem s k (At m j) e =
       sure = λ h. record { slot = m; link = j; leads = e; enabled = (equal _ 1).sure h };
       back = λ z.
           let q : At m j ≡ At z.slot z.link = sym e ∙ z.leads in
-          let d : m ≡ z.slot = cc in
-          let g : j ≡ z.link = cc in
+          let d : m ≡ z.slot = (same_far q).0 in
+          let g : j ≡ z.link = (same_far q).1 in
           (equal _ 1).back
           (ap (λ (x : Slot). (s.links.setups x.0 j).enabled) d
           ∙ ap (λ (y : ℕ). (s.links.setups z.slot.0 y).enabled) g

@@ -2,10 +2,8 @@
 use Rattle.std.specs.Prelude.{ℕ, Bool, true, false, not, ◌&&◌, ◌||◌, eqb, ltb}
 use Rattle.names.specs.Size.{links}
 use Rattle.cells.specs.View.{Net}
-use Rattle.cells.specs.World.{far_of}
+use Rattle.cells.specs.World.{far_of, Far, Nowhere, At}
 use Rattle.cells.specs.declared.link.Cable.{Cable}
-use Rattle.cells.specs.declared.link.Far.{Far}
-use Rattle.cells.specs.declared.link.Far.TheVariants.{Nowhere, At}
 
 -- a test at a cable's far end; d where it leads nowhere
 abbrev pub on_far : Far → Bool → (ℕ → ℕ → Bool) → Bool

@@ -3,19 +3,16 @@ ghost use Rattle.std.specs.Prelude.{◌≡◌};
 ghost use Rattle.cells.specs.View.{view};
 ghost use Rattle.clauses.specs.Cables.{leads_to, joined, cable, credited, enabled, far_enabled, greeted};
 
-use cells::link::{Cable, Far, far_at, far_of};
+use cells::link::{Cable, far_at, far_of};
 use cells::{link, node};
 use names::Slot;
 use names::size::LINKS;
 
 // A cable leads to this very link.
-fn leads_to(f: Far, slot: Slot, l: usize) -> bool
+fn leads_to(f: Option<(Slot, usize)>, slot: Slot, l: usize) -> bool
     ensures { result ≡ leads_to f slot.0 l }
 {
-    match f {
-        Far::Nowhere => false,
-        Far::At(m, k) => (m.0 == slot.0) & (k == l),
-    }
+    f.is_some_and(|(m, k)| (m.0 == slot.0) & (k == l))
 }
 
 fn joined(st: &[u32], slot: Slot, l: usize, m: Slot, k: usize) -> bool
@@ -29,10 +26,7 @@ fn joined(st: &[u32], slot: Slot, l: usize, m: Slot, k: usize) -> bool
 pub fn cable(st: &[u32], slot: Slot, l: usize) -> bool
     ensures { result ≡ cable (view st.now) slot.0 l }
 {
-    match far_at(st, slot, l) {
-        Far::Nowhere => true,
-        Far::At(m, k) => joined(st, slot, l, m, k),
-    }
+    far_at(st, slot, l).is_none_or(|(m, k)| joined(st, slot, l, m, k))
 }
 
 // "credit only where greeted"
@@ -54,10 +48,7 @@ fn enabled(st: &[u32], slot: Slot, l: usize) -> bool
 pub fn far_enabled(st: &[u32], k: Cable) -> bool
     ensures { result ≡ far_enabled (view st.now) k }
 {
-    match far_of(k) {
-        Far::Nowhere => false,
-        Far::At(m, j) => enabled(st, m, j),
-    }
+    far_of(k).is_some_and(|(m, j)| enabled(st, m, j))
 }
 
 // "greeted only where wired with both ends enabled"

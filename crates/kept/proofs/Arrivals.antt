@@ -24,11 +24,9 @@ use Rattle.grammar.specs.Stage.{is_bad, next_stage}
 use Rattle.grammar.specs.Walk.{walk}
 use Rattle.grammar.specs.declared.stage.Stage.{Stage}
 use Rattle.grammar.proofs.Walks.{good_from}
-use Rattle.cells.specs.World.{World, far_of, line_from}
+use Rattle.cells.specs.World.{World, far_of, line_from, Far, Nowhere, At}
 use Rattle.cells.specs.Changes.{greeted_as}
 use Rattle.cells.specs.declared.link.Flow.{Flow}
-use Rattle.cells.specs.declared.link.Far.{Far}
-use Rattle.cells.specs.declared.link.Far.TheVariants.{Nowhere, At}
 use Rattle.acts.specs.Acts.{with_net, pushed}
 use Rattle.line_clauses.specs.Lines.{coming}
 use Rattle.travel.specs.Travel.{taken_off, first_on, token_in, credit_in, greets, grants_back, arrives_at, line_empty, left_by, line_stepped}

@@ -14,9 +14,7 @@ use Rattle.tokens.specs.declared.header.Width.{Width}
 use Rattle.tokens.specs.declared.header.Width.TheVariants.{One, Three}
 use Rattle.cells.specs.View.{Net}
 use Rattle.lines.specs.Load.{is_hello, credit_of}
-use Rattle.cells.specs.World.{World, far_of}
-use Rattle.cells.specs.declared.link.Far.{Far}
-use Rattle.cells.specs.declared.link.Far.TheVariants.{Nowhere, At}
+use Rattle.cells.specs.World.{World, far_of, Far, Nowhere, At}
 use Rattle.acts.specs.Acts.{width_at, pushed, pushed_all, first_at, hopped, shut, tiled_to, until_closed, handed}
 use Rattle.acts.proofs.Doors.{handed_nodes, claimed_nodes}
 use Rattle.travel.specs.Travel.{put_on, sends_on, taken_off, first_on, token_in, greets, arrives_at, line_empty, left_by, line_stepped}

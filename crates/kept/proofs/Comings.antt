@@ -20,10 +20,9 @@ use Rattle.grammar.specs.Walk.{walk}
 use Rattle.grammar.specs.declared.stage.Stage.{Stage}
 use Rattle.grammar.specs.declared.stage.Stage.TheVariants.{Bad, Fresh, Body, OneDue, ThreeDue, TwoDue, LastDue}
 use Rattle.grammar.proofs.Walks.{good_from}
-use Rattle.cells.specs.World.{World, far_of, line_from}
+use Rattle.cells.specs.World.{World, far_of, line_from, Far, Nowhere, At}
 use Rattle.cells.specs.declared.link.Cable.{Cable}
-use Rattle.cells.specs.declared.link.Far.{Far}
-use Rattle.cells.specs.declared.link.Far.TheVariants.{Nowhere, At}
+use Rattle.cells.proofs.Fars.{same_far}
 use Rattle.line_clauses.specs.Lines.{coming_from, coming}
 use Rattle.travel.proofs.Tokens.{token_is}
 use Rattle.kept.specs.Kept.{All, Cabled, Kept, back_at, reached_at}
@@ -107,8 +106,8 @@ module _ (w z : World) (c : z.net.links.cables ≡ w.net.links.cables) (cabled :
           let joined = cabled.agree a i ha hl b h e in
           same b.0 h joined.node joined.link (λ eb eh.
           let both : At m k ≡ At (record { 0 = a }) i = sym leads ∙ (rw (eb, eh) at joined.back) in
-          let slot : m ≡ record { 0 = a } = cc in
-          let link : k ≡ i = cc in
+          let slot : m ≡ record { 0 = a } = (same_far both).0 in
+          let link : k ≡ i = (same_far both).1 in
           o (ap (λ (s : Slot). s.0) (sym slot)) (sym link))
 
 -- WHERE A PORT ENDS

@@ -18,12 +18,10 @@ use Rattle.grammar.specs.Walk.{threes, begins_one}
 use Rattle.grammar.specs.declared.stage.Stage.TheVariants.{Fresh}
 use Rattle.lines.specs.Load.{load_of, no_load}
 use Rattle.cells.specs.View.{Net, with_flow, with_setup, with_issued}
-use Rattle.cells.specs.World.{World, far_of, hop, queue}
+use Rattle.cells.specs.World.{World, far_of, hop, queue, Far, Nowhere, At}
 use Rattle.cells.specs.Changes.{enabled_as}
 use Rattle.cells.specs.declared.link.Setup.{Setup}
 use Rattle.cells.specs.declared.link.Flow.{Flow}
-use Rattle.cells.specs.declared.link.Far.{Far}
-use Rattle.cells.specs.declared.link.Far.TheVariants.{Nowhere, At}
 use Rattle.clauses.specs.Pairs.{link_of}
 use Rattle.acts.specs.Acts.{with_net}
 use Rattle.travel.specs.Travel.{load_from, silenced, zeroed, far_zeroed, disabled}

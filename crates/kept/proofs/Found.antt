@@ -23,8 +23,7 @@ use Rattle.routing.specs.Way.{way_to, Way, ThisNode, OtherNode}
 use Rattle.routing.specs.Direction.{entry_of}
 use Rattle.ports.specs.Queue.{capacity}
 use Rattle.ports.specs.Memory.{place}
-use Rattle.cells.specs.World.{World, hop, far_of}
-use Rattle.cells.specs.declared.link.Far.TheVariants.{At}
+use Rattle.cells.specs.World.{World, hop, far_of, At}
 use Rattle.acts.specs.Acts.{width_at, number_at, word_at, first_at, channel_claimed, channel_full}
 use Rattle.acts.specs.Needs.{Holds, Door, Given}
 use Rattle.acts.proofs.Doors.{given_room}

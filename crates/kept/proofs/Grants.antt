@@ -15,12 +15,12 @@ use Rattle.ports.specs.declared.Counters.{Counters}
 use Rattle.lines.specs.Line.{LineFair}
 use Rattle.lines.specs.Load.{tokens_of}
 use Rattle.cells.specs.View.{with_counters, with_lines}
-use Rattle.cells.specs.World.{World, shaped, far_of, line_from}
+use Rattle.cells.specs.World.{World, shaped, far_of, line_from, At}
 use Rattle.cells.specs.Changes.{credit_as}
 use Rattle.cells.specs.declared.link.Cable.{Cable}
 use Rattle.cells.specs.declared.link.Setup.{Setup}
 use Rattle.cells.specs.declared.link.Flow.{Flow}
-use Rattle.cells.specs.declared.link.Far.TheVariants.{At}
+use Rattle.cells.proofs.Fars.{same_far}
 use Rattle.acts.specs.Acts.{popped}
 use Rattle.travel.specs.Travel.{grants_back}
 use Rattle.travel.specs.Needs.{LineThere}
@@ -78,8 +78,8 @@ pub hears_here : (setups : ℕ → ℕ → Setup) (x : Cable) (n l : ℕ) → fa
     → (setups n l).enabled ≡ 1
 hears_here setups x n l back far =
     let same : At far.slot far.link ≡ At (record { 0 = n }) l = sym far.leads ∙ back in
-    let slot : far.slot ≡ record { 0 = n } = cc in
-    let link : far.link ≡ l = cc in
+    let slot : far.slot ≡ record { 0 = n } = (same_far same).0 in
+    let link : far.link ≡ l = (same_far same).1 in
     ap (λ (s : Slot). (setups s.0 l).enabled) (sym slot) ∙ ap (λ (j : ℕ). (setups far.slot.0 j).enabled) (sym link) ∙ far.enabled
 
 -- a greeted link's far end is enabled, and so is it

@@ -19,14 +19,13 @@ use Rattle.ports.specs.Ring.{put_counters}
 use Rattle.lines.specs.Line.{line_capacity, LineFair, line_place}
 use Rattle.lines.specs.Load.{hello_word, tokens_of}
 use Rattle.cells.specs.View.{LineTables, whole_port, with_node, with_setup}
-use Rattle.cells.specs.World.{World, shaped, far_of, line_from}
+use Rattle.cells.specs.World.{World, shaped, far_of, line_from, Far, Nowhere, At}
 use Rattle.cells.specs.Changes.{credit_as, enabled_as, directed_to, network_as}
 use Rattle.cells.specs.declared.node.Node.{Node}
 use Rattle.cells.specs.declared.link.Cable.{Cable}
 use Rattle.cells.specs.declared.link.Setup.{Setup}
 use Rattle.cells.specs.declared.link.Flow.{Flow}
-use Rattle.cells.specs.declared.link.Far.{Far}
-use Rattle.cells.specs.declared.link.Far.TheVariants.{Nowhere, At}
+use Rattle.cells.proofs.Fars.{same_far}
 use Rattle.clauses.specs.Cables.{on_far, enabled, far_enabled}
 use Rattle.clauses.specs.Counts.{is_free}
 use Rattle.acts.specs.Acts.{with_net}
@@ -466,8 +465,8 @@ module _ (w : World) (k : Kept w) (n l : ℕ) (hn : n < w.net.nodes) (hl : l < l
               z.0,
               λ b c d.
                   let same : At m i ≡ At b c = sym e ∙ d in
-                  let slot : m ≡ b = cc in
-                  let link : i ≡ c = cc in
+                  let slot : m ≡ b = (same_far same).0 in
+                  let link : i ≡ c = (same_far same).1 in
                   (λ p q. y.0 (p ∙ ap (λ (s : Slot). s.0) (sym slot)) (q ∙ sym link)),
             ),
             z.1,

@@ -31,9 +31,9 @@ use Rattle.grammar.proofs.Walks.{walk_append}
 use Rattle.lines.specs.Line.{line_capacity, LineFair, line_place}
 use Rattle.lines.specs.Load.{is_hello, credit_of}
 use Rattle.cells.specs.View.{Net, with_user}
-use Rattle.cells.specs.World.{World, far_of, hop}
+use Rattle.cells.specs.World.{World, far_of, hop, Nowhere, At}
 use Rattle.cells.specs.declared.link.Cable.{Cable}
-use Rattle.cells.specs.declared.link.Far.TheVariants.{Nowhere, At}
+use Rattle.cells.proofs.Fars.{same_far}
 use Rattle.clauses.specs.Pairs.{link_of, tile_of, unit_of, claim_of}
 use Rattle.clauses.specs.declared.pairs.Named.TheVariants.{One}
 use Rattle.acts.specs.Acts.{with_net, first_at, leg_of, shut, linked_to}
@@ -286,15 +286,15 @@ module _ (w : World) (k : Kept w) (n p l : ℕ) (m : Slot) (j : ℕ) (r : Holds 
           fed = λ a i ha hi q h e. place n l a i
               (λ ea ei.
               let same : At m j ≡ At q h = sym leads ∙ (rw (ea, ei) at e) in
-              let slot : m ≡ q = cc in
-              let link : j ≡ h = cc in
+              let slot : m ≡ q = (same_far same).0 in
+              let link : j ≡ h = (same_far same).1 in
               rw (sym slot, sym link, ea, ei) here)
               (λ o.
               let far = k.cabled.agree a i ha hi q h e in
               let away : Off m.0 j q.0 h = λ eq eh.
               let both : At (record { 0 = n }) l ≡ At (record { 0 = a }) i = sym joined.back ∙ (rw (eq, eh) at far.back) in
-              let slot : ◌≡◌ {A = Slot} (record { 0 = n }) (record { 0 = a }) = cc in
-              let link : l ≡ i = cc in
+              let slot : ◌≡◌ {A = Slot} (record { 0 = n }) (record { 0 = a }) = (same_far both).0 in
+              let link : l ≡ i = (same_far both).1 in
               o (ap (λ (z : Slot). z.0) (sym slot)) (sym link) in
               off q.0 h far.node (omega (arith, far.link)) away
               ∙ k.carries.fed a i ha hi q h e

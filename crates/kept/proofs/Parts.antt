@@ -28,11 +28,10 @@ use Rattle.grammar.specs.Walk.{walk}
 use Rattle.grammar.specs.declared.stage.Stage.{Stage}
 use Rattle.grammar.specs.declared.stage.Stage.TheVariants.{Bad, Fresh, Body, OneDue, ThreeDue, TwoDue, LastDue}
 use Rattle.cells.specs.View.{whole_link, whole_port, whole_end, whole_unit, whole_line}
-use Rattle.cells.specs.World.{World, shaped, far_of, line_from}
+use Rattle.cells.specs.World.{World, shaped, far_of, line_from, Far, Nowhere, At}
 use Rattle.cells.specs.declared.link.Cable.{Cable}
-use Rattle.cells.specs.declared.link.Far.{Far}
-use Rattle.cells.specs.declared.link.Far.TheVariants.{Nowhere, At}
 use Rattle.cells.specs.declared.port.Port.{Port}
+use Rattle.cells.proofs.Fars.{same_far}
 use Rattle.clauses.specs.Counts.{tile_port, port_counts}
 use Rattle.clauses.specs.Cables.{on_far}
 use Rattle.clauses.specs.Contents.{ready, back, filled}
@@ -160,7 +159,7 @@ on_far_lem : {P : Slot → ℕ → Type 0} (c : Far) (f : ℕ → ℕ → Bool) 
 on_far_lem Nowhere f z = record { sure = λ h m k e. never (cc); back = λ h. refl }
 on_far_lem (At a b) f z =
     record {
-      sure = λ h m k e. let d : a ≡ m = cc in let g : b ≡ k = cc in rw (← d, ← g) ((z a b refl).sure h);
+      sure = λ h m k e. let d : a ≡ m = (same_far e).0 in let g : b ≡ k = (same_far e).1 in rw (← d, ← g) ((z a b refl).sure h);
       back = λ h. (z a b refl).back (h a b refl);
     }
 
@@ -446,8 +445,8 @@ module _ (w : World) (s : sound w ≡ true) where
       at_end : (P : ℕ → ℕ → Type 0) {c : Cable} {a : Slot} {i : ℕ} → far_of c ≡ At a i → Beyond c P → P a.0 i
       at_end P {c} {a} {i} d z =
           let both : At z.slot z.link ≡ At a i = sym z.leads ∙ d in
-          let slot : z.slot ≡ a = cc in
-          let link : z.link ≡ i = cc in
+          let slot : z.slot ≡ a = (same_far both).0 in
+          let link : z.link ≡ i = (same_far both).1 in
           subst (λ (x : Slot). P x.0 i) slot (subst (λ (y : ℕ). P z.slot.0 y) link z.holds)
 
   sound_clean : (n l : ℕ) → n < w.net.nodes → l < links → far_of (w.net.links.cables n l) ≡ Nowhere → Clean (end_at w n l)

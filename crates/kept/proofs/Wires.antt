@@ -17,9 +17,9 @@ use Rattle.circuits.specs.Circuit.{peer_of}
 use Rattle.lines.specs.Load.{tokens_of}
 use Rattle.lines.proofs.Ends.{things}
 use Rattle.grammar.specs.declared.stage.Stage.TheVariants.{Fresh}
-use Rattle.cells.specs.World.{World, shaped, far_of, line_from}
+use Rattle.cells.specs.World.{World, shaped, far_of, line_from, Nowhere, At}
 use Rattle.cells.specs.declared.link.Cable.{Cable}
-use Rattle.cells.specs.declared.link.Far.TheVariants.{Nowhere, At}
+use Rattle.cells.proofs.Fars.{same_far}
 use Rattle.acts.specs.Acts.{with_net}
 use Rattle.line_clauses.specs.Lines.{coming_from}
 use Rattle.travel.proofs.Loads.{line_none, load_held}
@@ -91,8 +91,8 @@ keep_wired w iv n l m k zn zm off =
     let same : (a j : ℕ) (x : Cable) (q : Slot) (i : ℕ) (b d : ℕ) → x ≡ cable_to b d → far_of x ≡ At q i → (q.0 ≡ b) × (i ≡ d) =
     λ a j x q i b d e f.
     let g : At (slot_of b) d ≡ At q i = sym (ap far_of e) ∙ f in
-    let slot : slot_of b ≡ q = cc in
-    let link : d ≡ i = cc in
+    let slot : slot_of b ≡ q = (same_far g).0 in
+    let link : d ≡ i = (same_far g).1 in
     (sym (ap (λ (y : Slot). y.0) slot), sym link) in
     let v = with_net w (wired w.net n l m k) in
     let linked : Cabled w.net.nodes c' = record {

@@ -16,9 +16,7 @@ use Rattle.tokens.specs.Word.{closes}
 use Rattle.credits.specs.Grant.{grant_of}
 use Rattle.lines.specs.Line.{line_capacity}
 use Rattle.cells.specs.View.{Net}
-use Rattle.cells.specs.World.{World, far_of}
-use Rattle.cells.specs.declared.link.Far.{Far}
-use Rattle.cells.specs.declared.link.Far.TheVariants.{At}
+use Rattle.cells.specs.World.{World, far_of, Far, At}
 use Rattle.clauses.specs.Counts.{tile_port}
 use Rattle.clauses.specs.declared.pairs.Role.TheVariants.{LinkPort, ClaimPort}
 use Rattle.acts.specs.Acts.{with_net, first_at, shut, tiled_to, handed}

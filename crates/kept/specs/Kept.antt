@@ -17,12 +17,11 @@ use Rattle.grammar.specs.Stage.{is_bad, crossed}
 use Rattle.grammar.specs.Walk.{walk, front_of, back_of}
 use Rattle.grammar.specs.declared.stage.Stage.{Stage}
 use Rattle.grammar.specs.declared.stage.Stage.TheVariants.{Fresh, Body}
-use Rattle.cells.specs.World.{World, shaped, far_of, hop, queue}
+use Rattle.cells.specs.World.{World, shaped, far_of, hop, queue, At}
 use Rattle.cells.specs.declared.node.Node.{Node}
 use Rattle.cells.specs.declared.link.Cable.{Cable}
 use Rattle.cells.specs.declared.link.Setup.{Setup}
 use Rattle.cells.specs.declared.link.Flow.{Flow}
-use Rattle.cells.specs.declared.link.Far.TheVariants.{At}
 use Rattle.cells.specs.declared.port.Leg.{Leg}
 use Rattle.cells.specs.declared.tile.Tile.{Tile}
 use Rattle.cells.specs.declared.end.Aim.{Aim}

@@ -8,10 +8,9 @@ use Rattle.laws.proofs.All.{also, either, denied, equal, at_most}
 use Rattle.laws.proofs.Order.{clash, never}
 use Rattle.names.specs.declared.Slot.{Slot}
 use Rattle.ports.specs.Queue.{capacity}
-use Rattle.cells.specs.World.{World, far_of}
+use Rattle.cells.specs.World.{World, far_of, Far, Nowhere, At}
 use Rattle.cells.specs.declared.link.Cable.{Cable}
-use Rattle.cells.specs.declared.link.Far.{Far}
-use Rattle.cells.specs.declared.link.Far.TheVariants.{Nowhere, At}
+use Rattle.cells.proofs.Fars.{same_far}
 use Rattle.clauses.specs.Cables.{on_far}
 use Rattle.clauses.proofs.Meanings.{on_far_lem, Hears, far_enabled_lem}
 use Rattle.line_clauses.specs.Lines.{load_at, few_on, unlined, room_over, counted, between, is_greeted, towards, no_credit, hello_last}
@@ -31,8 +30,8 @@ beyond {P} k (At m j) f e t =
       sure = λ h. record { slot = m; link = j; leads = e; holds = (t m.0 j).sure h };
       back = λ z.
           let q : At m j ≡ At z.slot z.link = sym e ∙ z.leads in
-          let d : m ≡ z.slot = cc in
-          let g : j ≡ z.link = cc in
+          let d : m ≡ z.slot = (same_far q).0 in
+          let g : j ≡ z.link = (same_far q).1 in
           ap (λ (x : Slot). f x.0 j) d ∙ ap (f z.slot.0) g ∙ (t z.slot.0 z.link).back z.holds;
     }
 

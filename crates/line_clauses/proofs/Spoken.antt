@@ -12,9 +12,8 @@ use Rattle.grammar.specs.Stage.{is_bad}
 use Rattle.grammar.specs.Walk.{walk, back_of}
 use Rattle.grammar.specs.declared.stage.Stage.{Stage}
 use Rattle.grammar.proofs.Walks.{good_from}
-use Rattle.cells.specs.World.{World, far_of, hop, queue, line_from}
-use Rattle.cells.specs.declared.link.Far.{Far}
-use Rattle.cells.specs.declared.link.Far.TheVariants.{Nowhere, At}
+use Rattle.cells.specs.World.{World, far_of, hop, queue, line_from, Far, Nowhere, At}
+use Rattle.cells.proofs.Fars.{same_far}
 use Rattle.clauses.specs.Contents.{ready, back}
 use Rattle.clauses.specs.Sentences.{Holds}
 use Rattle.clauses.proofs.Readies.{Ready, is_ready, made_ready}
@@ -34,8 +33,8 @@ module _ (w : World) where
   from_comes : (s : Stage) (f : Far) → is_bad (reached_from w s f) ≡ false → Comes f
   from_comes s Nowhere e m k q = never (cc)
   from_comes s (At m k) e m' k' q =
-      let a : m ≡ m' = cc in
-      let b : k ≡ k' = cc in
+      let a : m ≡ m' = (same_far q).0 in
+      let b : k ≡ k' = (same_far q).1 in
       by_test (line_ready w m.0 k)
       (λ r. subst (λ (x : Slot). line_ready w x.0 k' ≡ true) a (subst (λ (y : ℕ). line_ready w m.0 y ≡ true) b r))
       (λ r. clash (rw r at e))

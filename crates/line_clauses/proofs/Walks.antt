@@ -15,9 +15,7 @@ use Rattle.lines.specs.Line.{line_capacity, line_place}
 use Rattle.lines.specs.Load.{is_token, tokens_of}
 use Rattle.grammar.specs.Stage.{is_bad}
 use Rattle.grammar.specs.declared.stage.Stage.{Stage}
-use Rattle.cells.specs.World.{World, far_of, line_from}
-use Rattle.cells.specs.declared.link.Far.{Far}
-use Rattle.cells.specs.declared.link.Far.TheVariants.{Nowhere, At}
+use Rattle.cells.specs.World.{World, far_of, line_from, Far, Nowhere, At}
 use Rattle.clauses.specs.Cables.{on_far}
 use Rattle.clauses.specs.Contents.{back, contents}
 use Rattle.line_clauses.specs.Lines.{clear_of, nothing_comes, walked_on, reached_from, reached, holds_over}

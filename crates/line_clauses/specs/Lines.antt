@@ -12,9 +12,7 @@ use Rattle.grammar.specs.Walk.{walk}
 use Rattle.grammar.specs.declared.stage.Stage.{Stage}
 use Rattle.grammar.specs.declared.stage.Stage.TheVariants.{Bad}
 use Rattle.cells.specs.View.{Net}
-use Rattle.cells.specs.World.{World, far_of, line_from}
-use Rattle.cells.specs.declared.link.Far.{Far}
-use Rattle.cells.specs.declared.link.Far.TheVariants.{Nowhere, At}
+use Rattle.cells.specs.World.{World, far_of, line_from, Far, Nowhere, At}
 use Rattle.clauses.specs.Cables.{on_far, enabled, far_enabled}
 use Rattle.clauses.specs.Contents.{back}
 use Rattle.clauses.specs.Ties.{carried_for}

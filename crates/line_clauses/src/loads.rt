@@ -8,7 +8,7 @@ ghost use Rattle.line_clauses.specs.Lines.{line_ready, load_at, few, few_on, unl
 ghost use Rattle.line_clauses.specs.Lines.{count_with, count_to, counted, lines_to, lines_at};
 
 use cells::layout::LINE_WORDS;
-use cells::link::{Far, far_at};
+use cells::link::far_at;
 use cells::memories::Memories;
 use cells::{line, link, port};
 use lines::CAPACITY;
@@ -98,10 +98,7 @@ fn room_to(m: &Memories, slot: Slot, l: usize, far: Slot, k: usize) -> bool
 pub fn room_over(m: &Memories, slot: Slot, l: usize) -> bool
     ensures { result ≡ room_over (world_of m.now) slot.0 l }
 {
-    match far_at(m.state, slot, l) {
-        Far::Nowhere => true,
-        Far::At(far, k) => room_to(m, slot, l, far, k),
-    }
+    far_at(m.state, slot, l).is_none_or(|(far, k)| room_to(m, slot, l, far, k))
 }
 
 fn count_with(
@@ -134,10 +131,7 @@ fn count_to(m: &Memories, slot: Slot, l: usize, far: Slot, k: usize) -> bool
 pub fn counted(m: &Memories, slot: Slot, l: usize) -> bool
     ensures { result ≡ counted (world_of m.now) slot.0 l }
 {
-    match far_at(m.state, slot, l) {
-        Far::Nowhere => true,
-        Far::At(far, k) => count_to(m, slot, l, far, k),
-    }
+    far_at(m.state, slot, l).is_none_or(|(far, k)| count_to(m, slot, l, far, k))
 }
 
 fn lines_to(m: &Memories, slot: Slot, l: usize, far: Slot, k: usize) -> bool
@@ -154,7 +148,7 @@ pub fn lines_at(m: &Memories, slot: Slot, l: usize) -> bool
     ensures { result ≡ lines_at (world_of m.now) slot.0 l }
 {
     match far_at(m.state, slot, l) {
-        Far::Nowhere => few_on(m, slot, l) & unlined(m.state, slot, l),
-        Far::At(far, k) => lines_to(m, slot, l, far, k),
+        Some((far, k)) => lines_to(m, slot, l, far, k),
+        None => few_on(m, slot, l) & unlined(m.state, slot, l),
     }
 }

@@ -10,7 +10,7 @@ ghost use Rattle.line_clauses.specs.Lines.{walked_on, reached_from, reached, cle
 
 use crate::loads::line_ready;
 use cells::line;
-use cells::link::{Far, far_at};
+use cells::link::far_at;
 use cells::memories::Memories;
 use clauses::contents::back;
 use grammar::stage::{Stage, next};
@@ -40,13 +40,10 @@ fn walked_on(m: &Memories, far: Slot, k: usize, s: Stage) -> Stage
     Stage::Bad
 }
 
-fn reached_from(m: &Memories, s: Stage, f: Far) -> Stage
+fn reached_from(m: &Memories, s: Stage, f: Option<(Slot, usize)>) -> Stage
     ensures { result ≡ reached_from (world_of m.now) s f }
 {
-    match f {
-        Far::Nowhere => s,
-        Far::At(far, k) => walked_on(m, far, k, s),
-    }
+    f.map_or(s, |(far, k)| walked_on(m, far, k, s))
 }
 
 // Where a port's tokens end once those on the line to it have come.
@@ -76,10 +73,7 @@ pub fn nothing_comes(st: &[u32], lined: usize, slot: Slot, p: usize) -> bool
     if p >= LINKS {
         return true;
     }
-    match far_at(st, slot, p) {
-        Far::Nowhere => true,
-        Far::At(m, k) => is_clear(st, lined, m, k),
-    }
+    far_at(st, slot, p).is_none_or(|(m, k)| is_clear(st, lined, m, k))
 }
 
 // The sentences of the list on what may stand in a port, asked of the port with its line behind. Where nothing is on its way to it,

@@ -7,7 +7,7 @@ ghost use Rattle.line_clauses.specs.Lines.{fed_over_to, fed_over, between, is_gr
 
 use crate::loads::load_on;
 use crate::reached::reached;
-use cells::link::{Far, far_at};
+use cells::link::far_at;
 use cells::memories::Memories;
 use cells::{line, link};
 use clauses::cables::far_enabled;
@@ -26,10 +26,7 @@ fn fed_over_to(m: &Memories, slot: Slot, l: usize, far: Slot, k: usize) -> bool
 pub fn fed_over(m: &Memories, slot: Slot, l: usize) -> bool
     ensures { result ≡ fed_over (world_of m.now) slot.0 l }
 {
-    match far_at(m.state, slot, l) {
-        Far::Nowhere => true,
-        Far::At(far, k) => fed_over_to(m, slot, l, far, k),
-    }
+    far_at(m.state, slot, l).is_none_or(|(far, k)| fed_over_to(m, slot, l, far, k))
 }
 
 // A line is in use only where both ends are enabled.
@@ -41,16 +38,10 @@ pub fn between(st: &[u32], slot: Slot, l: usize) -> bool
     (k.ring.held == 0) | ((x.setup.enabled == 1) & far_enabled(st, x.cable))
 }
 
-fn is_greeted(st: &[u32], f: Far) -> bool
+fn is_greeted(st: &[u32], f: Option<(Slot, usize)>) -> bool
     ensures { result ≡ on_far f false (is_greeted (lined st.now [])) }
 {
-    match f {
-        Far::Nowhere => false,
-        Far::At(m, k) => {
-            let x = link::at(st, m, k);
-            x.flow.greeted == 1
-        }
-    }
+    f.is_some_and(|(m, k)| link::at(st, m, k).flow.greeted == 1)
 }
 
 // A credit is on a line only towards a greeted end.
@@ -62,16 +53,10 @@ pub fn towards(m: &Memories, slot: Slot, l: usize) -> bool
     (on.credits == 0) | greeted
 }
 
-fn no_credit(m: &Memories, f: Far) -> bool
+fn no_credit(m: &Memories, f: Option<(Slot, usize)>) -> bool
     ensures { result ≡ on_far f false (no_credit (world_of m.now)) }
 {
-    match f {
-        Far::Nowhere => false,
-        Far::At(far, k) => {
-            let on = load_on(m, far, k);
-            on.credits == 0
-        }
-    }
+    f.is_some_and(|(far, k)| load_on(m, far, k).credits == 0)
 }
 
 // While a HELLO is on a line its sender's credit is 0, no credit is on the line back, and no token stands behind it.

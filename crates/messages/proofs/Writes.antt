@@ -17,11 +17,9 @@ use Rattle.answers.specs.Answer.{number_of}
 use Rattle.answers.specs.Rows.{refusal, Passes}
 use Rattle.answers.proofs.Refusals.{passed}
 use Rattle.cells.specs.View.{Net, with_setup}
-use Rattle.cells.specs.World.{World, far_of}
+use Rattle.cells.specs.World.{World, far_of, Far, Nowhere, At}
 use Rattle.cells.specs.Changes.{enabled_as}
 use Rattle.cells.specs.declared.link.Setup.{Setup}
-use Rattle.cells.specs.declared.link.Far.{Far}
-use Rattle.cells.specs.declared.link.Far.TheVariants.{Nowhere, At}
 use Rattle.travel.specs.Travel.{zeroed, far_zeroed, disabled}
 use Rattle.settings.specs.Set.{signalled, either_line, set_rows, set_answer, set_made, set_call}
 use Rattle.settings.specs.Needs.{Settled}

@@ -7,10 +7,8 @@ use Rattle.laws.proofs.Order.{by_test}
 use Rattle.names.specs.No.{passes}
 use Rattle.answers.specs.Rows.{refusal}
 use Rattle.cells.specs.View.{with_setup}
-use Rattle.cells.specs.World.{World, far_of}
+use Rattle.cells.specs.World.{World, far_of, Far, Nowhere, At}
 use Rattle.cells.specs.Changes.{enabled_as}
-use Rattle.cells.specs.declared.link.Far.{Far}
-use Rattle.cells.specs.declared.link.Far.TheVariants.{Nowhere, At}
 use Rattle.clauses.specs.Cables.{far_enabled}
 use Rattle.acts.specs.Acts.{with_net}
 use Rattle.travel.specs.Travel.{put_on, says_hello, zeroed, far_zeroed, disabled}

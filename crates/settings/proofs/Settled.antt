@@ -16,10 +16,8 @@ use Rattle.lines.specs.Load.{hello_word}
 use Rattle.lines.proofs.Ends.{hello_last_lem}
 use Rattle.answers.specs.Rows.{refusal}
 use Rattle.cells.specs.View.{Net, with_setup}
-use Rattle.cells.specs.World.{World, far_of, line_from}
+use Rattle.cells.specs.World.{World, far_of, line_from, Far, Nowhere, At}
 use Rattle.cells.specs.Changes.{enabled_as}
-use Rattle.cells.specs.declared.link.Far.{Far}
-use Rattle.cells.specs.declared.link.Far.TheVariants.{Nowhere, At}
 use Rattle.clauses.specs.Cables.{on_far, enabled, far_enabled}
 use Rattle.acts.specs.Acts.{with_net}
 use Rattle.travel.specs.Travel.{load_from, put_on, credit_lost, says_hello, zeroed, far_zeroed, disabled}

@@ -10,9 +10,8 @@ use Rattle.answers.specs.Out.{Out, out, attempt}
 use Rattle.answers.specs.declared.Answer.{Answer}
 use Rattle.answers.specs.declared.Answer.TheVariants.{Done, Granted}
 use Rattle.cells.specs.View.{Net, whole_port, with_node, with_setup}
-use Rattle.cells.specs.World.{World, far_of}
+use Rattle.cells.specs.World.{World, far_of, Far}
 use Rattle.cells.specs.Changes.{numbered_as, width_as, directions_as, directed_to, network_as, enabled_as}
-use Rattle.cells.specs.declared.link.Far.{Far}
 use Rattle.clauses.specs.Cables.{enabled, on_far}
 use Rattle.clauses.specs.Counts.{is_free}
 use Rattle.acts.specs.Acts.{with_net}

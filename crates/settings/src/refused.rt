@@ -9,7 +9,7 @@ ghost use Rattle.settings.specs.Set.{disables_busy, hello_busy, set_busy, set_ro
 ghost use Rattle.settings.specs.Needs.{Settable, Settled};
 
 use crate::Setting;
-use cells::link::{Far, far_at};
+use cells::link::far_at;
 use cells::{line, link, node, port};
 use names::no::{BUSY, NO_SUCH, VALUE};
 use names::size::{BITS, DIRECTIONS, LINKS, NETWORKS};
@@ -55,13 +55,10 @@ fn end_in_use(st: &[u32], slot: Slot, l: usize) -> bool
     !((p.leg.circuit.kind == 0) & (p.counters.held == 0)) | !(k.user.kind == 0)
 }
 
-fn far_in_use(st: &[u32], f: Far) -> bool
+fn far_in_use(st: &[u32], f: Option<(Slot, usize)>) -> bool
     ensures { result ≡ far_in_use (view st.now) f }
 {
-    match f {
-        Far::Nowhere => false,
-        Far::At(m, j) => end_in_use(st, m, j),
-    }
+    f.is_some_and(|(m, j)| end_in_use(st, m, j))
 }
 
 fn in_use(st: &[u32], slot: Slot, l: usize) -> bool
@@ -91,10 +88,7 @@ fn in_transit(st: &[u32], slot: Slot, l: usize) -> bool
 fn cable_in_transit(st: &[u32], slot: Slot, l: usize) -> bool
     ensures { result ≡ either_line in_transit (lined st.now []) slot.0 l }
 {
-    match far_at(st, slot, l) {
-        Far::Nowhere => false,
-        Far::At(m, k) => in_transit(st, slot, l) | in_transit(st, m, k),
-    }
+    far_at(st, slot, l).is_some_and(|(m, k)| in_transit(st, slot, l) | in_transit(st, m, k))
 }
 
 // A credit or a HELLO is on the line that starts at a link.
@@ -112,10 +106,7 @@ pub fn cable_signalled(st: &[u32], ls: &[u16], slot: Slot, l: usize) -> bool
         × FarLine (lined st.now ls.now) (far_of ((view st.now).links.cables slot.0 l)) }
     ensures { result ≡ either_line signalled (lined st.now ls.now) slot.0 l }
 {
-    match far_at(st, slot, l) {
-        Far::Nowhere => false,
-        Far::At(m, k) => signalled(st, ls, slot, l) | signalled(st, ls, m, k),
-    }
+    far_at(st, slot, l).is_some_and(|(m, k)| signalled(st, ls, slot, l) | signalled(st, ls, m, k))
 }
 
 // "disabling an enabled link while .."

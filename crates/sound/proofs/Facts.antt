@@ -20,8 +20,7 @@ use Rattle.grammar.specs.Stage.{is_bad}
 use Rattle.grammar.specs.Walk.{walk, back_of}
 use Rattle.grammar.proofs.Walks.{good_from}
 use Rattle.cells.specs.View.{whole_link, whole_port, whole_end, whole_unit, whole_line}
-use Rattle.cells.specs.World.{World, shaped, token_words, line_words, is_empty, far_of, hop, queue, line_from}
-use Rattle.cells.specs.declared.link.Far.TheVariants.{At}
+use Rattle.cells.specs.World.{World, shaped, token_words, line_words, is_empty, far_of, hop, queue, line_from, At}
 use Rattle.clauses.specs.Contents.{ready, legal_word}
 use Rattle.clauses.specs.Pairs.{named_by, backward, players, open_end}
 use Rattle.clauses.specs.declared.pairs.Named.TheVariants.{One}

@@ -13,8 +13,7 @@ use Rattle.names.specs.declared.Slot.{Slot}
 use Rattle.ports.specs.Queue.{capacity}
 use Rattle.lines.specs.Line.{line_capacity}
 use Rattle.cells.specs.View.{whole_link, whole_port, whole_end, whole_unit, whole_line}
-use Rattle.cells.specs.World.{World, shaped, is_empty, far_of}
-use Rattle.cells.specs.declared.link.Far.TheVariants.{At}
+use Rattle.cells.specs.World.{World, shaped, is_empty, far_of, At}
 use Rattle.clauses.specs.Pairs.{backward, players}
 use Rattle.clauses.specs.Sentences.{Plain}
 use Rattle.clauses.proofs.Meanings.{node_counts_lem, LinkFacts, link_counts_lem, PortFacts, port_counts_lem, tile_counts_lem, EndFacts, end_counts_lem}

@@ -19,8 +19,7 @@ use Rattle.circuits.proofs.Backs.{hop_back}
 use Rattle.tokens.specs.Word.{closes}
 use Rattle.lines.specs.Load.{tokens_of}
 use Rattle.cells.specs.View as Cells
-use Rattle.cells.specs.World.{World, far_of, hop, queue, line_from}
-use Rattle.cells.specs.declared.link.Far.TheVariants.{At}
+use Rattle.cells.specs.World.{World, far_of, hop, queue, line_from, At}
 use Rattle.cells.specs.declared.port.Leg.{Leg}
 use Rattle.acts.specs.Acts.{with_net, popped, first_at, leg_of, hopped, shut, tiled_to, claimed_by, handed}
 use Rattle.acts.specs.Needs.{Holds}

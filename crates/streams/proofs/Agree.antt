@@ -21,9 +21,7 @@ use Rattle.answers.specs.Rows.{refusal, Passes}
 use Rattle.answers.specs.declared.Answer.{Answer}
 use Rattle.answers.specs.declared.Answer.TheVariants as Answers
 use Rattle.answers.proofs.Refusals.{passed}
-use Rattle.cells.specs.World.{World, far_of, queue}
-use Rattle.cells.specs.declared.link.Far.{Far}
-use Rattle.cells.specs.declared.link.Far.TheVariants.{Nowhere, At}
+use Rattle.cells.specs.World.{World, far_of, queue, Far, Nowhere, At}
 use Rattle.acts.specs.Acts.{width_at, number_at, first_at}
 use Rattle.lines.specs.Load.{is_token}
 use Rattle.travel.specs.Travel.{first_on, line_empty, came_by, line_came}

@@ -9,8 +9,7 @@ use Rattle.laws.proofs.Table.{place}
 use Rattle.names.specs.Size.{links}
 use Rattle.names.specs.declared.Slot.{Slot}
 use Rattle.lines.specs.Load.{is_hello, credit_of, is_token, tokens_of}
-use Rattle.cells.specs.World.{World, far_of, line_from}
-use Rattle.cells.specs.declared.link.Far.TheVariants.{At}
+use Rattle.cells.specs.World.{World, far_of, line_from, At}
 use Rattle.acts.specs.Acts.{with_net, pushed}
 use Rattle.travel.specs.Travel.{taken_off, first_on, token_in, credit_in, greets, grants_back}
 use Rattle.travel.specs.Needs.{LineThere}

@@ -29,9 +29,7 @@ use Rattle.answers.specs.Rows.{refusal, Passes}
 use Rattle.answers.proofs.Refusals.{passed}
 use Rattle.lines.specs.Load.{is_hello, credit_of, is_token, tokens_of}
 use Rattle.cells.specs.View as Cells
-use Rattle.cells.specs.World.{World, far_of, queue}
-use Rattle.cells.specs.declared.link.Far.{Far}
-use Rattle.cells.specs.declared.link.Far.TheVariants.{Nowhere, At}
+use Rattle.cells.specs.World.{World, far_of, queue, Far, Nowhere, At}
 use Rattle.fresh.specs.Fresh.{start_of}
 use Rattle.fresh.specs.declared.Start.{Start}
 use Rattle.acts.specs.Acts.{with_net, width_at, number_at, word_at, first_at}

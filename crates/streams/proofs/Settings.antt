@@ -12,10 +12,8 @@ use Rattle.answers.specs.Rows.{Passes}
 use Rattle.lines.specs.Line.{line_place, on_line}
 use Rattle.lines.specs.Load.{tokens_of}
 use Rattle.cells.specs.View.{Net, EndTables, with_setup}
-use Rattle.cells.specs.World.{World, far_of, line_from}
+use Rattle.cells.specs.World.{World, far_of, line_from, Far, Nowhere, At}
 use Rattle.cells.specs.Changes.{enabled_as}
-use Rattle.cells.specs.declared.link.Far.{Far}
-use Rattle.cells.specs.declared.link.Far.TheVariants.{Nowhere, At}
 use Rattle.clauses.specs.Cables.{enabled}
 use Rattle.ports.specs.declared.Counters.{Counters}
 use Rattle.travel.specs.Travel.{zeroed, far_zeroed, disabled}

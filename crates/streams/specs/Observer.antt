@@ -22,9 +22,7 @@ use Rattle.tokens.specs.declared.header.Target.TheVariants.{Channel, Unit}
 use Rattle.routing.specs.Way.{way_to, Way, ThisNode, OtherNode}
 use Rattle.answers.specs.declared.Answer.{Answer}
 use Rattle.answers.specs.declared.Answer.TheVariants as Answers
-use Rattle.cells.specs.World.{World, far_of, hop}
-use Rattle.cells.specs.declared.link.Far.{Far}
-use Rattle.cells.specs.declared.link.Far.TheVariants.{Nowhere, At}
+use Rattle.cells.specs.World.{World, far_of, hop, Far, Nowhere, At}
 use Rattle.acts.specs.Acts.{width_at, number_at, word_at, first_at}
 use Rattle.lines.specs.Load.{is_token}
 use Rattle.travel.specs.Travel.{first_on}

@@ -9,10 +9,9 @@ use Rattle.circuits.specs.declared.Hop.TheVariants as Hops
 use Rattle.circuits.specs.declared.Peer.{Peer}
 use Rattle.circuits.specs.declared.Peer.TheVariants as Peers
 use Rattle.lines.specs.Load.{tokens_of}
-use Rattle.cells.specs.World.{World, far_of, queue, line_from}
+use Rattle.cells.specs.World.{World, far_of, queue, line_from, Far}
 use Rattle.cells.specs.declared.link.Cable.{Cable}
-use Rattle.cells.specs.declared.link.Far.{Far}
-use Rattle.cells.specs.declared.link.Far.TheVariants as Fars
+use Rattle.cells.specs.World as Fars
 use Rattle.cells.specs.declared.port.Leg.{Leg}
 use Rattle.streams.specs.Model.{port_no, doors_each, ToChannel, ToUnit, Out, Shut, Via, Into, Drops}
 use Rattle.streams.specs.Model.{Use, Nobody, By, Sender, Closed, Through, Direct, Moving}

@@ -12,9 +12,7 @@ use Rattle.names.specs.declared.Slot.{Slot}
 use Rattle.ports.specs.Queue.{capacity}
 use Rattle.lines.specs.Load.{is_hello, credit_of, before}
 use Rattle.lines.specs.declared.load.Load.{Load}
-use Rattle.cells.specs.World.{World, far_of}
-use Rattle.cells.specs.declared.link.Far.{Far}
-use Rattle.cells.specs.declared.link.Far.TheVariants.{Nowhere, At}
+use Rattle.cells.specs.World.{World, far_of, Far, Nowhere, At}
 use Rattle.acts.specs.Acts.{pushed}
 use Rattle.acts.specs.Needs.{Room}
 use Rattle.travel.specs.Travel.{load_from, taken_off, first_on, token_in, greets}

@@ -10,10 +10,8 @@ use Rattle.laws.proofs.Order.{never}
 use Rattle.names.specs.Size.{links}
 use Rattle.names.specs.declared.Slot.{Slot}
 use Rattle.ports.specs.Queue.{capacity}
-use Rattle.cells.specs.World.{World, far_of}
+use Rattle.cells.specs.World.{World, far_of, Far, Nowhere, At}
 use Rattle.cells.specs.declared.link.Cable.{Cable}
-use Rattle.cells.specs.declared.link.Far.{Far}
-use Rattle.cells.specs.declared.link.Far.TheVariants.{Nowhere, At}
 use Rattle.travel.specs.Travel.{load_from}
 use Rattle.travel.specs.Needs.{Leads, Cabled, LineThere, FarLine, Grants}
 use Rattle.travel.proofs.Loads.{load_held}

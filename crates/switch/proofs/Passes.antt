@@ -10,9 +10,7 @@ use Rattle.names.specs.declared.Slot.{Slot}
 use Rattle.ports.specs.Queue.{capacity}
 use Rattle.lines.specs.Line.{line_capacity}
 use Rattle.lines.proofs.Ends.{things, load_worth}
-use Rattle.cells.specs.World.{World, far_of, line_from}
-use Rattle.cells.specs.declared.link.Far.{Far}
-use Rattle.cells.specs.declared.link.Far.TheVariants.{Nowhere, At}
+use Rattle.cells.specs.World.{World, far_of, line_from, Far, Nowhere, At}
 use Rattle.acts.specs.Acts.{popped}
 use Rattle.travel.specs.Travel.{load_from, grant_due, grants_back}
 use Rattle.travel.specs.Needs.{LineThere}

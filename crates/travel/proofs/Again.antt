@@ -13,9 +13,7 @@ use Rattle.lines.specs.declared.load.Load.{Load}
 use Rattle.lines.proofs.Ends.{credit_last}
 use Rattle.credits.proofs.Grants.{most}
 use Rattle.cells.specs.View.{Net, LinkTables, with_lines}
-use Rattle.cells.specs.World.{World, far_of, line_from}
-use Rattle.cells.specs.declared.link.Far.{Far}
-use Rattle.cells.specs.declared.link.Far.TheVariants.{Nowhere, At}
+use Rattle.cells.specs.World.{World, far_of, line_from, Far, Nowhere, At}
 use Rattle.acts.specs.Acts.{with_net}
 use Rattle.travel.specs.Travel.{load_from, put_on, grant_due, issued_more, issues, grants_back}
 use Rattle.travel.specs.Needs.{LineThere, FarLine, Grants}

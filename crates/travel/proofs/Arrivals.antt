@@ -5,17 +5,16 @@ use mathlib.Core.Bool.{Bool, false}
 use mathlib.Core.List.{List, []}
 use native.Mathlib.Omega.{arith}
 use borrow.Author.Tests.{eq-eqb}
+use Rattle.std.specs.Prelude.{Some}
 use Rattle.lines.specs.Load.{is_hello, credit_of}
 use Rattle.lines.proofs.Loads.{credit_most}
 use Rattle.names.specs.declared.Slot.{Slot}
 use Rattle.cells.specs.View.{Net}
-use Rattle.cells.specs.World.{World}
-use Rattle.cells.specs.declared.link.Far.TheVariants.{At}
+use Rattle.cells.specs.World.{World, At}
 use Rattle.acts.specs.Needs.{Room}
 use Rattle.travel.specs.Travel.{taken_off, first_on, grant_due, grants_back, token_in, arrival_grant, arrives_at}
 use Rattle.travel.specs.Travel.{line_empty, came_by, left_by}
 use Rattle.travel.specs.Needs.{Grants, Arrives}
-use Rattle.travel.specs.declared.Came.TheVariants.{Moved}
 use Rattle.travel.proofs.Lent.{with_line_memory, came_lent, grants_lent, considered_lent}
 
 -- What may be done with what arrives and is no HELLO, by the tests that the code makes
@@ -45,9 +44,9 @@ module _ (w : World) (s : Net) (m ls : List ℕ) (j k x : ℕ) (e : record { net
 module _ (w : World) (n l : ℕ) (b : Slot) (k : ℕ) (some : line_empty w n l ≡ false) where
   pub moved : (y : World) (x : ℕ) → y ≡ taken_off w n l → x ≡ first_on w n l → (g : ℕ) (z : World)
       → (g ≡ arrival_grant y n l b.0 k x) × (z ≡ arrives_at y n l b.0 k x)
-      → (Moved g ≡ came_by w n l (At b k)) × (z ≡ left_by w n l (At b k))
+      → (Some g ≡ came_by w n l (At b k)) × (z ≡ left_by w n l (At b k))
   moved y x d e g z h =
       rw some (
-        ap Moved (h.0 ∙ ap (λ (v : World). arrival_grant v n l b.0 k x) d ∙ ap (arrival_grant (taken_off w n l) n l b.0 k) e),
+        ap Some (h.0 ∙ ap (λ (v : World). arrival_grant v n l b.0 k x) d ∙ ap (arrival_grant (taken_off w n l) n l b.0 k) e),
         h.1 ∙ ap (λ (v : World). arrives_at v n l b.0 k x) d ∙ ap (arrives_at (taken_off w n l) n l b.0 k) e,
       )

@@ -7,9 +7,9 @@ use Rattle.laws.specs.Table.{Off}
 use Rattle.laws.proofs.Table.{place}
 use Rattle.names.specs.Size.{links}
 use Rattle.names.specs.declared.Slot.{Slot}
-use Rattle.cells.specs.World.{far_of}
+use Rattle.cells.specs.World.{far_of, Nowhere, At}
 use Rattle.cells.specs.declared.link.Cable as Wire
-use Rattle.cells.specs.declared.link.Far.TheVariants.{Nowhere, At}
+use Rattle.cells.proofs.Fars.{same_far}
 use Rattle.travel.specs.Accounts.{End, Cable, Clean, Accounts}
 use Rattle.travel.proofs.Accounts.{held_to, keep_taken, clean_side}
 
@@ -20,10 +20,10 @@ Backs N cables =
     → (m.0 < N) × (k < links) × (far_of (cables m.0 k) ≡ At (record { 0 = n }) l)
 
 slot_of : {a b : Slot} {i j : ℕ} → At a i ≡ At b j → a.0 ≡ b.0
-slot_of {a} {b} {i} {j} e = let z : a ≡ b = cc in ap (λ (s : Slot). s.0) z
+slot_of e = ap (λ (s : Slot). s.0) (same_far e).0
 
 link_of_lem : {a b : Slot} {i j : ℕ} → At a i ≡ At b j → i ≡ j
-link_of_lem e = cc
+link_of_lem e = (same_far e).1
 
 clash_far : {s : Slot} {i : ℕ} → Nowhere ≡ At s i → ⊥
 clash_far d = let q : ◌≡◌ {A = ℕ} 0 1 = cc in omega arith

@@ -14,9 +14,7 @@ use Rattle.lines.specs.Line.{line_capacity}
 use Rattle.lines.specs.Load.{credit_word, is_hello, credit_of}
 use Rattle.credits.specs.Grant.{grant_of, Granted, none, eight, sixteen, all}
 use Rattle.credits.proofs.Grants.{most, enough}
-use Rattle.cells.specs.World.{World, far_of}
-use Rattle.cells.specs.declared.link.Far.{Far}
-use Rattle.cells.specs.declared.link.Far.TheVariants.{Nowhere, At}
+use Rattle.cells.specs.World.{World, far_of, Far, Nowhere, At}
 use Rattle.travel.specs.Travel.{load_from, may_grant, by_count, grant_to, grant_due}
 
 module _ (w : World) (m k : ℕ) where

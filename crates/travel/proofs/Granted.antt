@@ -20,9 +20,7 @@ use Rattle.lines.specs.Load.{credit_word, tokens_of}
 use Rattle.credits.specs.Grant.{Granted, none}
 use Rattle.credits.proofs.Grants.{granted}
 use Rattle.cells.specs.View.{LineTables, with_lines}
-use Rattle.cells.specs.World.{World, far_of, line_from}
-use Rattle.cells.specs.declared.link.Far.{Far}
-use Rattle.cells.specs.declared.link.Far.TheVariants.{Nowhere, At}
+use Rattle.cells.specs.World.{World, far_of, line_from, Far, Nowhere, At}
 use Rattle.acts.specs.Acts.{with_net}
 use Rattle.travel.specs.Travel.{load_from, put_on, may_grant, by_count, grant_to, grant_due, issued_more, issues, grants_back}
 use Rattle.travel.specs.Needs.{LineThere}

@@ -16,8 +16,7 @@ use Rattle.lines.specs.Load.{hello_word, credit_word, is_hello, credit_of, credi
 use Rattle.lines.specs.declared.load.Load.{Load}
 use Rattle.lines.proofs.Ends.{token_last, credit_last, hello_last_lem, load_worth}
 use Rattle.cells.specs.Changes.{credit_as, greeted_as}
-use Rattle.cells.specs.World.{World, far_of, line_from}
-use Rattle.cells.specs.declared.link.Far.TheVariants.{At}
+use Rattle.cells.specs.World.{World, far_of, line_from, At}
 use Rattle.acts.specs.Acts.{with_net, pushed}
 use Rattle.cells.specs.View.{with_flow}
 use Rattle.credits.specs.Grant.{Granted}

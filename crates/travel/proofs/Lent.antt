@@ -4,9 +4,7 @@ use mathlib.Core.Path.{◌≡◌, refl, sym, ap, ◌∙◌}
 use mathlib.Core.List.{List}
 use lib.Dec.{eqb}
 use Rattle.laws.proofs.Order.{by_test}
-use Rattle.cells.specs.World.{World, far_of}
-use Rattle.cells.specs.declared.link.Far.{Far}
-use Rattle.cells.specs.declared.link.Far.TheVariants.{Nowhere, At}
+use Rattle.cells.specs.World.{World, far_of, Far, Nowhere, At}
 use Rattle.acts.specs.Acts.{pushed}
 use Rattle.acts.specs.Needs.{Room, Holds}
 use Rattle.travel.specs.Travel.{put_on, taken_off, grant_to, grant_due, grants_back, token_in, sends_on}

@@ -16,11 +16,9 @@ use Rattle.names.specs.declared.Slot.{Slot}
 use Rattle.ports.specs.Queue.{capacity, take_counters}
 use Rattle.lines.specs.Load.{hello_word, load_of, no_load}
 use Rattle.cells.specs.View.{with_flow, with_cable, with_setup}
-use Rattle.cells.specs.World.{World, far_of}
+use Rattle.cells.specs.World.{World, far_of, Far, Nowhere, At}
 use Rattle.cells.specs.Changes.{enabled_as}
 use Rattle.cells.specs.declared.link.Cable as Wire
-use Rattle.cells.specs.declared.link.Far.{Far}
-use Rattle.cells.specs.declared.link.Far.TheVariants.{Nowhere, At}
 use Rattle.clauses.specs.Cables.{on_far, enabled, far_enabled}
 use Rattle.acts.specs.Acts.{with_net, pushed, popped}
 use Rattle.travel.specs.Travel.{load_from, put_on, grants_back, credit_lost, says_hello, silenced, zeroed, far_zeroed, disabled}

@@ -14,9 +14,7 @@ use Rattle.names.specs.declared.Slot.{Slot}
 use Rattle.ports.specs.declared.Counters.{Counters}
 use Rattle.lines.specs.Line.{LineFair, off_counters, line_place}
 use Rattle.lines.specs.Load.{is_hello, credit_of}
-use Rattle.cells.specs.World.{World, far_of}
-use Rattle.cells.specs.declared.link.Far.{Far}
-use Rattle.cells.specs.declared.link.Far.TheVariants.{Nowhere, At}
+use Rattle.cells.specs.World.{World, far_of, Far, Nowhere, At}
 use Rattle.acts.specs.Acts.{pushed}
 use Rattle.travel.specs.Travel.{taken_off, first_on, token_in, greets, arrives_at, line_empty, left_by, line_stepped}
 use Rattle.travel.specs.Needs.{LineThere}

@@ -8,10 +8,8 @@ use Rattle.laws.proofs.Table.{upd_all}
 use Rattle.ports.specs.Ring.{put_counters}
 use Rattle.lines.specs.Line.{line_capacity, LineFair, line_place}
 use Rattle.cells.specs.View.{Net}
-use Rattle.cells.specs.World.{World, far_of}
+use Rattle.cells.specs.World.{World, far_of, Far, Nowhere, At}
 use Rattle.cells.specs.declared.link.Cable.{Cable}
-use Rattle.cells.specs.declared.link.Far.{Far}
-use Rattle.cells.specs.declared.link.Far.TheVariants.{Nowhere, At}
 use Rattle.acts.specs.Acts.{with_net}
 use Rattle.travel.specs.Travel.{put_on}
 use Rattle.travel.specs.Needs.{LineThere, FarLine, Grants}

@@ -6,9 +6,8 @@ use Rattle.names.specs.declared.Slot.{Slot}
 use Rattle.ports.specs.Queue.{capacity}
 use Rattle.lines.specs.Load.{no_load}
 use Rattle.lines.specs.declared.load.Load.{Load}
-use Rattle.cells.specs.World.{World, far_of}
+use Rattle.cells.specs.World.{World, far_of, Nowhere, At}
 use Rattle.cells.specs.declared.link.Cable as Wire
-use Rattle.cells.specs.declared.link.Far.TheVariants.{Nowhere, At}
 use Rattle.travel.specs.Travel.{load_from}
 
 -- one end: its link's credit and greeting, what it has issued and not yet received, the tokens that its port holds, and how much is on the

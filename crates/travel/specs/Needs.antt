@@ -6,9 +6,7 @@ use Rattle.names.specs.Size.{links}
 use Rattle.lines.specs.Line.{line_capacity, LineFair, line_place}
 use Rattle.lines.specs.Load.{is_hello, credit_of}
 use Rattle.cells.specs.View.{Net}
-use Rattle.cells.specs.World.{World, far_of}
-use Rattle.cells.specs.declared.link.Far.{Far}
-use Rattle.cells.specs.declared.link.Far.TheVariants.{Nowhere, At}
+use Rattle.cells.specs.World.{World, far_of, Far, Nowhere, At}
 use Rattle.acts.specs.Needs.{Room}
 use Rattle.travel.specs.Travel.{taken_off, first_on, token_in, greets}
 

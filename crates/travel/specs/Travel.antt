@@ -1,6 +1,6 @@
 -- What travels on the lines of cables, on the state (document 02, Ask 4): what is put on a line and comes off it, grants by the count,
 -- HELLO, a link disabled, and a line's step.
-use Rattle.std.specs.Prelude.{ℕ, ◌+◌, ◌-◌, Bool, ◌&&◌, eqb, ltb}
+use Rattle.std.specs.Prelude.{ℕ, ◌+◌, ◌-◌, Bool, ◌&&◌, eqb, ltb, Option, Some, None}
 use Rattle.laws.specs.Pick.{pick}
 use Rattle.ports.specs.Ring.{put_counters}
 use Rattle.lines.specs.Line.{line_capacity, off_counters, line_place, on_memory, off_memory, first_off}
@@ -8,15 +8,11 @@ use Rattle.lines.specs.Load.{hello_word, credit_word, is_hello, credit_of, load_
 use Rattle.lines.specs.declared.load.Load.{Load}
 use Rattle.credits.specs.Grant.{grant_of}
 use Rattle.cells.specs.View.{Net, with_flow, with_setup, with_ring, with_issued}
-use Rattle.cells.specs.World.{World, far_of, line_from}
+use Rattle.cells.specs.World.{World, far_of, line_from, Far, Nowhere, At}
 use Rattle.cells.specs.Changes.{credit_as, greeted_as, enabled_as}
 use Rattle.cells.specs.declared.link.Flow.{Flow}
-use Rattle.cells.specs.declared.link.Far.{Far}
-use Rattle.cells.specs.declared.link.Far.TheVariants.{Nowhere, At}
 use Rattle.clauses.specs.Cables.{far_enabled}
 use Rattle.acts.specs.Acts.{with_net, pushed}
-use Rattle.travel.specs.declared.Came.{Came}
-use Rattle.travel.specs.declared.Came.TheVariants.{Idle, Moved}
 
 -- A LINE. How much is on the one that starts at link l of node n
 abbrev pub load_from : World → ℕ → ℕ → Load
@@ -141,15 +137,15 @@ arrival_grant w n l m k x =
 abbrev pub line_empty : World → ℕ → ℕ → Bool
 line_empty w n l = eqb (w.net.lines.rings n l).held 0
 
-abbrev pub came_by : World → ℕ → ℕ → Far → Came
-came_by w n l Nowhere = Idle
-came_by w n l (At m k) = pick (line_empty w n l) Idle (Moved (arrival_grant (taken_off w n l) n l m.0 k (first_on w n l)))
+abbrev pub came_by : World → ℕ → ℕ → Far → Option ℕ
+came_by w n l Nowhere = None
+came_by w n l (At m k) = pick (line_empty w n l) None (Some (arrival_grant (taken_off w n l) n l m.0 k (first_on w n l)))
 
 abbrev pub left_by : World → ℕ → ℕ → Far → World
 left_by w n l Nowhere = w
 left_by w n l (At m k) = pick (line_empty w n l) w (arrives_at (taken_off w n l) n l m.0 k (first_on w n l))
 
-unfoldable pub line_came : World → ℕ → ℕ → Came
+unfoldable pub line_came : World → ℕ → ℕ → Option ℕ
 line_came w n l = came_by w n l (far_of (w.net.links.cables n l))
 
 unfoldable pub line_stepped : World → ℕ → ℕ → World

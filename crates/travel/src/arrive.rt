@@ -2,18 +2,16 @@
 ghost use Rattle.std.specs.Prelude.{◌≡◌, ◌+◌, ◌-◌, ◌^◌, ◌<◌};
 ghost use Rattle.names.specs.Size.{links};
 ghost use Rattle.cells.specs.View.{view};
-ghost use Rattle.cells.specs.World.{world, lent};
-ghost use Rattle.cells.specs.declared.link.Far.TheVariants.{At};
+ghost use Rattle.cells.specs.World.{world, lent, At};
 ghost use Rattle.acts.specs.Needs.{Room};
 ghost use Rattle.travel.specs.Travel.{received, token_in, credit_in, hello_in, arrival_grant, arrives_at};
 ghost use Rattle.travel.specs.Travel.{came_by, left_by, line_came, line_stepped};
 ghost use Rattle.travel.specs.Needs.{Arrives, StepsTo, LineSteps};
 
-use crate::Came;
 use crate::grant::consider;
 use crate::line::{less_one, take};
 use acts::push;
-use cells::link::{Far, far_at};
+use cells::link::far_at;
 use cells::{line, link};
 use lines::load::{credit_of, is_hello};
 use names::Slot;
@@ -98,7 +96,7 @@ fn step_to(
     l: usize,
     b: Slot,
     k: usize,
-) -> Came
+) -> Option<u32>
     requires { StepsTo (lent st.old mem.old ls.old) a.0 l (At b k) }
     ensures { (result ≡ came_by (lent st.old mem.old ls.old) a.0 l (At b k))
         × (lent st.new mem.new ls.new
@@ -106,22 +104,26 @@ fn step_to(
 {
     let x = line::at(st, a, l);
     if x.ring.held == 0 {
-        return Came::Idle;
+        return None;
     }
     let word = take(st, ls, a, l);
-    Came::Moved(arrive(st, mem, ls, a, l, b, k, word))
+    Some(arrive(st, mem, ls, a, l, b, k, word))
 }
 
-// The step of the line that starts at a link.
+// The step of the line that starts at a link: none where nothing was on it, else the grant that what came off brought.
 #[tactic(auto, unfolding(crate::specs::Travel::line_came, crate::specs::Travel::line_stepped))]
-pub fn line_step(st: &mut [u32], mem: &mut [u16], ls: &mut [u16], slot: Slot, l: usize) -> Came
+pub fn line_step(
+    st: &mut [u32],
+    mem: &mut [u16],
+    ls: &mut [u16],
+    slot: Slot,
+    l: usize,
+) -> Option<u32>
     requires { LineSteps (lent st.old mem.old ls.old) slot.0 l }
     ensures { (result ≡ line_came (lent st.old mem.old ls.old) slot.0 l)
         × (lent st.new mem.new ls.new
         ≡ line_stepped (lent st.old mem.old ls.old) slot.0 l) }
 {
-    match far_at(st, slot, l) {
-        Far::Nowhere => Came::Idle,
-        Far::At(b, k) => step_to(st, mem, ls, slot, l, b, k),
-    }
+    let (b, k) = far_at(st, slot, l)?;
+    step_to(st, mem, ls, slot, l, b, k)
 }

@@ -7,7 +7,7 @@ ghost use Rattle.travel.specs.Travel.{may_grant, by_count, grant_due, issues, gr
 ghost use Rattle.travel.specs.Needs.{FarLine, LineThere, Grants};
 
 use crate::line::{load_from, put};
-use cells::link::{Far, far_at};
+use cells::link::far_at;
 use cells::{line, link, port};
 use credits::grant;
 use lines::CAPACITY;
@@ -50,13 +50,8 @@ pub fn grant_due(st: &[u32], ls: &[u16], slot: Slot, k: usize) -> u32
         return 0;
     }
     match far_at(st, slot, k) {
-        Far::Nowhere => 0,
-        Far::At(n, l) => {
-            if may_grant(st, ls, n, l) {
-                return g;
-            }
-            0
-        }
+        Some((n, l)) if may_grant(st, ls, n, l) => g,
+        _ => 0,
     }
 }
 

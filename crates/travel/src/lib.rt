@@ -5,10 +5,3 @@
 pub mod arrive;
 pub mod grant;
 pub mod line;
-
-// What comes of a line's step: nothing was on it, or one thing came off, with the grant that it brought.
-#[derive(Clone, Copy)]
-pub enum Came {
-    Idle,
-    Moved(u32),
-}

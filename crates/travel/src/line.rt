@@ -9,7 +9,7 @@ ghost use Rattle.travel.specs.Travel.{load_from, put_on, first_on, taken_off, cr
 ghost use Rattle.travel.specs.Travel.{zeroed, far_zeroed, disabled};
 ghost use Rattle.travel.specs.Needs.{LineThere, Leads, Cabled};
 
-use cells::link::{Far, Flow, far_of};
+use cells::link::{Flow, far_of};
 use cells::{line, link};
 use clauses::cables::far_enabled;
 use lines::load::{HELLO, Load, load_at};
@@ -122,13 +122,12 @@ fn zero(st: &mut [u32], slot: Slot, l: usize)
 }
 
 // The far end of a cable is zeroed and un-greeted, and stays enabled.
-fn zero_far(st: &mut [u32], f: Far)
+fn zero_far(st: &mut [u32], f: Option<(Slot, usize)>)
     requires { Leads (view st.old).nodes f }
     ensures { view st.new ≡ far_zeroed (view st.old) f }
 {
-    match f {
-        Far::Nowhere => {}
-        Far::At(m, j) => zero(st, m, j),
+    if let Some((m, j)) = f {
+        zero(st, m, j);
     }
 }
 

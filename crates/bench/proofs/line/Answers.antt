@@ -1,5 +1,5 @@
 -- `bench::line` meets its contract. Assumes nothing.
-use Rattle.std.proofs.Common.{◌≡◌, ℕ, ◌<◌, true, false, refl, sym, ◌∙◌}
+use Rattle.std.proofs.Common.{◌≡◌, ℕ, ◌<◌, true, false, refl, sym, ◌∙◌, Option}
 use Rattle.laws.proofs.All.{also, below}
 use Rattle.names.specs.No.{number, NoSuch}
 use Rattle.names.specs.Size.{links}
@@ -9,7 +9,6 @@ use Rattle.cells.specs.View.{view}
 use Rattle.cells.specs.World.{World, lent}
 use Rattle.settings.specs.Wire.{link_at}
 use Rattle.travel.specs.Travel.{line_came, line_stepped}
-use Rattle.travel.specs.declared.Came.{Came}
 use Rattle.switch.proofs.Arrivals.{line_possible}
 use Rattle.bench.specs.Calls.{Line, line_rows, came_answer}
 use Rattle.bench.proofs.Lifted.{refused_unsound, on_world}
@@ -23,7 +22,7 @@ module _ (w : World) (n l : ℕ) where
   no_link o e = rw e
 
   -- what came off the line, and what that leaves, is the call's own answer
-  came : (z : World) (a : Came) → link_at w.net n l ≡ true → a ≡ line_came w n l → z ≡ line_stepped w n l
+  came : (z : World) (a : Option ℕ) → link_at w.net n l ≡ true → a ≡ line_came w n l → z ≡ line_stepped w n l
       → out (came_answer a) z ≡ attempt (line_rows w.net n l) w (out (came_answer (line_came w n l)) (line_stepped w n l))
   came z a there answered left = rw (there, answered, left)
 
@@ -48,22 +47,22 @@ line_step-requires c =
     let z = link_there_lem w a.slot.0 a.l (sym c.link_at.ensures ∙ c.if-not-link_at.false) in
     line_possible w (sym c.is_sound.ensures ∙ c.if-not-is_sound.false) a.slot.0 a.l z.0 z.1
 
-pub returns-in-Idle : goal.returns-in-Idle
-returns-in-Idle c =
+pub returns-in-None : goal.returns-in-None
+returns-in-None c =
     let a = c.args in
     let w = lent a.st.now a.mem.now a.ls.now in
     on_world w (Line a.slot a.l) (line_rows (view a.st.now) a.slot.0 a.l) refl
     (sym c.is_sound.ensures ∙ c.if-not-is_sound.false) _
-    (rw c.in-Idle.is at
+    (rw c.in-None.is at
     (came w a.slot.0 a.l _ c.line_step.result (sym c.link_at.ensures ∙ c.if-not-link_at.false)
     c.line_step.ensures.0 c.line_step.ensures.1))
 
-pub returns-in-Moved : goal.returns-in-Moved
-returns-in-Moved c =
+pub returns-in-Some : goal.returns-in-Some
+returns-in-Some c =
     let a = c.args in
     let w = lent a.st.now a.mem.now a.ls.now in
     on_world w (Line a.slot a.l) (line_rows (view a.st.now) a.slot.0 a.l) refl
     (sym c.is_sound.ensures ∙ c.if-not-is_sound.false) _
-    (rw c.in-Moved.is at
+    (rw c.in-Some.is at
     (came w a.slot.0 a.l _ c.line_step.result (sym c.link_at.ensures ∙ c.if-not-link_at.false)
     c.line_step.ensures.0 c.line_step.ensures.1))
