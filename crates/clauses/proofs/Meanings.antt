@@ -44,10 +44,8 @@ use Rattle.clauses.specs.Counts.{line_counts}
 use Rattle.clauses.specs.Cables.{on_far, leads_to, cable, credited, greeted, enabled}
 use Rattle.clauses.specs.Contents.{legal_word, filled, legal_words, held_tokens, heard_tokens}
 use Rattle.clauses.specs.Pairs.{port_of, end_of, claimable, straight_to, link_of, tile_of, unit_of, claim_of}
-use Rattle.clauses.specs.Pairs.{named_by, backward, players, is_named, on_named, agrees, open_by, open_end, silent}
+use Rattle.clauses.specs.Pairs.{named_by, backward, players, is_named, on_named, agrees, open_by, open_end, silent, Named, Nothing, One}
 use Rattle.clauses.specs.Sentences.{Plain}
-use Rattle.clauses.specs.declared.pairs.Named.{Named}
-use Rattle.clauses.specs.declared.pairs.Named.TheVariants.{Nothing, One}
 use Rattle.clauses.specs.declared.pairs.Role.{Role}
 use Rattle.clauses.specs.declared.pairs.Role.TheVariants as Roles
 use Rattle.clauses.proofs.Spoken.{closing, plain_word, plain_open}

@@ -1,7 +1,7 @@
 -- "a port's output names that port back and no other; .. each claim and open channel-end names one circuit that exists" (document 01,
 -- "Sound"): what names something is named back by it. One clause, in both directions for each pair: ports and links, tile links, the
 -- control unit, claims; channel-ends and the claims that they have; channel-ends and the ports that they send by.
-use Rattle.std.specs.Prelude.{ℕ, Bool, true, false, not, ◌&&◌, ◌||◌, eqb, ltb}
+use Rattle.std.specs.Prelude.{ℕ, Bool, true, false, not, ◌&&◌, ◌||◌, eqb, ltb, Option, Some, None}
 use Rattle.laws.specs.Pick.{pick}
 use Rattle.names.specs.Size.{links, ports, tile_links, ends, sink, reply_port}
 use Rattle.circuits.specs.Circuit.{peer_of}
@@ -12,11 +12,19 @@ use Rattle.circuits.specs.declared.Hop.TheVariants.{Shut, Out, Channel, Unit, Dr
 use Rattle.cells.specs.View.{Net, whole_port}
 use Rattle.cells.specs.World.{hop}
 use Rattle.clauses.specs.Counts.{tile_port, is_free}
-use Rattle.clauses.specs.declared.pairs.Named.{Named}
-use Rattle.clauses.specs.declared.pairs.Named.TheVariants.{Nothing, One}
 use Rattle.clauses.specs.declared.pairs.Role.{Role}
 use Rattle.clauses.specs.declared.pairs.Role.TheVariants.{PortLink, LinkPort, PortTile, TilePort, PortUnit, UnitPort, PortClaim}
 use Rattle.clauses.specs.declared.pairs.Role.TheVariants.{ClaimPort, EndClaim, ClaimEnd, EndPort, PortEnd}
+
+-- what is named
+abbrev pub Named : Type 0
+Named = Option ℕ
+
+pattern abbrev pub Nothing : Named
+Nothing = None
+
+pattern abbrev pub One : ℕ → Named
+One i = Some i
 
 -- what a peer names: a port, a channel-end, or a channel-end that can be claimed (the sink cannot)
 abbrev pub port_of : Peer → Named

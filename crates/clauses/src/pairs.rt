@@ -11,13 +11,6 @@ use circuits::{Hop, Peer, hop_of, peer_of};
 use names::Slot;
 use names::size::{ENDS, FIRST_TILE_PORT, LINKS, PORTS, REPLY_PORT, SINK, TILE_LINKS};
 
-// What is named.
-#[derive(Clone, Copy)]
-pub enum Named {
-    Nothing,
-    One(usize),
-}
-
 // Who names whom: each pair both ways.
 #[derive(Clone, Copy)]
 pub enum Role {
@@ -35,91 +28,76 @@ pub enum Role {
     PortEnd,
 }
 
-fn port_of(x: Peer) -> Named
+fn port_of(x: Peer) -> Option<usize>
     ensures { result ≡ port_of x }
 {
     match x {
-        Peer::Nobody => Named::Nothing,
-        Peer::Port(p) => Named::One(p as usize),
-        Peer::End(_) => Named::Nothing,
+        Peer::Port(p) => Some(p as usize),
+        Peer::Nobody | Peer::End(_) => None,
     }
 }
 
-fn end_of(x: Peer) -> Named
+fn end_of(x: Peer) -> Option<usize>
     ensures { result ≡ end_of x }
 {
     match x {
-        Peer::Nobody => Named::Nothing,
-        Peer::Port(_) => Named::Nothing,
-        Peer::End(e) => Named::One(e as usize),
+        Peer::End(e) => Some(e as usize),
+        Peer::Nobody | Peer::Port(_) => None,
     }
 }
 
 // The sink takes no claim.
-fn claimable(c: u32) -> Named
+fn claimable(c: u32) -> Option<usize>
     ensures { result ≡ claimable c }
 {
     if c == SINK {
-        return Named::Nothing;
+        return None;
     }
-    Named::One(c as usize)
+    Some(c as usize)
 }
 
-fn straight_to(x: Peer) -> Named
+fn straight_to(x: Peer) -> Option<usize>
     ensures { result ≡ straight_to x }
 {
     match x {
-        Peer::Nobody => Named::Nothing,
-        Peer::Port(_) => Named::Nothing,
         Peer::End(c) => claimable(c),
+        Peer::Nobody | Peer::Port(_) => None,
     }
 }
 
-fn link_of(h: Hop) -> Named
+fn link_of(h: Hop) -> Option<usize>
     ensures { result ≡ link_of h }
 {
     match h {
-        Hop::Shut => Named::Nothing,
-        Hop::Out(l) => Named::One(l as usize),
-        Hop::Channel(_, _) => Named::Nothing,
-        Hop::Unit => Named::Nothing,
-        Hop::Dropped(_) => Named::Nothing,
+        Hop::Out(l) => Some(l as usize),
+        Hop::Shut | Hop::Channel(_, _) | Hop::Unit | Hop::Dropped(_) => None,
     }
 }
 
-fn tile_of(h: Hop) -> Named
+fn tile_of(h: Hop) -> Option<usize>
     ensures { result ≡ tile_of h }
 {
     match h {
-        Hop::Shut => Named::Nothing,
-        Hop::Out(_) => Named::Nothing,
-        Hop::Channel(_, t) => Named::One(t as usize),
-        Hop::Unit => Named::Nothing,
-        Hop::Dropped(_) => Named::Nothing,
+        Hop::Channel(_, t) => Some(t as usize),
+        Hop::Shut | Hop::Out(_) | Hop::Unit | Hop::Dropped(_) => None,
     }
 }
 
-fn unit_of(h: Hop) -> Named
+fn unit_of(h: Hop) -> Option<usize>
     ensures { result ≡ unit_of h }
 {
     match h {
-        Hop::Shut => Named::Nothing,
-        Hop::Out(_) => Named::Nothing,
-        Hop::Channel(_, _) => Named::Nothing,
-        Hop::Unit => Named::One(0),
-        Hop::Dropped(_) => Named::Nothing,
+        Hop::Unit => Some(0),
+        Hop::Shut | Hop::Out(_) | Hop::Channel(_, _) | Hop::Dropped(_) => None,
     }
 }
 
-fn claim_of(h: Hop) -> Named
+fn claim_of(h: Hop) -> Option<usize>
     ensures { result ≡ claim_of h }
 {
     match h {
-        Hop::Shut => Named::Nothing,
-        Hop::Out(_) => Named::Nothing,
         Hop::Channel(c, _) => claimable(c),
-        Hop::Unit => Named::Nothing,
-        Hop::Dropped(_) => Named::Nothing,
+        Hop::Shut | Hop::Out(_) | Hop::Unit | Hop::Dropped(_) => None,
     }
 }
 
@@ -180,7 +158,7 @@ pub fn serves(st: &[u32], slot: Slot) -> Peer
 }
 
 // What a record names in a role.
-fn named_by(st: &[u32], slot: Slot, r: Role, i: usize) -> Named
+fn named_by(st: &[u32], slot: Slot, r: Role, i: usize) -> Option<usize>
     ensures { result ≡ named_by r (view st.now) slot.0 i }
 {
     match r {
@@ -238,13 +216,10 @@ pub fn players(r: Role) -> usize
     }
 }
 
-fn is_named(x: Named, i: usize) -> bool
+fn is_named(x: Option<usize>, i: usize) -> bool
     ensures { result ≡ is_named x i }
 {
-    match x {
-        Named::Nothing => false,
-        Named::One(j) => j == i,
-    }
+    x == Some(i)
 }
 
 fn names_back(st: &[u32], slot: Slot, r: Role, i: usize, j: usize) -> bool
@@ -258,10 +233,7 @@ fn names_back(st: &[u32], slot: Slot, r: Role, i: usize, j: usize) -> bool
 pub fn agrees(st: &[u32], slot: Slot, r: Role, i: usize) -> bool
     ensures { result ≡ agrees r (view st.now) slot.0 i }
 {
-    match named_by(st, slot, r, i) {
-        Named::Nothing => true,
-        Named::One(j) => names_back(st, slot, r, i, j),
-    }
+    named_by(st, slot, r, i).is_none_or(|j| names_back(st, slot, r, i, j))
 }
 
 // "The port is taken until its END or PAUSE has left it"

@@ -24,8 +24,7 @@ use Rattle.routing.specs.Way.{way_to, Way, ThisNode, OtherNode}
 use Rattle.ports.specs.Queue.{capacity}
 use Rattle.cells.specs.World.{World}
 use Rattle.clauses.specs.Counts.{tile_port}
-use Rattle.clauses.specs.Pairs.{taken, end_of}
-use Rattle.clauses.specs.declared.pairs.Named.TheVariants.{Nothing, One}
+use Rattle.clauses.specs.Pairs.{taken, end_of, Nothing, One}
 use Rattle.clauses.specs.declared.pairs.Role.TheVariants.{EndClaim, ClaimEnd}
 use Rattle.acts.specs.Acts.{width_at, number_at, channel_claimed, channel_full}
 use Rattle.acts.specs.Needs.{Door}

@@ -29,9 +29,7 @@ use Rattle.cells.specs.View.{Net, EndTables, with_ends, with_sending, with_claim
 use Rattle.cells.specs.World.{World, shaped}
 use Rattle.cells.specs.declared.end.Buffer.{Buffer}
 use Rattle.clauses.specs.Contents.{legal_word}
-use Rattle.clauses.specs.Pairs.{port_of, end_of, claimable, straight_to}
-use Rattle.clauses.specs.declared.pairs.Named.{Named}
-use Rattle.clauses.specs.declared.pairs.Named.TheVariants.{Nothing, One}
+use Rattle.clauses.specs.Pairs.{port_of, end_of, claimable, straight_to, Named, Nothing, One}
 use Rattle.clauses.proofs.Meanings.{AimFacts}
 use Rattle.acts.specs.Acts.{with_net, until_closed, channel_claimed, buffer_after}
 use Rattle.acts.specs.Needs.{Keeps, Door, Given}

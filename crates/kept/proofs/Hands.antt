@@ -23,9 +23,7 @@ use Rattle.cells.specs.View.{Net, with_ends, with_tile, with_claim, with_buffer}
 use Rattle.cells.specs.World.{World, shaped, hop}
 use Rattle.cells.specs.declared.tile.Tile.{Tile}
 use Rattle.cells.specs.declared.end.Buffer.{Buffer}
-use Rattle.clauses.specs.Pairs.{port_of, end_of, link_of, tile_of, unit_of, claim_of}
-use Rattle.clauses.specs.declared.pairs.Named.{Named}
-use Rattle.clauses.specs.declared.pairs.Named.TheVariants.{Nothing, One}
+use Rattle.clauses.specs.Pairs.{port_of, end_of, link_of, tile_of, unit_of, claim_of, Named, Nothing, One}
 use Rattle.acts.specs.Acts.{with_net, first_at, leg_of, shut, tiled_to, buffer_after}
 use Rattle.acts.specs.Needs.{Holds, Keeps, Given}
 use Rattle.moves.specs.Moves.{took, hands}

@@ -23,9 +23,7 @@ use Rattle.cells.specs.View.{Net, UnitTables, with_units}
 use Rattle.cells.specs.World.{World, shaped, hop}
 use Rattle.cells.specs.declared.unit.Hearing.{Hearing}
 use Rattle.clauses.specs.Contents.{legal_word}
-use Rattle.clauses.specs.Pairs.{link_of, tile_of, unit_of, claim_of}
-use Rattle.clauses.specs.declared.pairs.Named.{Named}
-use Rattle.clauses.specs.declared.pairs.Named.TheVariants.{Nothing, One}
+use Rattle.clauses.specs.Pairs.{link_of, tile_of, unit_of, claim_of, Named, Nothing, One}
 use Rattle.acts.specs.Acts.{with_net, first_at, leg_of}
 use Rattle.acts.specs.Needs.{Holds}
 use Rattle.messages.specs.Heard.{hears_word, listens}

@@ -31,8 +31,7 @@ use Rattle.cells.specs.World.{World, shaped, queue}
 use Rattle.cells.specs.declared.port.Leg.{Leg}
 use Rattle.cells.specs.declared.tile.Tile.{Tile}
 use Rattle.cells.specs.declared.unit.Hearing.{Hearing}
-use Rattle.clauses.specs.Pairs.{link_of, tile_of, unit_of, claim_of}
-use Rattle.clauses.specs.declared.pairs.Named.TheVariants.{Nothing}
+use Rattle.clauses.specs.Pairs.{link_of, tile_of, unit_of, claim_of, Nothing}
 use Rattle.acts.specs.Acts.{with_net, width_at, word_at, popped, leg_of, hopped}
 use Rattle.acts.specs.Needs.{Door}
 use Rattle.plans.specs.Plan.{marked_width, size_of}

@@ -25,8 +25,7 @@ use Rattle.lines.specs.Line.{LineFair}
 use Rattle.cells.specs.View.{Net, with_counters, with_leg, with_network, with_lines}
 use Rattle.cells.specs.World.{World, shaped, hop, queue}
 use Rattle.cells.specs.declared.port.Leg.{Leg}
-use Rattle.clauses.specs.declared.pairs.Named.{Named}
-use Rattle.clauses.specs.declared.pairs.Named.TheVariants.{Nothing}
+use Rattle.clauses.specs.Pairs.{Named, Nothing}
 use Rattle.acts.specs.Acts.{with_net, first_at, leg_of, network_left, shut}
 use Rattle.acts.specs.Needs.{Holds}
 use Rattle.moves.specs.Moves.{took}

@@ -34,8 +34,7 @@ use Rattle.cells.specs.View.{Net, with_user}
 use Rattle.cells.specs.World.{World, far_of, hop, Nowhere, At}
 use Rattle.cells.specs.declared.link.Cable.{Cable}
 use Rattle.cells.proofs.Fars.{same_far}
-use Rattle.clauses.specs.Pairs.{link_of, tile_of, unit_of, claim_of}
-use Rattle.clauses.specs.declared.pairs.Named.TheVariants.{One}
+use Rattle.clauses.specs.Pairs.{link_of, tile_of, unit_of, claim_of, One}
 use Rattle.acts.specs.Acts.{with_net, first_at, leg_of, shut, linked_to}
 use Rattle.acts.specs.Needs.{Holds}
 use Rattle.line_clauses.specs.Lines.{coming}

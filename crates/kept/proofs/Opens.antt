@@ -28,9 +28,7 @@ use Rattle.grammar.specs.declared.stage.Stage.TheVariants.{Fresh}
 use Rattle.cells.specs.View.{Net, with_links}
 use Rattle.cells.specs.World.{World, shaped, hop, queue}
 use Rattle.cells.specs.declared.port.Leg.{Leg}
-use Rattle.clauses.specs.Pairs.{link_of, tile_of, unit_of, claim_of}
-use Rattle.clauses.specs.declared.pairs.Named.{Named}
-use Rattle.clauses.specs.declared.pairs.Named.TheVariants.{Nothing}
+use Rattle.clauses.specs.Pairs.{link_of, tile_of, unit_of, claim_of, Named, Nothing}
 use Rattle.acts.specs.Acts.{with_net, word_at, popped, leg_of, hopped}
 use Rattle.acts.proofs.Queues.{popped_queue}
 use Rattle.plans.specs.Plan.{marked_width, size_of}

@@ -48,9 +48,7 @@ use Rattle.messages.specs.Ended.{byte, bytes, said, reply_put}
 use Rattle.messages.specs.declared.reply.Reply.{Reply}
 use Rattle.messages.specs.declared.reply.Reply.TheVariants.{Nack, Ack, Value}
 use Rattle.plans.specs.Plan.{number_in}
-use Rattle.clauses.specs.Pairs.{port_of, straight_to}
-use Rattle.clauses.specs.declared.pairs.Named.{Named}
-use Rattle.clauses.specs.declared.pairs.Named.TheVariants.{Nothing, One}
+use Rattle.clauses.specs.Pairs.{port_of, straight_to, Named, Nothing, One}
 use Rattle.clauses.proofs.Meanings.{AimFacts}
 use Rattle.kept.specs.Kept.{All, Pair, EndOk, PeerOk, TilePort, Free, NetworkOk, Aimed, GoesBy, Sends, Kept}
 use Rattle.kept.specs.Kept.{front_at, back_at, reached_at, port_in, end_in, claim_in}

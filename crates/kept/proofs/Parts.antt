@@ -35,9 +35,8 @@ use Rattle.cells.proofs.Fars.{same_far}
 use Rattle.clauses.specs.Counts.{tile_port, port_counts}
 use Rattle.clauses.specs.Cables.{on_far}
 use Rattle.clauses.specs.Contents.{ready, back, filled}
-use Rattle.clauses.specs.Pairs.{port_of, named_by, backward, players, taken, open_by, open_end}
+use Rattle.clauses.specs.Pairs.{port_of, named_by, backward, players, taken, open_by, open_end, One}
 use Rattle.clauses.specs.Ties.{carried_for, unfed, unsent, in_body}
-use Rattle.clauses.specs.declared.pairs.Named.TheVariants.{One}
 use Rattle.clauses.specs.declared.pairs.Role.{Role}
 use Rattle.clauses.specs.declared.pairs.Role.TheVariants as Roles
 use Rattle.clauses.proofs.Meanings.{node_counts_lem, link_counts_lem, end_counts_lem, unit_counts_lem, cables, credits, greetings, pairs, silences}

@@ -17,8 +17,7 @@ use Rattle.grammar.specs.Stage.{crossed}
 use Rattle.grammar.specs.declared.stage.Stage.{Stage}
 use Rattle.cells.specs.declared.link.Cable.{Cable}
 use Rattle.cells.specs.declared.port.Leg.{Leg}
-use Rattle.clauses.specs.Pairs.{port_of}
-use Rattle.clauses.specs.declared.pairs.Named.TheVariants.{Nothing, One}
+use Rattle.clauses.specs.Pairs.{port_of, Nothing, One}
 use Rattle.kept.specs.Kept.{All, Cabled, Pair, Ends, Carries, GoesBy, TilePort, carried, leg_link, port_in}
 
 -- a port's circuit by its leg

@@ -8,8 +8,7 @@ use Rattle.laws.specs.Pick.{pick}
 use Rattle.laws.specs.Table.{upd, Off}
 use Rattle.laws.proofs.Order.{never}
 use Rattle.laws.proofs.Table.{upd_hit, upd_miss, upd_all, place}
-use Rattle.clauses.specs.declared.pairs.Named.{Named}
-use Rattle.clauses.specs.declared.pairs.Named.TheVariants.{Nothing, One}
+use Rattle.clauses.specs.Pairs.{Named, Nothing, One}
 use Rattle.kept.specs.Kept.{All, Half, Pair}
 
 module _ {A : Type 0} {N k : ℕ} (f : ℕ → ℕ → A) (n i : ℕ) (a : A) where

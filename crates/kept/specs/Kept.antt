@@ -28,9 +28,7 @@ use Rattle.cells.specs.declared.end.Aim.{Aim}
 use Rattle.cells.specs.declared.end.Buffer.{Buffer}
 use Rattle.cells.specs.declared.unit.Hearing.{Hearing}
 use Rattle.clauses.specs.Contents.{legal_word}
-use Rattle.clauses.specs.Pairs.{port_of, end_of, straight_to, link_of, tile_of, unit_of, claim_of}
-use Rattle.clauses.specs.declared.pairs.Named.{Named}
-use Rattle.clauses.specs.declared.pairs.Named.TheVariants.{One}
+use Rattle.clauses.specs.Pairs.{port_of, end_of, straight_to, link_of, tile_of, unit_of, claim_of, Named, One}
 use Rattle.clauses.proofs.Meanings.{AimFacts}
 use Rattle.line_clauses.specs.Lines.{coming}
 use Rattle.travel.specs.Accounts.{InOrder}

@@ -22,8 +22,7 @@ use Rattle.grammar.proofs.Walks.{good_from}
 use Rattle.cells.specs.View.{whole_link, whole_port, whole_end, whole_unit, whole_line}
 use Rattle.cells.specs.World.{World, shaped, token_words, line_words, is_empty, far_of, hop, queue, line_from, At}
 use Rattle.clauses.specs.Contents.{ready, legal_word}
-use Rattle.clauses.specs.Pairs.{named_by, backward, players, open_end}
-use Rattle.clauses.specs.declared.pairs.Named.TheVariants.{One}
+use Rattle.clauses.specs.Pairs.{named_by, backward, players, open_end, One}
 use Rattle.clauses.specs.declared.pairs.Role.{Role}
 use Rattle.clauses.proofs.Meanings.{node_counts_lem, LinkFacts, link_counts_lem, PortFacts, port_counts_lem, EndFacts, end_counts_lem, unit_counts_lem}
 use Rattle.clauses.proofs.Meanings.{Joined, cables, credits, Hears, greetings, pairs, silences, filled_all, helds, heards, plain}

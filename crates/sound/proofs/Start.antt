@@ -21,8 +21,7 @@ use Rattle.cells.specs.Start.{start_net, start_world}
 use Rattle.cells.specs.Records.{to_port}
 use Rattle.clauses.specs.Counts.{port_counts, tile_port}
 use Rattle.clauses.specs.Contents.{back}
-use Rattle.clauses.specs.Pairs.{named_by}
-use Rattle.clauses.specs.declared.pairs.Named.TheVariants.{Nothing}
+use Rattle.clauses.specs.Pairs.{named_by, Nothing}
 use Rattle.clauses.specs.declared.pairs.Role.{Role}
 use Rattle.clauses.specs.declared.pairs.Role.TheVariants.{PortLink, LinkPort, PortTile, TilePort, PortUnit, UnitPort}
 use Rattle.clauses.specs.declared.pairs.Role.TheVariants.{PortClaim, ClaimPort, EndClaim, ClaimEnd, EndPort, PortEnd}

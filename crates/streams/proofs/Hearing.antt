@@ -30,7 +30,7 @@ use Rattle.cells.specs.View as Cells
 use Rattle.cells.specs.World.{World, far_of, hop}
 use Rattle.cells.specs.declared.unit.Hearing.{Hearing}
 use Rattle.clauses.specs.Pairs.{port_of, unit_of}
-use Rattle.clauses.specs.declared.pairs.Named.TheVariants as Nameds
+use Rattle.clauses.specs.Pairs as Nameds
 use Rattle.acts.specs.Acts.{with_net, width_at, pushed_all, first_at, until_closed, handed}
 use Rattle.messages.specs.Heard.{message_of, hears_word, listens}
 use Rattle.messages.specs.Ended.{obeyed, ended}

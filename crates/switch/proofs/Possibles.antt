@@ -26,8 +26,7 @@ use Rattle.ports.specs.Queue.{capacity}
 use Rattle.ports.specs.Memory.{place}
 use Rattle.cells.specs.World.{World, hop}
 use Rattle.clauses.specs.declared.pairs.Role.TheVariants.{PortLink, PortTile, PortUnit, PortClaim}
-use Rattle.clauses.specs.declared.pairs.Named.TheVariants.{Nothing, One}
-use Rattle.clauses.specs.Pairs.{port_of}
+use Rattle.clauses.specs.Pairs.{Nothing, One, port_of}
 use Rattle.acts.specs.Acts.{width_at, number_at, word_at, first_at, channel_claimed, channel_full}
 use Rattle.acts.specs.Needs.{Holds, Door}
 use Rattle.acts.proofs.Doors.{given_room}
