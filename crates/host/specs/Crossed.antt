@@ -1,5 +1,5 @@
 -- What stands for an enum, and for a record, on the other side.
-use Rattle.std.specs.Prelude.{ℕ, Bool, true, false, List, eqb, length}
+use Rattle.std.specs.Prelude.{ℕ, Bool, true, false, List, eqb, length, Option, Some, None}
 use Rattle.laws.specs.Pick.{pick}
 use Rattle.names.specs.declared.Slot.{Slot}
 use Rattle.answers.specs.Out.{Out}
@@ -7,8 +7,6 @@ use Rattle.answers.specs.Answer.{packed, answer_number}
 use Rattle.cells.specs.World.{World}
 use Rattle.probe.specs.Answer as Probe
 use Rattle.probe.specs.Calls as Calls
-use Rattle.looks.specs.declared.Seen.{Seen}
-use Rattle.looks.specs.declared.Seen.TheVariants.{Token, Nothing}
 
 -- a slot is a plain number on the other side
 abbrev pub slot : ℕ → Slot
@@ -25,10 +23,10 @@ crossing n w = record { number = n; next = w }
 abbrev pub crossed : Out World → Crossing
 crossed o = crossing (answer_number o.answer) o.next
 
--- what a look at a token finds
-abbrev pub seen_number : Seen → ℕ
-seen_number Nothing = packed 0 0
-seen_number (Token word) = packed 1 word
+-- what a look at a token finds: its word, if there is one
+abbrev pub seen_number : Option ℕ → ℕ
+seen_number None = packed 0 0
+seen_number (Some word) = packed 1 word
 
 -- what a look at a record leaves: its answer, and the caller's buffer
 pub record Shown : Type 0 where

@@ -3,14 +3,13 @@ ghost use Rattle.std.specs.Prelude.{◌≡◌};
 ghost use Rattle.host.specs.Crossed.{seen_number};
 
 use answers::packed;
-use looks::Seen;
 
-// What a look at a token finds.
-pub fn seen_number(s: Seen) -> u64
+// What a look at a token finds: its word, if there is one.
+pub fn seen_number(s: Option<u32>) -> u64
     ensures { result ≡ seen_number s }
 {
     match s {
-        Seen::Nothing => packed(0, 0),
-        Seen::Token(word) => packed(1, word),
+        Some(word) => packed(1, word),
+        None => packed(0, 0),
     }
 }

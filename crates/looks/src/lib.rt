@@ -16,13 +16,6 @@ use names::Slot;
 use names::size::{END_BUFFER, LINKS, PORTS};
 use ports::{Counters, Queues};
 
-// What a look at a token finds: its word.
-#[derive(Clone, Copy)]
-pub enum Seen {
-    Token(u32),
-    Nothing,
-}
-
 // The direction entry of a node for a bit 0..15.
 pub fn direction_of(st: &[u32], slot: Slot, bit: u32) -> u32
     ensures { result ≡ direction (view st.now) slot.0 bit }
@@ -41,57 +34,57 @@ fn held_at<const MANY: usize, const N: u32>(
     slot: Slot,
     queue: usize,
     i: u32,
-) -> Seen
+) -> Option<u32>
     requires { (0 < MANY) × (MANY * N < 2 ^ 64) × Serves N }
     ensures { result ≡ held_at MANY N c memory.now slot.0 queue i }
 {
     if slot.0 >= memory.len() / (MANY * N as usize) {
-        return Seen::Nothing;
+        return None;
     }
     if queue >= MANY {
-        return Seen::Nothing;
+        return None;
     }
     if i >= c.held {
-        return Seen::Nothing;
+        return None;
     }
     if i >= N {
-        return Seen::Nothing;
+        return None;
     }
     let from = Counters {
         head: c.head % N,
         held: 0,
     };
-    Seen::Token(Queues::<MANY, N>::word(from, memory, slot, queue, i) as u32)
+    Some(Queues::<MANY, N>::word(from, memory, slot, queue, i) as u32)
 }
 
-// The i-th token held in a port, oldest first.
-pub fn port_token(st: &[u32], mem: &[u16], slot: Slot, p: usize, i: u32) -> Seen
+// The word of the i-th token held in a port, oldest first.
+pub fn port_token(st: &[u32], mem: &[u16], slot: Slot, p: usize, i: u32) -> Option<u32>
     ensures { result ≡ port_token (world st.now mem.now) slot.0 p i }
 {
     let k = port::at(st, slot, p);
     held_at::<PORTS, { Counters::CAPACITY }>(k.counters, mem, slot, p, i)
 }
 
-// The i-th on the line that starts at a link, the first to arrive first.
-pub fn line_token(st: &[u32], ls: &[u16], slot: Slot, l: usize, i: u32) -> Seen
+// The word of the i-th on the line that starts at a link, the first to arrive first.
+pub fn line_token(st: &[u32], ls: &[u16], slot: Slot, l: usize, i: u32) -> Option<u32>
     ensures { result ≡ line_token (lined st.now ls.now) slot.0 l i }
 {
     let k = line::at(st, slot, l);
     held_at::<LINKS, CAPACITY>(k.ring, ls, slot, l, i)
 }
 
-// The i-th token held in a channel-end, oldest first.
+// The word of the i-th token held in a channel-end, oldest first.
 #[tactic(auto, using(laws::proofs::All::and_false), unfolding(crate::specs::Looks::end_token))]
-pub fn end_token(st: &[u32], slot: Slot, c: usize, i: usize) -> Seen
+pub fn end_token(st: &[u32], slot: Slot, c: usize, i: usize) -> Option<u32>
     ensures { result ≡ end_token (view st.now) slot.0 c i }
 {
     let k = end::at(st, slot, c);
     if i >= END_BUFFER {
-        return Seen::Nothing;
+        return None;
     }
     if i >= k.buffer.held as usize {
-        return Seen::Nothing;
+        return None;
     }
     let t = k.buffer.tokens;
-    Seen::Token(t[i])
+    Some(t[i])
 }
