@@ -4,8 +4,9 @@ use mathlib.Core.Path.{◌≡◌, refl, sym, ap, ◌∙◌}
 use mathlib.Core.Bool.{Bool, true, false, ◌&&◌, ◌||◌}
 use mathlib.Core.List.{List, ◌∷◌}
 use lib.Dec.{eqb}
+use Rattle.std.specs.Prelude.{Some, None}
 use Rattle.laws.specs.Pick.{pick}
-use Rattle.laws.proofs.Order.{by_test, clash}
+use Rattle.laws.proofs.Order.{by_test, never}
 use Rattle.names.specs.No as Names
 use Rattle.tokens.specs.Control.{output_no, no_of_class, class_of, writec, readc}
 use Rattle.tokens.specs.declared.control.Class.{Class}
@@ -21,8 +22,6 @@ use Rattle.ends.specs.Plan.{target_of, destination_of, output_plan}
 use Rattle.ends.specs.Output.{byte_of, word_of, is_unit, token_no, plan_rows, send_rows, token_sent, output}
 use Rattle.ends.specs.declared.Token.{Token}
 use Rattle.ends.specs.declared.Token.TheVariants.{Data, Control}
-use Rattle.ends.specs.declared.output.Destination.{Destination}
-use Rattle.ends.specs.declared.output.Destination.TheVariants.{Unaimed, Aimed}
 
 -- the numbers that a token can be refused by
 data Refusing : ℕ → Type 0 where
@@ -87,21 +86,11 @@ module _ (w : World) (n c : ℕ) (x : Token) where
   sends_on_lem g o e a q h =
       h ∙ ap (λ (y : Target). attempt (send_rows w.net n c y x) w (out Done (token_sent w n c y x))) q ∙ rw (e, a)
 
--- what a destination says of the channel-end
-abbrev is_aimed : Destination → Bool
-is_aimed Unaimed = false
-is_aimed (Aimed g) = true
+pub is_unaimed : (k : Aim) → destination_of k ≡ None → eqb k.kind 0 ≡ true
+is_unaimed k e = by_test (eqb k.kind 0) (λ f. f) (λ f. never (let q : Some (target_of k) ≡ None = rw f at e in cc))
 
-abbrev aim_at : Destination → Target → Target
-aim_at Unaimed d = d
-aim_at (Aimed g) d = g
-
-pub is_unaimed : (k : Aim) → destination_of k ≡ Unaimed → eqb k.kind 0 ≡ true
-is_unaimed k e =
-    by_test (eqb k.kind 0) (λ f. f) (λ f. clash (ap is_aimed (rw f at e)))
-
-pub is_aimed_lem : (k : Aim) (g : Target) → destination_of k ≡ Aimed g → (eqb k.kind 0 ≡ false) × (g ≡ target_of k)
+pub is_aimed_lem : (k : Aim) (g : Target) → destination_of k ≡ Some g → (eqb k.kind 0 ≡ false) × (g ≡ target_of k)
 is_aimed_lem k g e =
     by_test (eqb k.kind 0)
-    (λ f. clash (sym (ap is_aimed (rw f at e))))
-    (λ f. (f, sym (ap (λ (d : Destination). aim_at d g) (rw f at e))))
+    (λ f. never (let q : None ≡ Some g = rw f at e in cc))
+    (λ f. (f, let q : Some (target_of k) ≡ Some g = rw f at e in cc))

@@ -1,5 +1,5 @@
 -- What an Output is to do (document 01, "Calls" and 9, 10 of "Numbers for no"): read off the state, with nothing changed.
-use Rattle.std.specs.Prelude.{ℕ, Bool, ◌&&◌, eqb, leb}
+use Rattle.std.specs.Prelude.{ℕ, Bool, ◌&&◌, eqb, leb, Option, Some, None}
 use Rattle.laws.specs.Pick.{pick}
 use Rattle.laws.specs.All.{first}
 use Rattle.names.specs.Size.{reply_port}
@@ -15,17 +15,15 @@ use Rattle.cells.specs.View.{Net, whole_port}
 use Rattle.cells.specs.declared.end.Aim.{Aim}
 use Rattle.clauses.specs.Counts.{tile_port, is_free}
 use Rattle.acts.specs.Acts.{width_at, number_at, channel_claimed, channel_full}
-use Rattle.ends.specs.declared.output.Destination.{Destination}
-use Rattle.ends.specs.declared.output.Destination.TheVariants.{Unaimed, Aimed}
 use Rattle.ends.specs.declared.plan.Plan.{Plan}
 use Rattle.ends.specs.declared.plan.Plan.TheVariants.{Narrow, Full, Opens, Behind, Straight}
 
--- a channel-end's destination
+-- a channel-end's destination, if it is aimed
 abbrev pub target_of : Aim → Target
 target_of k = pick (eqb k.kind 1) (Channel (record { 0 = k.number }) k.channel) (Unit (record { 0 = k.number }))
 
-abbrev pub destination_of : Aim → Destination
-destination_of k = pick (eqb k.kind 0) Unaimed (Aimed (target_of k))
+abbrev pub destination_of : Aim → Option Target
+destination_of k = pick (eqb k.kind 0) None (Some (target_of k))
 
 -- "Otherwise the lowest free port 8..11 is taken"; the reply port, 12, where none is free
 abbrev pub free_port : Net → ℕ → ℕ → Bool

@@ -27,13 +27,6 @@ use tokens::control::output_no;
 use tokens::header::{Header, Target, make_header};
 use tokens::word::{of_control, of_data};
 
-// A channel-end's destination.
-#[derive(Clone, Copy)]
-pub enum Destination {
-    Unaimed,
-    Aimed(Target),
-}
-
 fn target_of(k: Aim) -> Target
     requires { AimFits k }
     ensures { result ≡ target_of k }
@@ -45,14 +38,15 @@ fn target_of(k: Aim) -> Target
     Target::Unit(n)
 }
 
-fn destination_of(k: Aim) -> Destination
+// A channel-end's destination, if it is aimed.
+fn destination_of(k: Aim) -> Option<Target>
     requires { Fits k }
     ensures { result ≡ destination_of k }
 {
     if k.kind == 0 {
-        return Destination::Unaimed;
+        return None;
     }
-    Destination::Aimed(target_of(k))
+    Some(target_of(k))
 }
 
 fn word_of(x: Token) -> u16
@@ -186,7 +180,7 @@ pub fn output(st: &mut [u32], mem: &mut [u16], slot: Slot, c: usize, x: Token) -
         return Answer::No(NO_SUCH);
     }
     let k = end::at(st, slot, c);
-    let Destination::Aimed(g) = destination_of(k.aim) else {
+    let Some(g) = destination_of(k.aim) else {
         return Answer::No(UNAIMED);
     };
     send(st, mem, slot, c, g, x)

@@ -37,12 +37,12 @@ send-requires c =
     let there = sym c.end_at.ensures ∙ c.if-not-end_at.false in
     let read = c.destination_of.ensures ∙ aim_read a.st.now a.slot.0 a.c c.at-k.ensures in
     sends_here (world a.st.now a.mem.now) a.slot.0 a.c c.requires there _
-    (is_aimed_lem ((view a.st.now).ends.aims a.slot.0 a.c) _ (sym read ∙ c.in-Aimed.is))
+    (is_aimed_lem ((view a.st.now).ends.aims a.slot.0 a.c) _ (sym read ∙ c.in-Some.is))
 
 pub returns : goal.returns
 returns c =
     let a = c.args in
     let there = sym c.end_at.ensures ∙ c.if-not-end_at.false in
     let read = c.destination_of.ensures ∙ aim_read a.st.now a.slot.0 a.c c.at-k.ensures in
-    let q = is_aimed_lem ((view a.st.now).ends.aims a.slot.0 a.c) _ (sym read ∙ c.in-Aimed.is) in
+    let q = is_aimed_lem ((view a.st.now).ends.aims a.slot.0 a.c) _ (sym read ∙ c.in-Some.is) in
     sends_on_lem (world a.st.now a.mem.now) a.slot.0 a.c a.x _ _ there q.0 q.1 c.send.ensures
