@@ -1,5 +1,7 @@
 // What an Output is to do, read off the state with nothing changed.
 ghost use Rattle.std.specs.Prelude.{◌≡◌};
+ghost use Rattle.laws.specs.All.{place_below};
+ghost use Rattle.names.specs.Size.{reply_port};
 ghost use Rattle.acts.specs.Needs.{NumberFits};
 ghost use Rattle.cells.specs.View.{view};
 ghost use Rattle.ends.specs.Plan.{lowest_free, straight_plan, local_plan, port_plan, target_plan, open_plan, behind_plan, output_plan};
@@ -29,25 +31,20 @@ pub enum Plan {
     Straight(usize),
 }
 
-// The lowest free port from the tile, the reply port where none is free.
-fn lowest_free(st: &[u32], slot: Slot) -> usize
-    ensures { result ≡ lowest_free (view st.now) slot.0 }
+// The lowest free port from the tile.
+fn lowest_free(st: &[u32], slot: Slot) -> Option<usize>
+    ensures { result ≡ place_below reply_port (lowest_free (view st.now) slot.0) }
 {
-    for p in FIRST_TILE_PORT..REPLY_PORT {
-        if !taken(st, slot, p) {
-            return p;
-        }
-    }
-    REPLY_PORT
+    (FIRST_TILE_PORT..REPLY_PORT).find(|&p| !taken(st, slot, p))
 }
 
+#[tactic(auto, using(laws::proofs::All::place_none))]
 fn port_plan(st: &[u32], slot: Slot) -> Plan
     ensures { result ≡ port_plan (view st.now) slot.0 }
 {
-    let p = lowest_free(st, slot);
-    if p == REPLY_PORT {
+    let Some(p) = lowest_free(st, slot) else {
         return Plan::Full;
-    }
+    };
     Plan::Opens(p)
 }
 

@@ -7,9 +7,10 @@ use native.Mathlib.Decide.{ℕ_discrete}
 use native.Mathlib.Omega.{arith}
 use native.Mathlib.Numerals.{add-one}
 use lib.Dec.{eqb, ltb, leb}
-use borrow.Author.Tests.{eqb-true, eq-eqb, ltb-true, lt-ltb, leb-true, le-leb, not-true, not-false}
-use Rattle.laws.specs.All.{all, first, NoneBelow, every, Means}
-use Rattle.laws.proofs.Order.{by_test, order, clash}
+use borrow.Author.Tests.{eqb-true, eq-eqb, ltb-true, ltb-false, lt-ltb, le-ltb, leb-true, le-leb, not-true, not-false}
+use Rattle.std.specs.Prelude.{Option, Some, None, MatchOption}
+use Rattle.laws.specs.All.{all, first, place_below, NoneBelow, every, Means}
+use Rattle.laws.proofs.Order.{by_test, order, clash, never}
 
 and_left : (a b : Bool) → (a && b) ≡ true → a ≡ true
 and_left true b e = refl
@@ -159,3 +160,27 @@ first_here f zero i l h e = absurd (omega arith)
 first_here f (suc n) zero l h e = rw e
 first_here f (suc n) (suc i) l h e =
     rw (h 0 (omega arith)) (ap suc (first_here (λ j. f (suc j)) n i (omega arith) (λ j k. h (suc j) (omega arith)) e))
+
+-- .. as `find` over the places from a up to n answers it, by a test that is this one there, with none of the places below a passing
+pub lowest_place : (f g : ℕ → Bool) (a n : ℕ) (r : Option ℕ) → NoneBelow f a → ((i : ℕ) → a ≤ i → i < n → f i ≡ g i)
+    → MatchOption r ((i : ℕ) → a ≤ i → i < n → g i ≡ false)
+    (λ i. (a ≤ i) × (i < n) × (g i ≡ true) × ((j : ℕ) → a ≤ j → j < i → g j ≡ false))
+    → r ≡ place_below n (first n f)
+lowest_place f g a n None less same h =
+    let none : NoneBelow f n = λ j l. ⊎_elim (less j) (λ m. same j m l ∙ h j m l) (order j a) in
+    rw (first_none f n none, le-ltb n n (omega arith)) refl
+lowest_place f g a n (Some i) less same h =
+    let none : NoneBelow f i = λ j l. ⊎_elim (less j) (λ m. same j m (omega (arith, h.1)) ∙ h.3 j m l) (order j a) in
+    rw (first_here f n i h.1 none (same i h.0 h.1 ∙ h.2), lt-ltb i n h.1) refl
+
+pub place_some : (n i p : ℕ) → Some p ≡ place_below n i → (i ≡ p) × (p < n)
+place_some n i p e =
+    by_test (ltb i n)
+    (λ t. let q : Some p ≡ Some i = rw t at e in let d : i ≡ p = cc in (d, rw d at (ltb-true i n t)))
+    (λ t. never (let q : Some p ≡ None = rw t at e in cc))
+
+pub place_none : (f : ℕ → Bool) (n : ℕ) → None ≡ place_below n (first n f) → first n f ≡ n
+place_none f n e =
+    by_test (ltb (first n f) n)
+    (λ t. never (let q : None ≡ Some (first n f) = rw t at e in cc))
+    (λ t. let h = ltb-false (first n f) n t in first_none f n (λ j k. first_least f n j (omega arith)))

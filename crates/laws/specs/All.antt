@@ -1,6 +1,6 @@
 -- A test at every index below a bound, and what a test means.
 use Prim.{Unit}
-use Rattle.std.specs.Prelude.{ℕ, zero, suc, ◌<◌, ◌≡◌, Bool, true, false, ◌&&◌, List, [], ◌∷◌}
+use Rattle.std.specs.Prelude.{ℕ, zero, suc, ◌<◌, ◌≡◌, Bool, true, false, ◌&&◌, List, [], ◌∷◌, ltb, Option, Some, None}
 use Rattle.laws.specs.Pick.{pick}
 
 -- f 0, f 1, .. f (n - 1) all hold
@@ -12,6 +12,10 @@ all (suc n) f = all n f && f n
 unfoldable pub first : ℕ → (ℕ → Bool) → ℕ
 first zero f = 0
 first (suc n) f = pick (f 0) 0 (suc (first n (λ i. f (suc i))))
+
+-- the place i where it is below n, as one is that was found; none where it is the bound
+abbrev pub place_below : ℕ → ℕ → Option ℕ
+place_below n i = pick (ltb i n) (Some i) None
 
 -- no place below i passes
 abbrev pub NoneBelow : (ℕ → Bool) → ℕ → Type 0

@@ -20,7 +20,7 @@ use acts::{channel_full, number_at, width_at, word_at};
 use cells::{link, node, port, unit};
 use circuits::{Cause, Hop, hop_of};
 use names::Slot;
-use names::size::{LINKS, REPLY_PORT, TILE_LINKS};
+use names::size::REPLY_PORT;
 use routing::way::way_to;
 use tokens::header::Target;
 
@@ -52,24 +52,23 @@ pub enum Plan {
 fn route_plan(st: &[u32], slot: Slot, d: u32, v: u32) -> Plan
     ensures { result ≡ route_plan (view st.now) slot.0 d v }
 {
-    let l = lowest_link(st, slot, d, v, true);
-    if l < LINKS {
+    if let Some(l) = lowest_link(st, slot, d, v, true) {
         return Plan::OpenOut(l);
     }
-    if lowest_link(st, slot, d, v, false) < LINKS {
+    if lowest_link(st, slot, d, v, false).is_some() {
         return Plan::Wait;
     }
     Plan::Refuse(Cause::NoRoute)
 }
 
 // To a channel of this node.
+#[tactic(auto, using(laws::proofs::All::place_none))]
 fn channel_plan(st: &[u32], slot: Slot, c: usize) -> Plan
     ensures { result ≡ channel_plan (view st.now) slot.0 c }
 {
-    let t = lowest_tile(st, slot);
-    if t == TILE_LINKS {
+    let Some(t) = lowest_tile(st, slot) else {
         return Plan::Wait;
-    }
+    };
     if channel_claimed(st, slot, c) {
         return Plan::Wait;
     }

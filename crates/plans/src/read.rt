@@ -1,8 +1,8 @@
 // What a switch reads: a header in a port, a circuit's network, which links and tile links are free.
 ghost use Rattle.std.specs.Prelude.{◌≡◌};
 ghost use Rattle.laws.specs.Pick.{pick};
-ghost use Rattle.laws.specs.All.{first};
-ghost use Rattle.names.specs.Size.{links};
+ghost use Rattle.laws.specs.All.{first, place_below};
+ghost use Rattle.names.specs.Size.{links, tile_links};
 ghost use Rattle.acts.specs.Acts.{word_at};
 ghost use Rattle.acts.specs.Needs.{Holds};
 ghost use Rattle.cells.specs.View.{view};
@@ -103,18 +103,12 @@ fn suits(st: &[u32], slot: Slot, d: u32, v: u32, free: bool, l: usize) -> bool
     candidate
 }
 
-// The lowest candidate, or the lowest free one; 8 where there is none.
-#[tactic(auto, using(laws::proofs::All::first_none, laws::proofs::All::none_more))]
-pub fn lowest_link(st: &[u32], slot: Slot, d: u32, v: u32, free: bool) -> usize
-    ensures { result ≡ first links
-        (pick free (free_candidate (view st.now) slot.0 d v) (candidate (view st.now) slot.0 d v)) }
+// The lowest candidate, or the lowest free one.
+pub fn lowest_link(st: &[u32], slot: Slot, d: u32, v: u32, free: bool) -> Option<usize>
+    ensures { result ≡ place_below links (first links
+        (pick free (free_candidate (view st.now) slot.0 d v) (candidate (view st.now) slot.0 d v))) }
 {
-    for l in 0..LINKS {
-        if suits(st, slot, d, v, free, l) {
-            return l;
-        }
-    }
-    LINKS
+    (0..LINKS).find(|&l| suits(st, slot, d, v, free, l))
 }
 
 fn tile_free(st: &[u32], slot: Slot, t: usize) -> bool
@@ -124,15 +118,9 @@ fn tile_free(st: &[u32], slot: Slot, t: usize) -> bool
     k.user.kind == 0
 }
 
-// The lowest free tile link, 4 where none is.
-#[tactic(auto, using(laws::proofs::All::first_none, laws::proofs::All::none_more))]
-pub fn lowest_tile(st: &[u32], slot: Slot) -> usize
-    ensures { result ≡ lowest_tile (view st.now) slot.0 }
+// The lowest free tile link.
+pub fn lowest_tile(st: &[u32], slot: Slot) -> Option<usize>
+    ensures { result ≡ place_below tile_links (lowest_tile (view st.now) slot.0) }
 {
-    for t in 0..TILE_LINKS {
-        if tile_free(st, slot, t) {
-            return t;
-        }
-    }
-    TILE_LINKS
+    (0..TILE_LINKS).find(|&t| tile_free(st, slot, t))
 }

@@ -1,7 +1,8 @@
--- `plans::read::lowest_link` meets its contract: the link that suits is the first that does. Assumes nothing.
-use Rattle.std.proofs.Common.{◌≡◌, ℕ, Bool, true, false, arith, refl, sym, ◌∙◌}
+-- `plans::read::lowest_link` meets its contract: what `find` answers is the first that suits. Assumes nothing.
+use Rattle.std.proofs.Common.{◌≡◌, ℕ, Bool, true, false, refl, arith, rules, tests}
+use Rattle.std.proofs.lemmas.Iterator.{first_from_Range}
 use Rattle.laws.specs.Pick.{pick}
-use Rattle.laws.proofs.All.{first_here}
+use Rattle.laws.proofs.All.{lowest_place}
 use Rattle.names.specs.Size.{links}
 use Rattle.cells.specs.View.{Net, view}
 use Rattle.plans.specs.Plan.{candidate, free_candidate}
@@ -13,9 +14,11 @@ at_link : (s : Net) (n d v l : ℕ) (free : Bool)
 at_link s n d v l true = refl
 at_link s n d v l false = refl
 
-pub returns-then-suits : goal.returns-then-suits
-returns-then-suits c =
-    let l = c.loop-l in
+pub returns : goal.returns
+returns c =
     let a = c.args in
-    let e = at_link (view a.st.now) a.slot.0 a.d a.v l.l a.free in
-    sym (first_here _ links l.l (omega arith) l.invariant (e ∙ sym c.suits.ensures ∙ c.if-suits.true))
+    let s = view a.st.now in
+    let suits = λ (l : ℕ). pick a.free (free_candidate s a.slot.0 a.d a.v l) (candidate s a.slot.0 a.d a.v l) in
+    lowest_place _ suits 0 links _ (λ j l. absurd (omega arith)) (λ i m l. at_link s a.slot.0 a.d a.v i a.free)
+    (first_from_Range _ _ _ _ (λ i. suits i ≡ true) (λ i. suits i ≡ false) c.find.ensures.ran
+    (λ x q k. search (rules, tests)) (λ x q k. search (rules, tests)))
