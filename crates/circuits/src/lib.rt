@@ -44,6 +44,8 @@ pub enum Hop {
     Dropped(Cause),
 }
 
+// Words and enums are read off each other by functions of the definitions' own names, which every contract cites; `From` at their calls
+// would say less, and a hop needs two values.
 pub fn peer_of(c: Circuit) -> Peer
     ensures { result ≡ peer_of c }
 {
@@ -106,11 +108,8 @@ pub fn tile_of(h: Hop) -> u32
     ensures { result ≡ tile_taken h }
 {
     match h {
-        Hop::Shut => 0,
-        Hop::Out(_) => 0,
         Hop::Channel(_, tile) => tile,
-        Hop::Unit => 0,
-        Hop::Dropped(_) => 0,
+        Hop::Shut | Hop::Out(_) | Hop::Unit | Hop::Dropped(_) => 0,
     }
 }
 
