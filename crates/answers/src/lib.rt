@@ -87,6 +87,7 @@ pub fn case_of(a: Answer) -> u32
     }
 }
 
+// No From: the numbers are the host's, of `cause_of` in specs/Answer.antt, and `Cause` stands in a crate below.
 fn cause_of(c: Cause) -> u32
     ensures { result ≡ cause_of c }
 {

@@ -19,7 +19,7 @@ fn joined(st: &[u32], slot: Slot, l: usize, m: Slot, k: usize) -> bool
     ensures { result ≡ joined (view st.now) slot.0 l m.0 k }
 {
     let back = leads_to(far_at(st, m, k), slot, l);
-    (m.0 < node::count(st)) & ((k < LINKS) & (!((m.0 == slot.0) & (k == l)) & back))
+    (m.0 < node::count(st)) & ((k < LINKS) & (!((m == slot) & (k == l)) & back))
 }
 
 // "cables agree at both ends"

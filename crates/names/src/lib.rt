@@ -10,11 +10,11 @@ ghost use Rattle.names.specs.Number.{ranged, is_number, of_bytes, high_byte, low
 
 // A node's place in the bench's table. As the argument of a call it may be any number: a slot that
 // is not there is NoSuch.
-#[derive(Clone, Copy)]
+#[derive(Clone, Copy, PartialEq, Eq)]
 pub struct Slot(pub usize);
 
 // The 16-bit identifier written into a node's switch. Two nodes may carry the same one.
-#[derive(Clone, Copy)]
+#[derive(Clone, Copy, PartialEq, Eq)]
 pub struct NodeNumber(pub u16);
 
 impl NodeNumber {

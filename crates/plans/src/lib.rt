@@ -13,7 +13,7 @@ ghost use Rattle.plans.specs.Plan.{route_plan, channel_plan, unit_plan, here_pla
 ghost use Rattle.plans.specs.Plan.{header_plan, out_plan, hand_plan, by_hop, step_plan};
 
 use crate::read::{
-    lowest_link, lowest_tile, marked_width, network_at, number_in, same_width, size_of, target_at,
+    lowest_link, lowest_tile, marked_width, network_at, number_in, size_of, target_at,
 };
 use acts::circuit::channel_claimed;
 use acts::{channel_full, number_at, width_at, word_at};
@@ -128,7 +128,7 @@ fn header_plan(st: &[u32], mem: &[u16], slot: Slot, p: usize) -> Plan
     if k.counters.held < size_of(width) {
         return Plan::Wait;
     }
-    if !same_width(width, width_at(st, slot)) {
+    if width != width_at(st, slot) {
         return Plan::Refuse(Cause::Split);
     }
     way_plan(st, slot, p, target_at(st, mem, slot, p))

@@ -7,7 +7,7 @@ ghost use Rattle.acts.specs.Acts.{word_at};
 ghost use Rattle.acts.specs.Needs.{Holds};
 ghost use Rattle.cells.specs.View.{view};
 ghost use Rattle.cells.specs.World.{world};
-ghost use Rattle.plans.specs.Plan.{marked_width, size_of, same_width, target_at, network_at};
+ghost use Rattle.plans.specs.Plan.{marked_width, size_of, target_at, network_at};
 ghost use Rattle.plans.specs.Plan.{number_in, candidate, free_candidate, tile_free, lowest_tile};
 
 use acts::word_at;
@@ -34,21 +34,6 @@ pub fn size_of(w: Width) -> u32
     match w {
         Width::One => 1,
         Width::Three => 3,
-    }
-}
-
-pub fn same_width(a: Width, b: Width) -> bool
-    ensures { result ≡ same_width a b }
-{
-    match a {
-        Width::One => match b {
-            Width::One => true,
-            Width::Three => false,
-        },
-        Width::Three => match b {
-            Width::One => false,
-            Width::Three => true,
-        },
     }
 }
 

@@ -34,7 +34,7 @@ fn wire_no(st: &[u32], a: Slot, l: usize, b: Slot, k: usize) -> u8
     if !there {
         return NO_SUCH;
     }
-    let itself = (a.0 == b.0) & (l == k);
+    let itself = (a == b) & (l == k);
     if itself {
         return VALUE;
     }

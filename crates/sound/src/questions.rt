@@ -14,7 +14,7 @@ use names::Slot;
 
 // All that the ties ask of a link.
 #[tactic(auto, unfolding(line_clauses::specs::Lines::load_at))]
-pub fn tied(m: &Memories, slot: Slot, l: usize) -> bool
+pub(crate) fn tied(m: &Memories, slot: Slot, l: usize) -> bool
     ensures { result ≡ tied (world_of m.now) slot.0 l }
 {
     let lined = between(m.state, slot, l) & (towards(m, slot, l) & hello_last(m, slot, l));
@@ -22,21 +22,21 @@ pub fn tied(m: &Memories, slot: Slot, l: usize) -> bool
     fed_over(m, slot, l) & (unfed(m, slot, l) & used)
 }
 
-pub fn quiet_port(st: &[u32], slot: Slot, p: usize) -> bool
+pub(crate) fn quiet_port(st: &[u32], slot: Slot, p: usize) -> bool
     ensures { result ≡ quiet_port (view st.now) slot.0 p }
 {
     let k = port::at(st, slot, p);
     (k.counters.held == 0) & (k.leg.circuit.kind == 0)
 }
 
-pub fn quiet_end(st: &[u32], slot: Slot, c: usize) -> bool
+pub(crate) fn quiet_end(st: &[u32], slot: Slot, c: usize) -> bool
     ensures { result ≡ quiet_end (view st.now) slot.0 c }
 {
     let k = end::at(st, slot, c);
     (k.buffer.held == 0) & ((k.claim.kind == 0) & (k.sending.kind == 0))
 }
 
-pub fn quiet_line(st: &[u32], slot: Slot, l: usize) -> bool
+pub(crate) fn quiet_line(st: &[u32], slot: Slot, l: usize) -> bool
     ensures { result ≡ quiet_line (view st.now) slot.0 l }
 {
     let k = line::at(st, slot, l);

@@ -12,7 +12,7 @@ use names::{NodeNumber, size};
 const CHANNELS: u8 = size::CHANNELS as u8;
 
 // The width of a node's headers.
-#[derive(Clone, Copy)]
+#[derive(Clone, Copy, PartialEq, Eq)]
 pub enum Width {
     One,
     Three,
@@ -93,11 +93,7 @@ pub fn make_header(t: Target, w: Width) -> Header
 pub fn is_narrow(h: Header) -> bool
     ensures { result ≡ is_narrow h }
 {
-    match h {
-        Header::Narrow => true,
-        Header::One(_) => false,
-        Header::Three(_, _, _) => false,
-    }
+    matches!(h, Header::Narrow)
 }
 
 #[tactic(auto, unfolding(crate::specs::Header::read_one))]
