@@ -1,16 +1,16 @@
 -- "If an answer is an enum, a definition gives this paper's number and values for each of its cases." (document 01, "Where each form
 -- belongs")
 use Rattle.std.specs.Prelude.{ℕ, ◌+◌, ◌*◌}
-use Rattle.names.specs.No.{passes}
+use Rattle.names.specs.No.{number, passes}
 use Rattle.circuits.specs.declared.Cause.{Cause}
 use Rattle.circuits.specs.declared.Cause.TheVariants.{Split, NoRoute}
-use Rattle.answers.specs.declared.Answer.{Answer}
-use Rattle.answers.specs.declared.Answer.TheVariants.{No, Done, Granted, Token, Idle, Waiting, Moved, OpenedLink, OpenedChannel}
-use Rattle.answers.specs.declared.Answer.TheVariants.{OpenedUnit, Refused, Dropped, Malformed, Unheard, Arrived}
+use Rattle.answers.specs.Answered.{Answered}
+use Rattle.answers.specs.Answered.{No, Done, Granted, Token, Idle, Waiting, Moved, OpenedLink, OpenedChannel}
+use Rattle.answers.specs.Answered.{OpenedUnit, Refused, Dropped, Malformed, Unheard, Arrived}
 
 -- "A refused call returns its number": the number for no, and none for every other answer
-abbrev pub number_of : Answer → ℕ
-number_of (No n) = n
+abbrev pub number_of : Answered → ℕ
+number_of (No n) = number n
 number_of Done = passes
 number_of (Granted g) = passes
 number_of (Token v) = passes
@@ -27,7 +27,7 @@ number_of Unheard = passes
 number_of (Arrived g) = passes
 
 -- which case it is, in the order in which they are listed
-abbrev pub case_of : Answer → ℕ
+abbrev pub case_of : Answered → ℕ
 case_of (No n) = 0
 case_of Done = 1
 case_of (Granted g) = 2
@@ -51,8 +51,8 @@ cause_of NoRoute = 1
 
 -- the number that its case bears: a refusal's, "The answer to HELLO gives the grant", the token that Input took, the link that a circuit
 -- opened by, a circuit's cause, the grant that an arrival brought
-abbrev pub answer_value : Answer → ℕ
-answer_value (No n) = n
+abbrev pub answer_value : Answered → ℕ
+answer_value (No n) = number n
 answer_value Done = 0
 answer_value (Granted g) = g
 answer_value (Token v) = v
@@ -73,5 +73,5 @@ abbrev pub packed : ℕ → ℕ → ℕ
 packed case value = case * 4294967296 + value
 
 -- what a call answers: its case, and the number that the case bears
-abbrev pub answer_number : Answer → ℕ
+abbrev pub answer_number : Answered → ℕ
 answer_number a = packed (case_of a) (answer_value a)

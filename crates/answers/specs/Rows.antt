@@ -1,23 +1,28 @@
 -- "Numbers for no .. Given exactly when .. The lowest number wins." (document 01): the refusals of a call are rows, each a test and its
 -- number, and the first whose test holds is given.
-use Prim.{Unit}
-use Rattle.std.specs.Prelude.{ℕ, ◌≡◌, Bool, true, false, not, ◌&&◌, List, [], ◌∷◌, eqb, ltb}
+use Prim.{Unit, tt}
+use Rattle.std.specs.Prelude.{ℕ, ◌≡◌, Bool, true, false, not, ◌&&◌, List, [], ◌∷◌, Result, Ok, Err, eqb, ltb}
 use Rattle.laws.specs.Pick.{pick}
 use Rattle.names.specs.No as Names
+use Rattle.names.specs.declared.no.No.{No as Why}
 
 pub record Row : Type 0 where
   pub when : Bool
-  pub no : Names.No
+  pub no : Why
 
-abbrev pub refused_if : Bool → Names.No → Row
+abbrev pub refused_if : Bool → Why → Row
 refused_if b k = record { when = b; no = k }
 
+abbrev pub checked : List Row → Result Unit Why
+checked [] = Ok tt
+checked (r ∷ rs) = pick r.when (Err r.no) (checked rs)
+
+-- .. by its number
 abbrev pub refusal : List Row → ℕ
-refusal [] = Names.passes
-refusal (r ∷ rs) = pick r.when (Names.number r.no) (refusal rs)
+refusal rs = Names.number_by (checked rs)
 
 -- what number k is given for: its row's test holds, and no test before it does
-abbrev pub Exactly : List Row → Names.No → Type 0
+abbrev pub Exactly : List Row → Why → Type 0
 Exactly [] k = ⊥
 Exactly (r ∷ rs) k = pick (eqb (Names.number r.no) (Names.number k)) (r.when ≡ true) ((r.when ≡ false) × Exactly rs k)
 

@@ -1,16 +1,15 @@
-// What a call answers. One type serves all calls: a list of calls has then a list of answers, and there is
-// one number for an answer wherever words are lent for it.
+// What comes of a call that is not refused: a call answers this or the name by which it is refused, with nothing changed. One type serves
+// all calls: a list of calls has then a list of answers, and there is one number for an answer wherever words are lent for it.
 #![tactic(auto)]
 
 ghost use Rattle.std.specs.Prelude.{◌≡◌};
-ghost use Rattle.answers.specs.Answer.{number_of, case_of, cause_of, answer_value, packed, answer_number};
+ghost use Rattle.answers.specs.Answer.{case_of, cause_of, answer_value, packed, answer_number};
 
 use circuits::Cause;
+use names::no::No;
 
 #[derive(Clone, Copy)]
 pub enum Answer {
-    // refused, by the paper's number: nothing is changed
-    No(u8),
     // Fresh, Wire, Set (but for HELLO), Aim and Output
     Done,
     // "The answer to HELLO gives the grant."
@@ -41,49 +40,26 @@ pub enum Answer {
     Arrived(u32),
 }
 
-// The paper's number of a refusal, 0 for none.
-pub fn number(a: Answer) -> u8
-    ensures { result ≡ number_of a }
-{
-    match a {
-        Answer::No(n) => n,
-        Answer::Done => 0,
-        Answer::Granted(_) => 0,
-        Answer::Token(_) => 0,
-        Answer::Idle => 0,
-        Answer::Waiting => 0,
-        Answer::Moved => 0,
-        Answer::OpenedLink(_) => 0,
-        Answer::OpenedChannel => 0,
-        Answer::OpenedUnit => 0,
-        Answer::Refused(_) => 0,
-        Answer::Dropped(_) => 0,
-        Answer::Malformed => 0,
-        Answer::Unheard => 0,
-        Answer::Arrived(_) => 0,
-    }
-}
-
 // Which case an answer is.
-pub fn case_of(a: Answer) -> u32
+pub fn case_of(a: Result<Answer, No>) -> u32
     ensures { result ≡ case_of a }
 {
     match a {
-        Answer::No(_) => 0,
-        Answer::Done => 1,
-        Answer::Granted(_) => 2,
-        Answer::Token(_) => 3,
-        Answer::Idle => 4,
-        Answer::Waiting => 5,
-        Answer::Moved => 6,
-        Answer::OpenedLink(_) => 7,
-        Answer::OpenedChannel => 8,
-        Answer::OpenedUnit => 9,
-        Answer::Refused(_) => 10,
-        Answer::Dropped(_) => 11,
-        Answer::Malformed => 12,
-        Answer::Unheard => 13,
-        Answer::Arrived(_) => 14,
+        Err(_) => 0,
+        Ok(Answer::Done) => 1,
+        Ok(Answer::Granted(_)) => 2,
+        Ok(Answer::Token(_)) => 3,
+        Ok(Answer::Idle) => 4,
+        Ok(Answer::Waiting) => 5,
+        Ok(Answer::Moved) => 6,
+        Ok(Answer::OpenedLink(_)) => 7,
+        Ok(Answer::OpenedChannel) => 8,
+        Ok(Answer::OpenedUnit) => 9,
+        Ok(Answer::Refused(_)) => 10,
+        Ok(Answer::Dropped(_)) => 11,
+        Ok(Answer::Malformed) => 12,
+        Ok(Answer::Unheard) => 13,
+        Ok(Answer::Arrived(_)) => 14,
     }
 }
 
@@ -98,25 +74,25 @@ fn cause_of(c: Cause) -> u32
 }
 
 // The number that its case bears.
-pub fn value_of(a: Answer) -> u32
+pub fn value_of(a: Result<Answer, No>) -> u32
     ensures { result ≡ answer_value a }
 {
     match a {
-        Answer::No(n) => n as u32,
-        Answer::Done => 0,
-        Answer::Granted(credit) => credit,
-        Answer::Token(value) => value as u32,
-        Answer::Idle => 0,
-        Answer::Waiting => 0,
-        Answer::Moved => 0,
-        Answer::OpenedLink(l) => l,
-        Answer::OpenedChannel => 0,
-        Answer::OpenedUnit => 0,
-        Answer::Refused(c) => cause_of(c),
-        Answer::Dropped(c) => cause_of(c),
-        Answer::Malformed => 0,
-        Answer::Unheard => 0,
-        Answer::Arrived(credit) => credit,
+        Err(no) => no.number() as u32,
+        Ok(Answer::Done) => 0,
+        Ok(Answer::Granted(credit)) => credit,
+        Ok(Answer::Token(value)) => value as u32,
+        Ok(Answer::Idle) => 0,
+        Ok(Answer::Waiting) => 0,
+        Ok(Answer::Moved) => 0,
+        Ok(Answer::OpenedLink(l)) => l,
+        Ok(Answer::OpenedChannel) => 0,
+        Ok(Answer::OpenedUnit) => 0,
+        Ok(Answer::Refused(c)) => cause_of(c),
+        Ok(Answer::Dropped(c)) => cause_of(c),
+        Ok(Answer::Malformed) => 0,
+        Ok(Answer::Unheard) => 0,
+        Ok(Answer::Arrived(credit)) => credit,
     }
 }
 
@@ -128,7 +104,7 @@ pub fn packed(case: u32, value: u32) -> u64
 }
 
 // The whole answer as one number.
-pub fn answer_number(a: Answer) -> u64
+pub fn answer_number(a: Result<Answer, No>) -> u64
     ensures { result ≡ answer_number a }
 {
     packed(case_of(a), value_of(a))

@@ -7,10 +7,11 @@ use lib.Dec.{eqb}
 use Rattle.std.specs.Prelude.{Option, Some, None}
 use Rattle.laws.specs.All.{Means}
 use Rattle.names.specs.No as Names
+use Rattle.names.specs.declared.no.No.{No as Why}
 use Rattle.answers.specs.Answer.{number_of}
 use Rattle.answers.specs.Rows.{refusal, Exactly, Passes, rising, distinct}
 use Rattle.answers.specs.Out.{Out, out}
-use Rattle.answers.specs.declared.Answer.{Answer}
+use Rattle.answers.specs.Answered.{Answered}
 use Rattle.answers.proofs.Refusals.{given, passed, answered, refused_keeps}
 use Rattle.cells.specs.World.{World, lent}
 use Rattle.cells.proofs.Whole.{whole_state}
@@ -25,7 +26,7 @@ use Rattle.bench.specs.Calls.{came_answer}
 use Rattle.bench.specs.Calls.{Call, Begin, Wire, Set, Aim, Output, Input, Step, Line, Steps, rows, made, apply}
 
 -- "show that two results meeting it are equal": answer, every word of the state, every word of token memory, in ports and on lines
-pub one_result : (w : World) (c : Call) (r q : Answer) (st zt mem nem ls ks : List ℕ)
+pub one_result : (w : World) (c : Call) (r q : Answered) (st zt mem nem ls ks : List ℕ)
     → out r (lent st mem ls) ≡ apply w c
     → out q (lent zt nem ks) ≡ apply w c
     → (r ≡ q) × (st ≡ zt) × (mem ≡ nem) × (ls ≡ ks)
@@ -114,7 +115,7 @@ module _ (w : World) (c : Call) where
   numbered = answered (rows w c) w (made w c) (passing w c)
 
   -- "Given exactly when": number k is answered exactly where its row's test holds and no row before it refuses
-  pub exactly : (k : Names.No) → Means (eqb (number_of (apply w c).answer) (Names.number k)) (Exactly (rows w c) k)
+  pub exactly : (k : Why) → Means (eqb (number_of (apply w c).answer) (Names.number k)) (Exactly (rows w c) k)
   exactly k = rw numbered (given (rows w c) k (once w c))
 
   -- no number, exactly where no row refuses
@@ -127,7 +128,7 @@ module _ (w : World) (c : Call) where
   refused_changes_nothing h = refused_keeps (rows w c) w (made w c) (passing w c) h
 
 -- .. and over the lent words themselves: whatever words meet the contract of a call that is refused are the words that were lent
-pub refused_words : (st mem ls zt nem ks : List ℕ) (c : Call) (r : Answer)
+pub refused_words : (st mem ls zt nem ks : List ℕ) (c : Call) (r : Answered)
     → (number_of (apply (lent st mem ls) c).answer ≡ Names.passes → ⊥)
     → out r (lent zt nem ks) ≡ apply (lent st mem ls) c
     → (zt ≡ st) × (nem ≡ mem) × (ks ≡ ls)

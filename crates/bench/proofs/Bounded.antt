@@ -12,6 +12,8 @@ use Rattle.laws.specs.Pick.{pick}
 use Rattle.laws.proofs.Order.{by_test}
 use Rattle.names.specs.Size.{links, tile_links, reply_port}
 use Rattle.names.specs.No as Names
+use Rattle.names.specs.declared.no.No.{No as Why}
+use Rattle.names.specs.declared.no.No.TheVariants as Whys
 use Rattle.circuits.specs.declared.Hop.{Hop}
 use Rattle.circuits.specs.declared.Hop.TheVariants as Hops
 use Rattle.circuits.specs.declared.Cause.TheVariants.{Split, NoRoute}
@@ -21,9 +23,9 @@ use Rattle.routing.specs.Way.{way_to, Way, ThisNode, OtherNode}
 use Rattle.routing.specs.Direction.{entry_of}
 use Rattle.answers.specs.Answer.{answer_value}
 use Rattle.answers.specs.Rows.{Row, refusal}
-use Rattle.answers.specs.declared.Answer.{Answer}
-use Rattle.answers.specs.declared.Answer.TheVariants.{No, Done, Granted, Token, Idle, Waiting, Moved, OpenedLink, OpenedChannel}
-use Rattle.answers.specs.declared.Answer.TheVariants.{OpenedUnit, Refused, Dropped, Malformed, Unheard, Arrived}
+use Rattle.answers.specs.Answered.{Answered}
+use Rattle.answers.specs.Answered.{No, Done, Granted, Token, Idle, Waiting, Moved, OpenedLink, OpenedChannel}
+use Rattle.answers.specs.Answered.{OpenedUnit, Refused, Dropped, Malformed, Unheard, Arrived}
 use Rattle.credits.specs.Grant as Grant
 use Rattle.cells.specs.View.{Net}
 use Rattle.lines.specs.Load.{is_hello, credit_of}
@@ -42,7 +44,7 @@ use Rattle.travel.proofs.Granted.{due_granted}
 use Rattle.bench.specs.Calls.{came_answer}
 use Rattle.bench.specs.Calls.{Call, Begin, Wire, Set, Aim, Output, Input, Step, Line, Steps, rows, made, apply}
 
-abbrev pub Bounded : Answer → Type 0
+abbrev pub Bounded : Answered → Type 0
 Bounded (No n) = (1 ≤ n) × (n ≤ 12)
 Bounded Done = Unit
 Bounded (Granted g) = Grant.Granted g
@@ -61,19 +63,19 @@ Bounded (Arrived g) = Grant.Granted g
 
 -- Refusals
 
-twelve : (k : Names.No) → (1 ≤ Names.number k) × (Names.number k ≤ 12)
-twelve Names.Unsound = (lit≤ tt, lit≤ tt)
-twelve Names.NoSuch = (lit≤ tt, lit≤ tt)
-twelve Names.Value = (lit≤ tt, lit≤ tt)
-twelve Names.Busy = (lit≤ tt, lit≤ tt)
-twelve Names.Unaimed = (lit≤ tt, lit≤ tt)
-twelve Names.Open = (lit≤ tt, lit≤ tt)
-twelve Names.Hardware = (lit≤ tt, lit≤ tt)
-twelve Names.Privileged = (lit≤ tt, lit≤ tt)
-twelve Names.Narrow = (lit≤ tt, lit≤ tt)
-twelve Names.Full = (lit≤ tt, lit≤ tt)
-twelve Names.Empty = (lit≤ tt, lit≤ tt)
-twelve Names.Trap = (lit≤ tt, lit≤ tt)
+twelve : (k : Why) → (1 ≤ Names.number k) × (Names.number k ≤ 12)
+twelve Whys.Unsound = (lit≤ tt, lit≤ tt)
+twelve Whys.NoSuch = (lit≤ tt, lit≤ tt)
+twelve Whys.Value = (lit≤ tt, lit≤ tt)
+twelve Whys.Busy = (lit≤ tt, lit≤ tt)
+twelve Whys.Unaimed = (lit≤ tt, lit≤ tt)
+twelve Whys.Open = (lit≤ tt, lit≤ tt)
+twelve Whys.Hardware = (lit≤ tt, lit≤ tt)
+twelve Whys.Privileged = (lit≤ tt, lit≤ tt)
+twelve Whys.Narrow = (lit≤ tt, lit≤ tt)
+twelve Whys.Full = (lit≤ tt, lit≤ tt)
+twelve Whys.Empty = (lit≤ tt, lit≤ tt)
+twelve Whys.Trap = (lit≤ tt, lit≤ tt)
 
 refused_by : (rs : List Row) → (refusal rs ≡ Names.passes → ⊥) → (1 ≤ refusal rs) × (refusal rs ≤ 12)
 refused_by [] h = absurd (h refl)
@@ -202,7 +204,7 @@ some_grant g Grant.sixteen = lit≤ tt
 some_grant g Grant.all = lit≤ tt
 
 -- the number that an answer bears is below 256
-pub small_value : (a : Answer) → Bounded a → answer_value a < 256
+pub small_value : (a : Answered) → Bounded a → answer_value a < 256
 small_value (No n) h = let z = h.1 in omega arith
 small_value Done h = lit≤ tt
 small_value (Granted g) h = let z = some_grant g h in omega arith

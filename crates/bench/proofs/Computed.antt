@@ -9,7 +9,7 @@ use borrow.Author.Tests.{leb-true}
 use Rattle.names.specs.Size.{nodes}
 use Rattle.answers.specs.Rows.{Row}
 use Rattle.answers.specs.Out.{Out, attempt}
-use Rattle.answers.specs.declared.Answer.{Answer}
+use Rattle.answers.specs.Answered.{Answered}
 use Rattle.cells.specs.World.{World}
 use Rattle.fresh.specs.Fresh.{start_rows, start_of}
 use Rattle.fresh.specs.declared.Start.{Start}
@@ -54,24 +54,24 @@ sound_row w k (Line a l) = rw (kept_sound w k).0
 sound_row w k (Steps n xs) = refl
 
 -- the answers of a run, without that row
-abbrev pub answers_of : World → List Call → List Answer
+abbrev pub answers_of : World → List Call → List Answered
 answers_of w [] = []
 answers_of w (c ∷ cs) = let o = applied w c in o.answer ∷ answers_of o.next cs
 
 run_answers : (cs : List Call) (w : World) → Kept w → (run w cs).answers ≡ answers_of w cs
 run_answers [] w k = refl
 run_answers (c ∷ cs) w k =
-    ap {B = List Answer} (λ rest. (apply w c).answer ∷ rest) (run_answers cs (apply w c).next (call_keeps w k c))
+    ap {B = List Answered} (λ rest. (apply w c).answer ∷ rest) (run_answers cs (apply w c).next (call_keeps w k c))
     ∙ ap (λ (o : Out World). o.answer ∷ answers_of o.next cs) (sound_row w k c)
 
 -- A SCRIPT: calls, each with its answer
 abbrev pub Script : Type 0
-Script = List (Call × Answer)
+Script = List (Call × Answered)
 
 abbrev pub calls : Script → List Call
 calls s = map (λ x. x.0) s
 
-abbrev pub answers : Script → List Answer
+abbrev pub answers : Script → List Answered
 answers s = map (λ x. x.1) s
 
 -- so many boards answer so, from that start on

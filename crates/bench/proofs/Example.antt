@@ -3,7 +3,7 @@
 use mathlib.Core.Path.{refl}
 use mathlib.Core.List.{[], ◌∷◌}
 use Rattle.names.specs.declared.Slot.{Slot}
-use Rattle.answers.specs.declared.Answer.TheVariants.{No, Done, Granted, Token, Idle, Moved, OpenedLink, OpenedChannel, Arrived}
+use Rattle.answers.specs.Answered.{No, Done, Granted, Token, Idle, Moved, OpenedLink, OpenedChannel, Arrived}
 use Rattle.settings.specs.declared.Setting.TheVariants.{Number, Enable, Hello}
 use Rattle.ends.specs.declared.Token.TheVariants as Tokens
 use Rattle.ends.specs.declared.Wanted.TheVariants as Wanted

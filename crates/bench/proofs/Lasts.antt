@@ -11,7 +11,8 @@ use borrow.Author.Tests.{eq-eqb, not-false}
 use Rattle.laws.proofs.All.{also, as_is, equal, below}
 use Rattle.laws.proofs.Order.{clash}
 use Rattle.names.specs.Size.{nodes, links, ports}
-use Rattle.names.specs.No.{number, passes, Unsound}
+use Rattle.names.specs.No.{number, passes}
+use Rattle.names.specs.declared.no.No.TheVariants.{Unsound}
 use Rattle.answers.specs.Answer.{number_of}
 use Rattle.answers.specs.Rows.{Exactly, Passes}
 use Rattle.names.specs.declared.Slot.{Slot}

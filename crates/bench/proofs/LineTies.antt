@@ -12,8 +12,8 @@ use Rattle.tokens.specs.Word.{control_word, header_word}
 use Rattle.tokens.specs.declared.header.Width.TheVariants.{One}
 use Rattle.lines.specs.Line.{line_place}
 use Rattle.lines.specs.Load.{hello_word, credit_word}
-use Rattle.answers.specs.declared.Answer.{Answer}
-use Rattle.answers.specs.declared.Answer.TheVariants.{No, Arrived}
+use Rattle.answers.specs.Answered.{Answered}
+use Rattle.answers.specs.Answered.{No, Arrived}
 use Rattle.cells.specs.View.{Net, with_flow, with_setup, with_ring, with_issued}
 use Rattle.cells.specs.World.{World}
 use Rattle.cells.specs.Start.{start_net, start_world, none_on}
@@ -42,7 +42,7 @@ asked w =
     ∷ at_links w between ∷ at_links w towards ∷ at_links w hello_last ∷ []
 
 -- the line that starts at link A steps, and once more
-abbrev answered : World → List Answer
+abbrev answered : World → List Answered
 answered w = (run w (Line one 0 ∷ Line one 0 ∷ [])).answers
   where
     one : Slot

@@ -10,11 +10,12 @@ use lib.ListN.{length}
 use borrow.Author.Tests.{eq-eqb, ne_eqb}
 use Rattle.laws.specs.All.{Each}
 use Rattle.laws.proofs.Order.{by_test}
-use Rattle.names.specs.No.{number, Unsound, NoSuch}
+use Rattle.names.specs.No.{number}
+use Rattle.names.specs.declared.no.No.TheVariants.{Unsound, NoSuch}
 use Rattle.names.specs.Size.{nodes}
 use Rattle.answers.specs.Out.{out}
-use Rattle.answers.specs.declared.Answer.{Answer}
-use Rattle.answers.specs.declared.Answer.TheVariants.{No, Done}
+use Rattle.answers.specs.Answered.{Answered}
+use Rattle.answers.specs.Answered.{No, Done}
 use Rattle.cells.specs.World.{World}
 use Rattle.fresh.specs.Fresh.{start_of}
 use Rattle.fresh.specs.declared.Start.{Start}
@@ -41,7 +42,7 @@ left_by_steps (x ∷ xs) w = left_by_steps xs (step_by w x).next
 pub results_by_steps : (xs : List StepRecord) (w : World) → results w xs ≡ (run w (steps_of xs)).answers
 unfolding apply
 results_by_steps [] w = refl
-results_by_steps (x ∷ xs) w = ap (λ (rest : List Answer). (step_by w x).answer ∷ rest) (results_by_steps xs (step_by w x).next)
+results_by_steps (x ∷ xs) w = ap (λ (rest : List Answered). (step_by w x).answer ∷ rest) (results_by_steps xs (step_by w x).next)
 
 -- THE CALL, on any memory: with a place for each record it is done
 pub list_done : (w : World) (xs : List StepRecord) → apply w (Steps (length xs) xs) ≡ out Done (run w (steps_of xs)).last
@@ -60,21 +61,21 @@ unsound_step w x e = rw e
 pub unsound_results : (xs : List StepRecord) (w : World) → sound w ≡ false → results w xs ≡ map (λ (x : StepRecord). No (number Unsound)) xs
 unsound_results [] w e = refl
 unsound_results (x ∷ xs) w e =
-    rw (unsound_step w x e) (ap (λ (rest : List Answer). No (number Unsound) ∷ rest) (unsound_results xs w e))
+    rw (unsound_step w x e) (ap (λ (rest : List Answered). No (number Unsound) ∷ rest) (unsound_results xs w e))
 
 pub unsound_left : (xs : List StepRecord) (w : World) → sound w ≡ false → stepped w xs ≡ w
 unsound_left [] w e = refl
 unsound_left (x ∷ xs) w e = rw (unsound_step w x e) (unsound_left xs w e)
 
 -- on a state that is sound and tight no record's is
-pub results_sure : (xs : List StepRecord) (w : World) → Kept w → Each (λ (a : Answer). a ≡ No (number Unsound) → ⊥) (results w xs)
+pub results_sure : (xs : List StepRecord) (w : World) → Kept w → Each (λ (a : Answered). a ≡ No (number Unsound) → ⊥) (results w xs)
 unfolding apply
 results_sure [] w k = tt
 results_sure (x ∷ xs) w k = (call_unsound w k (step_of x), results_sure xs (step_by w x).next (call_keeps w k (step_of x)))
 
 -- .. so of no list of any run from a start, whatever calls were made before it
 pub never_unsound_results : (s : Start) (n : ℕ) → 1 ≤ n → n ≤ nodes → (cs : List Call) (xs : List StepRecord)
-    → Each (λ (a : Answer). a ≡ No (number Unsound) → ⊥) (results (run (start_of s n) cs).last xs)
+    → Each (λ (a : Answered). a ≡ No (number Unsound) → ⊥) (results (run (start_of s n) cs).last xs)
 never_unsound_results s n some few cs xs =
     results_sure xs (run (start_of s n) cs).last (run_keeps cs (start_of s n) (start_kept s n some few))
 

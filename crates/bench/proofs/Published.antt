@@ -18,7 +18,8 @@ pub use Rattle.bench.specs.Runs.{step_of, steps_of, singly, flat}
 -- what comes of a call; the paper's numbers for no and values
 pub use Rattle.answers.specs.Out.{Out, out}
 pub use Rattle.answers.specs.Answer.{number_of}
-pub use Rattle.names.specs.No.{No, number, passes}
+pub use Rattle.names.specs.No.{number, passes}
+pub use Rattle.names.specs.declared.no.No.{No}
 -- Sound, the ties that make it last, and both by parts
 pub use Rattle.sound.specs.Sound.{sound, tight, quiet}
 pub use Rattle.kept.specs.Kept.{Kept}

@@ -7,10 +7,10 @@ use mathlib.Core.List.{List, [], ◌∷◌, ◌++◌, map}
 use lib.ListN.{replicate}
 use Rattle.names.specs.declared.Slot.{Slot}
 use Rattle.circuits.specs.declared.Cause.TheVariants.{NoRoute, Split}
-use Rattle.answers.specs.declared.Answer.{Answer}
-use Rattle.answers.specs.declared.Answer.TheVariants.{No, Done, Granted, Idle, Moved, OpenedLink, OpenedChannel}
-use Rattle.answers.specs.declared.Answer.TheVariants.{OpenedUnit, Refused, Dropped, Waiting, Arrived}
-use Rattle.answers.specs.declared.Answer.TheVariants as Answers
+use Rattle.answers.specs.Answered.{Answered}
+use Rattle.answers.specs.Answered.{No, Done, Granted, Idle, Moved, OpenedLink, OpenedChannel}
+use Rattle.answers.specs.Answered.{OpenedUnit, Refused, Dropped, Waiting, Arrived}
+use Rattle.answers.specs.Answered as Answers
 use Rattle.settings.specs.declared.Setting.TheVariants.{Number, Width, Network, Enable, Hello}
 use Rattle.ends.specs.declared.Token.{Token}
 use Rattle.ends.specs.declared.Token.TheVariants.{Data, Control}
@@ -24,7 +24,7 @@ use Rattle.bench.proofs.Computed.{Script, calls, Runs, runs}
 
 -- CALLS OF ONE KIND
 -- so many Steps of a port, all with one answer
-abbrev steps : ℕ → Slot → ℕ → Answer → Script
+abbrev steps : ℕ → Slot → ℕ → Answered → Script
 steps k a p x = replicate k (Step a p, x)
 
 -- so many tokens go on from a port, over the line of a link, and arrive; none brings a grant
@@ -40,7 +40,7 @@ abbrev outputs : Slot → ℕ → List Token → Script
 outputs a c ts = map (λ t. (Output a c t, Done)) ts
 
 -- tokens that a channel-end holds, taken
-abbrev taken : Slot → ℕ → Token → Call × Answer
+abbrev taken : Slot → ℕ → Token → Call × Answered
 taken a c (Data v) = (Input a c Wanted.Data, Answers.Token v)
 taken a c (Control v) = (Input a c Wanted.Control, Answers.Token v)
 

@@ -9,7 +9,7 @@ use Rattle.names.specs.No.{passes}
 use Rattle.answers.specs.Answer.{number_of}
 use Rattle.answers.specs.Rows.{refusal}
 use Rattle.answers.specs.Out.{Out, out}
-use Rattle.answers.specs.declared.Answer.TheVariants.{Done}
+use Rattle.answers.specs.Answered.{Done}
 use Rattle.cells.specs.World.{World}
 use Rattle.fresh.specs.Fresh.{leaves_on, start_of}
 use Rattle.fresh.specs.declared.Start.{Start}

@@ -13,7 +13,7 @@ use Rattle.circuits.specs.declared.Peer.TheVariants.{Port}
 use Rattle.tokens.specs.Control.{end}
 use Rattle.tokens.specs.Word.{control_word}
 use Rattle.ports.specs.Memory.{place}
-use Rattle.answers.specs.declared.Answer.TheVariants.{No, Done, Granted, Moved, Arrived}
+use Rattle.answers.specs.Answered.{No, Done, Granted, Moved, Arrived}
 use Rattle.cells.specs.View.{Net, with_counters, with_leg, with_user}
 use Rattle.cells.specs.World.{World}
 use Rattle.fresh.specs.Fresh.{start_of}

@@ -7,8 +7,8 @@ use Rattle.laws.proofs.Order.{by_test, clash}
 use Rattle.names.specs.No.{passes}
 use Rattle.names.specs.declared.Slot.{Slot}
 use Rattle.answers.specs.Rows.{refusal}
-use Rattle.answers.specs.declared.Answer.{Answer}
-use Rattle.answers.specs.declared.Answer.TheVariants as A
+use Rattle.answers.specs.Answered.{Answered}
+use Rattle.answers.specs.Answered as A
 use Rattle.cells.specs.World.{World, far_of, Far, Nowhere, At}
 use Rattle.plans.specs.Plan.{step_plan}
 use Rattle.switch.specs.Step.{step_performed}
@@ -19,7 +19,7 @@ use Rattle.travel.specs.Travel.{line_empty, came_by, left_by, line_came, line_st
 use Rattle.bench.specs.Calls.{Step, Line, came_answer, rows, apply}
 
 -- Idle and Waiting, of all answers
-abbrev pub still : Answer → Bool
+abbrev pub still : Answered → Bool
 still (A.No n) = false
 still A.Done = false
 still (A.Granted g) = false

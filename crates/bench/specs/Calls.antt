@@ -2,13 +2,13 @@
 -- the bench is one equation with `apply`, for all arguments and any memories lent.
 use Rattle.std.specs.Prelude.{ℕ, not, List, [], ◌∷◌, eqb, length}
 use Rattle.std.specs.Prelude.{Option, Some, None}
-use Rattle.names.specs.No.{Unsound, NoSuch}
+use Rattle.names.specs.declared.no.No.TheVariants.{Unsound, NoSuch}
 use Rattle.names.specs.declared.Slot.{Slot}
 use Rattle.answers.specs.Rows.{Row, refused_if}
 use Rattle.answers.specs.Out.{Out, out, attempt}
-use Rattle.answers.specs.declared.Answer.{Answer}
-use Rattle.answers.specs.declared.Answer.TheVariants.{Done}
-use Rattle.answers.specs.declared.Answer.TheVariants as Answers
+use Rattle.answers.specs.Answered.{Answered}
+use Rattle.answers.specs.Answered.{Done}
+use Rattle.answers.specs.Answered as Answers
 use Rattle.cells.specs.View.{Net}
 use Rattle.cells.specs.World.{World}
 use Rattle.fresh.specs.Fresh.{start_rows, start_of}
@@ -60,12 +60,12 @@ stepped w [] = w
 stepped w (x ∷ xs) = stepped (step_by w x).next xs
 
 -- ".. and writes one result per record": what the single Step answers
-abbrev pub results : World → List StepRecord → List Answer
+abbrev pub results : World → List StepRecord → List Answered
 results w [] = []
 results w (x ∷ xs) = (step_by w x).answer ∷ results (step_by w x).next xs
 
 -- A LINE STEP (document 02, Ask 4): "Moved, with any grant, or Idle"
-abbrev pub came_answer : Option ℕ → Answer
+abbrev pub came_answer : Option ℕ → Answered
 came_answer None = Answers.Idle
 came_answer (Some g) = Answers.Arrived g
 

@@ -5,13 +5,13 @@ use Rattle.circuits.specs.Circuit.{of_peer}
 use Rattle.circuits.specs.declared.Hop.{Hop}
 use Rattle.circuits.specs.declared.Hop.TheVariants as Hops
 use Rattle.circuits.specs.declared.Peer.TheVariants.{Nobody}
-use Rattle.answers.specs.declared.Answer.{Answer}
-use Rattle.answers.specs.declared.Answer.TheVariants as A
+use Rattle.answers.specs.Answered.{Answered}
+use Rattle.answers.specs.Answered as A
 use Rattle.cells.specs.View.{Net}
 use Rattle.cells.specs.World.{hop}
 
 -- the answers of a Step that took one token of a circuit: to where the circuit goes ("Moved, but for the two end answers"), or dropped
-abbrev pub took_one : Answer → Bool
+abbrev pub took_one : Answered → Bool
 took_one (A.No n) = false
 took_one A.Done = false
 took_one (A.Granted g) = false

@@ -1,14 +1,14 @@
 -- Runs: any list of calls, each made on the state and token memory exactly as the one before left them.
 use Rattle.std.specs.Prelude.{List, [], ◌∷◌, ◌++◌, eqb, length}
 use Rattle.laws.specs.Pick.{pick}
-use Rattle.answers.specs.declared.Answer.{Answer}
+use Rattle.answers.specs.Answered.{Answered}
 use Rattle.cells.specs.World.{World}
 use Rattle.bench.specs.declared.StepRecord.{StepRecord}
 use Rattle.bench.specs.Calls.{Call, Begin, Wire, Set, Aim, Output, Input, Step, Line, Steps, apply}
 
 -- the answers in order, and what is left
 pub record Ran : Type 0 where
-  pub answers : List Answer
+  pub answers : List Answered
   pub last : World
 
 abbrev pub run : World → List Call → Ran

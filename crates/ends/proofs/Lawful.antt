@@ -1,6 +1,7 @@
 -- What Output lets out and what may stand past a header are one set of words, so that neither rule can change without the other: towards a
 -- control unit Output passes exactly the tokens whose word is legal past a header, and towards a channel those but the two commands WRITEC
 -- and READC. Channel-ends and control units hold the same words, but for those that they do not keep. Assumes nothing.
+use Prim.{tt}
 use Prim.Native.Nat.{ℕ, ◌-◌, ◌<◌, ◌≤◌}
 use mathlib.Core.Path.{◌≡◌, refl, sym, ap, ◌∙◌}
 use mathlib.Core.Bool.{Bool, true, false, not, ◌&&◌, ◌||◌, and-true}
@@ -12,9 +13,11 @@ use Rattle.laws.specs.Pick.{pick}
 use Rattle.laws.specs.All.{Means}
 use Rattle.laws.proofs.All.{either, equal}
 use Rattle.laws.proofs.Order.{by_test, order, clash}
-use Rattle.names.specs.No.{passes}
+use Rattle.std.specs.Prelude.{Ok, Err}
+use Rattle.names.specs.No.{passes, number_by}
+use Rattle.names.specs.declared.no.No.TheVariants.{Privileged}
 use Rattle.names.specs.declared.NodeNumber.{NodeNumber}
-use Rattle.tokens.specs.Control.{end, pause, writec, readc, ssctrl, output_no}
+use Rattle.tokens.specs.Control.{end, pause, writec, readc, ssctrl, output_checked, output_no}
 use Rattle.tokens.specs.Word.{control_word, data_word, closes, is_pause}
 use Rattle.tokens.specs.Shape.{legal_channel, three_shape, shape_of}
 use Rattle.tokens.specs.declared.header.Target.{Target}
@@ -78,7 +81,7 @@ or_false : (u : Bool) → (u || false) ≡ u
 or_false true = refl
 or_false false = refl
 
-given : (b : Bool) → eqb (pick b passes 8) passes ≡ b
+given : (b : Bool) → eqb (number_by (pick b (Ok tt) (Err Privileged))) passes ≡ b
 given true = refl
 given false = refl
 
@@ -95,13 +98,13 @@ commands_below v e = ⊎_elim (λ q. omega arith) (λ q. omega arith) ((either (
 
 module _ (v : ℕ) (fits : v < 256) (u : Bool) where
   low : v < 0xC0 → eqb (output_no v u) passes ≡ (past_header (control_word v) && (u || not (commands v)))
-  unfolding output_no
+  unfolding output_checked
   low l =
       rw (legal_below (control_word v) (omega arith), ne_eqb v writec (λ q. omega arith), ne_eqb v readc (λ q. omega arith), or_true u)
       (rw (lt-ltb v 0xC0 l) (by_test (ltb v 0x80) (λ e. rw e) (λ e. rw e)))
 
   middle : 0xC0 ≤ v → v < 0xE0 → eqb (output_no v u) passes ≡ (past_header (control_word v) && (u || not (commands v)))
-  unfolding output_no
+  unfolding output_checked
   middle l m =
       rw (le-ltb v 0x80 (omega arith), le-ltb v 0xC0 l, lt-ltb v 0xE0 m)
       (given (commands v && u) ∙ by_test (commands v)
@@ -109,7 +112,7 @@ module _ (v : ℕ) (fits : v < 256) (u : Bool) where
       (λ e. let b = others v e l in rw (illegal_above (control_word v) (omega arith), e)))
 
   high : 0xE0 ≤ v → eqb (output_no v u) passes ≡ (past_header (control_word v) && (u || not (commands v)))
-  unfolding output_no
+  unfolding output_checked
   high l =
       rw (illegal_above (control_word v) (omega arith))
       (rw (le-ltb v 0x80 (omega arith), le-ltb v 0xC0 (omega arith), le-ltb v 0xE0 l))

@@ -3,11 +3,10 @@ use Prim.Native.Nat.{ℕ}
 use mathlib.Core.Path.{◌≡◌, refl, ap}
 use mathlib.Core.List.{List, [], ◌∷◌}
 use lib.Dec.{eqb}
-use Rattle.laws.proofs.Order.{by_test}
-use Rattle.names.specs.No.{passes}
+use Rattle.answers.proofs.Refusals.{by_check}
 use Rattle.tokens.specs.Header.{header_of, words}
 use Rattle.tokens.specs.declared.header.Target.{Target}
-use Rattle.answers.specs.Rows.{refusal}
+use Rattle.answers.specs.Rows.{checked}
 use Rattle.answers.specs.Out.{Out, out}
 use Rattle.cells.specs.World.{World}
 use Rattle.acts.specs.Acts.{width_at, pushed, pushed_all, with_net, networked}
@@ -45,4 +44,4 @@ module _ (ls : List ℕ) where
   output_lent w n c x =
       let g = target_of (w.net.ends.aims n c) in
       let same = performed_lent w n c g (word_of x) (output_plan w.net n c g (word_of x)) in
-      by_test (eqb (refusal (output_rows w.net n c x)) passes) (λ e. rw (e, same)) (λ e. rw e)
+      by_check (checked (output_rows w.net n c x)) (λ e. rw (e, same)) (λ k e. rw e)

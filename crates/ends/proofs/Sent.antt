@@ -1,4 +1,5 @@
 -- An Output that looks at the destination, then the token, then what can be done, meets its one definition. Assumes nothing.
+use Prim.{Unit, tt}
 use Prim.Native.Nat.{ℕ}
 use mathlib.Core.Path.{◌≡◌, refl, sym, ap, ◌∙◌}
 use mathlib.Core.Bool.{Bool, true, false, ◌&&◌, ◌||◌}
@@ -6,74 +7,83 @@ use mathlib.Core.List.{List, ◌∷◌}
 use lib.Dec.{eqb}
 use Rattle.std.specs.Prelude.{Some, None}
 use Rattle.laws.specs.Pick.{pick}
-use Rattle.laws.proofs.Order.{by_test, never}
+use Rattle.laws.proofs.Order.{by_test, never, clash}
+use Rattle.std.specs.Prelude.{Result, Ok, Err, IsErr, is_ok}
+use Rattle.std.specs.Result.{IsErrAnd}
 use Rattle.names.specs.No as Names
-use Rattle.tokens.specs.Control.{output_no, no_of_class, class_of, writec, readc}
+use Rattle.names.specs.declared.no.No.{No as Why}
+use Rattle.names.specs.declared.no.No.TheVariants as Whys
+use Rattle.tokens.specs.Control.{output_checked, class_checked, class_of, writec, readc}
 use Rattle.tokens.specs.declared.control.Class.{Class}
 use Rattle.tokens.specs.declared.control.Class.TheVariants.{Application, Special, Privileged, Hardware}
 use Rattle.tokens.specs.declared.header.Target.{Target}
 use Rattle.answers.specs.Rows.{Row, refused_if}
-use Rattle.answers.specs.Out.{Out, out, attempt}
-use Rattle.answers.specs.declared.Answer.TheVariants.{No, Done}
+use Rattle.answers.specs.Out.{Out, out, unless, attempt}
+use Rattle.answers.specs.Answered.{Answered, No, Done}
 use Rattle.cells.specs.World.{World}
 use Rattle.cells.specs.declared.end.Aim.{Aim}
 use Rattle.ends.specs.Ends.{end_at}
 use Rattle.ends.specs.Plan.{target_of, destination_of, output_plan}
-use Rattle.ends.specs.Output.{byte_of, word_of, is_unit, token_no, plan_rows, send_rows, token_sent, output}
+use Rattle.ends.specs.Output.{byte_of, word_of, is_unit, token_checked, plan_rows, send_rows, token_sent, output}
 use Rattle.ends.specs.declared.Token.{Token}
 use Rattle.ends.specs.declared.Token.TheVariants.{Data, Control}
 
--- the numbers that a token can be refused by
-data Refusing : ℕ → Type 0 where
-  none : Refusing 0
-  seven : Refusing 7
-  eight : Refusing 8
+-- how a token can be refused
+data Refusing : Result Unit Why → Type 0 where
+  none : Refusing (Ok tt)
+  seven : Refusing (Err Whys.Hardware)
+  eight : Refusing (Err Whys.Privileged)
 
-privileged : (b : Bool) → Refusing (pick b Names.passes (Names.number Names.Privileged))
+privileged : (b : Bool) → Refusing (pick b (Ok tt) (Err Whys.Privileged))
 privileged true = none
 privileged false = eight
 
-by_class : (k : Class) (v : ℕ) (u : Bool) → Refusing (no_of_class k v u)
+by_class : (k : Class) (v : ℕ) (u : Bool) → Refusing (class_checked k v u)
 by_class Application v u = none
 by_class Special v u = none
 by_class Privileged v u = privileged ((eqb v writec || eqb v readc) && u)
 by_class Hardware v u = seven
 
-refusing : (x : Token) (g : Target) → Refusing (token_no x g)
-unfolding output_no
+refusing : (x : Token) (g : Target) → Refusing (token_checked x g)
+unfolding output_checked
 refusing (Data v) g = none
 refusing (Control v) g = by_class (class_of (byte_of v)) (byte_of v) (is_unit g)
 
 module _ (w : World) (n c : ℕ) (g : Target) (x : Token) where
   -- refused by the token
-  refused_by : {k : ℕ} → Refusing k → (k ≡ Names.passes → ⊥) → (rs : List Row) (done : Out World)
+  refused_by : {r : Result Unit Why} → Refusing r → (k : Why) → r ≡ Err k → (rs : List Row) (done : Out World)
       → out (No k) w
       ≡ attempt
-      (refused_if (eqb k (Names.number Names.Hardware)) Names.Hardware ∷ refused_if (eqb k (Names.number Names.Privileged)) Names.Privileged
+      (refused_if (eqb (Names.number_by r) (Names.number Whys.Hardware)) Whys.Hardware
+      ∷ refused_if (eqb (Names.number_by r) (Names.number Whys.Privileged)) Whys.Privileged
       ∷ rs)
       w
       done
-  refused_by none h rs done = absurd (h refl)
-  refused_by seven h rs done = refl
-  refused_by eight h rs done = refl
+  refused_by none k h rs o = clash (ap (λ (r : Result Unit Why). is_ok r) h)
+  refused_by seven k h rs o = ap (λ (r : Result Unit Why). unless r w o) (sym h)
+  refused_by eight k h rs o = ap (λ (r : Result Unit Why). unless r w o) (sym h)
 
-  pub token_refused : (k : ℕ) → k ≡ token_no x g → (k ≡ Names.passes → ⊥)
-      → out (No k) w ≡ attempt (send_rows w.net n c g x) w (out Done (token_sent w n c g x))
-  token_refused k e h =
-      rw e (refused_by (refusing x g) (λ z. h (e ∙ z)) (plan_rows (output_plan w.net n c g (word_of x))) (out Done (token_sent w n c g x)))
+  pub token_refused : (r : Result Unit Why) → r ≡ token_checked x g → (a : Answered) (k : Why)
+      → IsErr a × IsErrAnd a (λ j. j ≡ k)
+      → r ≡ Err k
+      → out a w ≡ attempt (send_rows w.net n c g x) w (out Done (token_sent w n c g x))
+  token_refused r e (Ok x) k p h = absurd p.1
+  token_refused r e (Err j) k p h =
+      rw p.1
+      (refused_by (refusing x g) k (sym e ∙ h) (plan_rows (output_plan w.net n c g (word_of x))) (out Done (token_sent w n c g x)))
 
-  pub token_passes : (k : ℕ) → k ≡ token_no x g → k ≡ Names.passes
+  pub token_passes : (r : Result Unit Why) → r ≡ token_checked x g → r ≡ Ok tt
       → attempt (plan_rows (output_plan w.net n c g (word_of x))) w (out Done (token_sent w n c g x))
       ≡ attempt (send_rows w.net n c g x) w (out Done (token_sent w n c g x))
-  token_passes k e h = rw (sym e ∙ h)
+  token_passes r e h = rw (sym e ∙ h)
 
 module _ (w : World) (n c : ℕ) (x : Token) where
-  pub not_there : end_at w.net n c ≡ false → out (No (Names.number Names.NoSuch)) w ≡ output w n c x
+  pub not_there : end_at w.net n c ≡ false → out (No Whys.NoSuch) w ≡ output w n c x
   unfolding output
   not_there e = rw e
 
   pub unaimed : end_at w.net n c ≡ true → eqb (w.net.ends.aims n c).kind 0 ≡ true
-      → out (No (Names.number Names.Unaimed)) w ≡ output w n c x
+      → out (No Whys.Unaimed) w ≡ output w n c x
   unfolding output
   unaimed e a = rw (e, a)
 

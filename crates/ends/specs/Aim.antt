@@ -2,11 +2,11 @@
 use Rattle.std.specs.Prelude.{ℕ, Bool, not, ◌&&◌, List, [], ◌∷◌, ltb}
 use Rattle.names.specs.Size.{networks}
 use Rattle.names.specs.Number.{is_number}
-use Rattle.names.specs.No.{NoSuch, Value, Open}
+use Rattle.names.specs.declared.no.No.TheVariants.{NoSuch, Value, Open}
 use Rattle.tokens.specs.Shape.{legal_channel}
 use Rattle.answers.specs.Rows.{Row, refused_if}
 use Rattle.answers.specs.Out.{Out, out, attempt}
-use Rattle.answers.specs.declared.Answer.TheVariants.{Done}
+use Rattle.answers.specs.Answered.{Done}
 use Rattle.cells.specs.View.{Net, with_aim}
 use Rattle.cells.specs.declared.end.Aim.{Aim}
 use Rattle.ends.specs.Ends.{end_at, is_open}

@@ -2,11 +2,11 @@
 use Rattle.std.specs.Prelude.{ℕ, suc, ◌-◌, Bool, not, List, [], ◌∷◌, ◌++◌, eqb, get_or}
 use Rattle.laws.specs.Row.{tab}
 use Rattle.names.specs.Size.{end_buffer}
-use Rattle.names.specs.No.{NoSuch, Empty, Trap}
+use Rattle.names.specs.declared.no.No.TheVariants.{NoSuch, Empty, Trap}
 use Rattle.tokens.specs.Word.{value_of, is_control}
 use Rattle.answers.specs.Rows.{Row, refused_if}
 use Rattle.answers.specs.Out.{Out, out, attempt}
-use Rattle.answers.specs.declared.Answer.TheVariants.{Token}
+use Rattle.answers.specs.Answered.{Token}
 use Rattle.cells.specs.View.{Net, with_buffer}
 use Rattle.cells.specs.declared.end.Buffer.{Buffer}
 use Rattle.ends.specs.Ends.{end_at}

@@ -1,15 +1,18 @@
 -- "Output a token." (document 01, "Calls"): a plan carried out by the acts, and when it is refused.
-use Rattle.std.specs.Prelude.{ℕ, ◌%◌, Bool, true, false, not, List, [], ◌∷◌, eqb}
+use Prim.{Unit, tt}
+use Rattle.std.specs.Prelude.{ℕ, ◌%◌, Bool, true, false, not, List, [], ◌∷◌, Result, Ok, Err, eqb}
 use Rattle.names.specs.No as Names
+use Rattle.names.specs.declared.no.No.{No as Why}
+use Rattle.names.specs.declared.no.No.TheVariants as Whys
 use Rattle.circuits.specs.declared.Peer.TheVariants as Peers
-use Rattle.tokens.specs.Control.{output_no}
+use Rattle.tokens.specs.Control.{output_checked}
 use Rattle.tokens.specs.Word.{data_word, control_word}
 use Rattle.tokens.specs.Header.{header_of, words}
 use Rattle.tokens.specs.declared.header.Target.{Target}
 use Rattle.tokens.specs.declared.header.Target.TheVariants as Targets
 use Rattle.answers.specs.Rows.{Row, refused_if}
 use Rattle.answers.specs.Out.{Out, out, attempt}
-use Rattle.answers.specs.declared.Answer.TheVariants.{Done}
+use Rattle.answers.specs.Answered.{Done}
 use Rattle.cells.specs.View.{Net}
 use Rattle.cells.specs.World.{World}
 use Rattle.acts.specs.Acts.{with_net, width_at, pushed, pushed_all, networked, sent_by, sends_to, until_closed, claimed_by, handed}
@@ -34,9 +37,13 @@ is_unit (Targets.Channel m c) = false
 is_unit (Targets.Unit m) = true
 
 -- 7 or 8, for a control token towards a destination
+abbrev pub token_checked : Token → Target → Result Unit Why
+token_checked (Data v) g = Ok tt
+token_checked (Control v) g = output_checked (byte_of v) (is_unit g)
+
+-- .. by its number
 abbrev pub token_no : Token → Target → ℕ
-token_no (Data v) g = Names.passes
-token_no (Control v) g = output_no (byte_of v) (is_unit g)
+token_no x g = Names.number_by (token_checked x g)
 
 -- the circuit of channel-end c goes by port p, until this token closes it
 abbrev pub goes_by : Net → ℕ → ℕ → ℕ → ℕ → Net
@@ -81,18 +88,18 @@ is_full_plan (Straight d) = false
 
 -- what refuses a plan; a token towards a destination; and an Output. "After 1 and 2, Output looks at the destination before the token"
 abbrev pub plan_rows : Plan → List Row
-plan_rows x = refused_if (is_narrow_plan x) Names.Narrow ∷ refused_if (is_full_plan x) Names.Full ∷ []
+plan_rows x = refused_if (is_narrow_plan x) Whys.Narrow ∷ refused_if (is_full_plan x) Whys.Full ∷ []
 
 abbrev pub send_rows : Net → ℕ → ℕ → Target → Token → List Row
 send_rows s n c g x =
-    refused_if (eqb (token_no x g) (Names.number Names.Hardware)) Names.Hardware
-    ∷ refused_if (eqb (token_no x g) (Names.number Names.Privileged)) Names.Privileged
+    refused_if (eqb (token_no x g) (Names.number Whys.Hardware)) Whys.Hardware
+    ∷ refused_if (eqb (token_no x g) (Names.number Whys.Privileged)) Whys.Privileged
     ∷ plan_rows (output_plan s n c g (word_of x))
 
 abbrev pub output_rows : Net → ℕ → ℕ → Token → List Row
 output_rows s n c x =
-    refused_if (not (end_at s n c)) Names.NoSuch
-    ∷ refused_if (eqb (s.ends.aims n c).kind 0) Names.Unaimed
+    refused_if (not (end_at s n c)) Whys.NoSuch
+    ∷ refused_if (eqb (s.ends.aims n c).kind 0) Whys.Unaimed
     ∷ send_rows s n c (target_of (s.ends.aims n c)) x
 
 -- what comes of a token towards a destination, and of an Output

@@ -1,6 +1,6 @@
 // Aim: a channel-end's destination and network.
 ghost use Rattle.std.specs.Prelude.{◌≡◌};
-ghost use Rattle.answers.specs.Rows.{refusal};
+ghost use Rattle.answers.specs.Rows.{checked};
 ghost use Rattle.answers.specs.Out.{out};
 ghost use Rattle.cells.specs.View.{view};
 ghost use Rattle.ends.specs.Needs.{GoalFits};
@@ -11,7 +11,7 @@ use crate::end_at;
 use answers::Answer;
 use cells::end;
 use cells::end::Aim;
-use names::no::{NO_SUCH, OPEN, VALUE};
+use names::no::No;
 use names::size::NETWORKS;
 use names::{NodeNumber, Slot, is_number};
 use tokens::header::is_channel;
@@ -34,22 +34,22 @@ fn goal_ranged(g: Goal) -> bool
     }
 }
 
-// The number by which Aim is refused, 0 for none.
-fn aim_no(st: &[u32], slot: Slot, c: usize, g: Goal, network: u32) -> u8
-    ensures { result ≡ refusal (aim_rows (view st.now) slot.0 c g network) }
+// Whether Aim is refused.
+fn check_aim(st: &[u32], slot: Slot, c: usize, g: Goal, network: u32) -> Result<(), No>
+    ensures { result ≡ checked (aim_rows (view st.now) slot.0 c g network) }
 {
     if !end_at(st, slot, c) {
-        return NO_SUCH;
+        return Err(No::NoSuch);
     }
     let ranged = goal_ranged(g) & (network < NETWORKS);
     if !ranged {
-        return VALUE;
+        return Err(No::Value);
     }
     let k = end::at(st, slot, c);
     if k.sending.kind != 0 {
-        return OPEN;
+        return Err(No::Open);
     }
-    0
+    Ok(())
 }
 
 // The two destinations, as a record has them.
@@ -87,14 +87,11 @@ fn aimed_at(g: Goal, network: u32) -> Aim
 }
 
 // Aim, whole: refused by its number with nothing changed, or made.
-#[tactic(auto, using(crate::proofs::There::aim_fits, crate::proofs::There::aim_there, answers::proofs::Refusals::goes_on_lem, answers::proofs::Refusals::refuses), unfolding(crate::specs::Aim::aim))]
-pub fn aim(st: &mut [u32], slot: Slot, c: usize, g: Goal, network: u32) -> Answer
+#[tactic(auto, using(crate::proofs::There::aim_fits, crate::proofs::There::aim_there, answers::proofs::Refusals::goes_on_lem), unfolding(crate::specs::Aim::aim))]
+pub fn aim(st: &mut [u32], slot: Slot, c: usize, g: Goal, network: u32) -> Result<Answer, No>
     ensures { out result (view st.new) ≡ aim (view st.old) slot.0 c g network }
 {
-    let no = aim_no(st, slot, c, g, network);
-    if no != 0 {
-        return Answer::No(no);
-    }
+    check_aim(st, slot, c, g, network)?;
     end::put_aim(st, slot, c, aimed_at(g, network));
-    Answer::Done
+    Ok(Answer::Done)
 }

@@ -1,6 +1,6 @@
 // Input: the next token, as data or as control.
 ghost use Rattle.std.specs.Prelude.{◌≡◌, ◌<◌};
-ghost use Rattle.answers.specs.Rows.{refusal};
+ghost use Rattle.answers.specs.Rows.{checked};
 ghost use Rattle.answers.specs.Out.{out};
 ghost use Rattle.cells.specs.View.{view};
 ghost use Rattle.ends.specs.Input.{is_wanted, first_held, input_rows, input_value, took_first, input};
@@ -10,7 +10,7 @@ use answers::Answer;
 use cells::end;
 use cells::end::Buffer;
 use names::Slot;
-use names::no::{EMPTY, NO_SUCH, TRAP};
+use names::no::No;
 
 // The token is of the kind that was asked for.
 fn is_wanted(word: u32, wanted: Wanted) -> bool
@@ -31,22 +31,22 @@ fn first_held(k: Buffer) -> u32
     t[0]
 }
 
-// The number by which Input is refused, 0 for none.
-fn input_no(st: &[u32], slot: Slot, c: usize, wanted: Wanted) -> u8
-    ensures { result ≡ refusal (input_rows (view st.now) slot.0 c wanted) }
+// Whether Input is refused.
+fn check_input(st: &[u32], slot: Slot, c: usize, wanted: Wanted) -> Result<(), No>
+    ensures { result ≡ checked (input_rows (view st.now) slot.0 c wanted) }
 {
     if !end_at(st, slot, c) {
-        return NO_SUCH;
+        return Err(No::NoSuch);
     }
     let e = end::at(st, slot, c);
     let k = e.buffer;
     if k.held == 0 {
-        return EMPTY;
+        return Err(No::Empty);
     }
     if !is_wanted(first_held(k), wanted) {
-        return TRAP;
+        return Err(No::Trap);
     }
-    0
+    Ok(())
 }
 
 // A channel-end's buffer without its oldest token.
@@ -62,16 +62,13 @@ fn took_first(k: Buffer) -> Buffer
 }
 
 // Input, whole: refused by its number with nothing changed (the token stays), or the token's value.
-#[tactic(auto, using(answers::proofs::Refusals::goes_on_lem, crate::proofs::There::input_there, answers::proofs::Refusals::refuses, crate::proofs::There::some_held), unfolding(crate::specs::Input::input))]
-pub fn input(st: &mut [u32], slot: Slot, c: usize, wanted: Wanted) -> Answer
+#[tactic(auto, using(answers::proofs::Refusals::goes_on_lem, crate::proofs::There::input_there, crate::proofs::There::some_held), unfolding(crate::specs::Input::input))]
+pub fn input(st: &mut [u32], slot: Slot, c: usize, wanted: Wanted) -> Result<Answer, No>
     ensures { out result (view st.new) ≡ input (view st.old) slot.0 c wanted }
 {
-    let no = input_no(st, slot, c, wanted);
-    if no != 0 {
-        return Answer::No(no);
-    }
+    check_input(st, slot, c, wanted)?;
     let k = end::at(st, slot, c);
     let word = first_held(k.buffer);
     end::put_buffer(st, slot, c, took_first(k.buffer));
-    Answer::Token((word % 256) as u8)
+    Ok(Answer::Token((word % 256) as u8))
 }

@@ -2,7 +2,7 @@
 ghost use Rattle.std.specs.Prelude.{◌≡◌, ◌<◌};
 ghost use Rattle.names.specs.Size.{ports, ends};
 ghost use Rattle.answers.specs.Out.{out, attempt};
-ghost use Rattle.answers.specs.declared.Answer.TheVariants.{Done};
+ghost use Rattle.answers.specs.Answered.{Done};
 ghost use Rattle.acts.specs.Acts.{pushed, pushed_all};
 ghost use Rattle.acts.specs.Needs.{Room, Given};
 ghost use Rattle.tokens.specs.Header.{words};
@@ -10,7 +10,7 @@ ghost use Rattle.cells.specs.View.{view};
 ghost use Rattle.cells.specs.World.{world};
 ghost use Rattle.ends.specs.Plan.{target_of, destination_of};
 ghost use Rattle.ends.specs.Needs.{AimFits, Fits, OutputPossible, SoundBy, Sends};
-ghost use Rattle.ends.specs.Output.{word_of, is_unit, token_no, goes_by, opens_by, goes_behind};
+ghost use Rattle.ends.specs.Output.{word_of, is_unit, token_checked, goes_by, opens_by, goes_behind};
 ghost use Rattle.ends.specs.Output.{goes_straight, output_performed, plan_rows, send_rows, token_sent, output};
 
 use crate::plan::{Plan, plan_of};
@@ -21,9 +21,9 @@ use answers::Answer;
 use cells::end;
 use cells::end::Aim;
 use circuits::Peer;
-use names::no::{FULL, NARROW, NO_SUCH, UNAIMED};
+use names::no::No;
 use names::{NodeNumber, Slot};
-use tokens::control::output_no;
+use tokens::control::check_output;
 use tokens::header::{Header, Target, make_header};
 use tokens::word::{of_control, of_data};
 
@@ -67,13 +67,13 @@ fn is_unit(g: Target) -> bool
     }
 }
 
-// The number by which a token is refused towards a destination, 0 for none.
-fn token_no(x: Token, g: Target) -> u8
-    ensures { result ≡ token_no x g }
+// Whether a token is refused towards a destination.
+fn check_token(x: Token, g: Target) -> Result<(), No>
+    ensures { result ≡ token_checked x g }
 {
     match x {
-        Token::Data(_) => 0,
-        Token::Control(v) => output_no(v, is_unit(g)),
+        Token::Data(_) => Ok(()),
+        Token::Control(v) => check_output(v, is_unit(g)),
     }
 }
 
@@ -138,50 +138,60 @@ fn carry(
     g: Target,
     word: u16,
     plan: Plan,
-) -> Answer
+) -> Result<Answer, No>
     requires { (slot.0 < (view st.old).nodes) × (c < ends) × OutputPossible (world st.old mem.old) slot.0 word plan }
     ensures { out result (world st.new mem.new)
         ≡ attempt (plan_rows plan) (world st.old mem.old)
         (out Done (output_performed (world st.old mem.old) slot.0 c g word plan)) }
 {
     match plan {
-        Plan::Narrow => return Answer::No(NARROW),
-        Plan::Full => return Answer::No(FULL),
+        Plan::Narrow => return Err(No::Narrow),
+        Plan::Full => return Err(No::Full),
         Plan::Opens(p) => open_by(st, mem, slot, c, g, p, word),
         Plan::Behind(p) => go_behind(st, mem, slot, c, p, word),
         Plan::Straight(d) => go_straight(st, slot, c, d, word),
     }
-    Answer::Done
+    Ok(Answer::Done)
 }
 
 // A token towards a destination.
-fn send(st: &mut [u32], mem: &mut [u16], slot: Slot, c: usize, g: Target, x: Token) -> Answer
+fn send(
+    st: &mut [u32],
+    mem: &mut [u16],
+    slot: Slot,
+    c: usize,
+    g: Target,
+    x: Token,
+) -> Result<Answer, No>
     requires { Sends (world st.old mem.old) slot.0 c g }
     ensures { out result (world st.new mem.new)
         ≡ attempt (send_rows (view st.old) slot.0 c g x) (world st.old mem.old)
         (out Done (token_sent (world st.old mem.old) slot.0 c g x)) }
 {
-    let no = token_no(x, g);
-    if no != 0 {
-        return Answer::No(no);
-    }
+    check_token(x, g)?;
     let word = word_of(x);
     let plan = plan_of(st, slot, c, g, word);
     carry(st, mem, slot, c, g, word, plan)
 }
 
 // Output, whole: refused by its number with nothing changed, or done.
-pub fn output(st: &mut [u32], mem: &mut [u16], slot: Slot, c: usize, x: Token) -> Answer
+pub fn output(
+    st: &mut [u32],
+    mem: &mut [u16],
+    slot: Slot,
+    c: usize,
+    x: Token,
+) -> Result<Answer, No>
     requires { SoundBy (world st.old mem.old) }
     ensures { out result (world st.new mem.new)
         ≡ output (world st.old mem.old) slot.0 c x }
 {
     if !end_at(st, slot, c) {
-        return Answer::No(NO_SUCH);
+        return Err(No::NoSuch);
     }
     let k = end::at(st, slot, c);
     let Some(g) = destination_of(k.aim) else {
-        return Answer::No(UNAIMED);
+        return Err(No::Unaimed);
     };
     send(st, mem, slot, c, g, x)
 }

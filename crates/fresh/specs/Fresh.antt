@@ -3,10 +3,10 @@
 -- to H enabled after start; Fresh should too. The old start stays under its own name" (document 02, Ask 7): Blank.
 use Rattle.std.specs.Prelude.{ℕ, Bool, not, ◌&&◌, List, [], ◌∷◌, eqb, ltb, leb}
 use Rattle.names.specs.Size.{nodes, links}
-use Rattle.names.specs.No.{Unsound, NoSuch}
+use Rattle.names.specs.declared.no.No.TheVariants.{Unsound, NoSuch}
 use Rattle.answers.specs.Rows.{Row, refused_if}
 use Rattle.answers.specs.Out.{Out, out, attempt}
-use Rattle.answers.specs.declared.Answer.TheVariants.{Done}
+use Rattle.answers.specs.Answered.{Done}
 use Rattle.cells.specs.World.{World, shaped}
 use Rattle.cells.specs.Start.{start_world, none_on}
 use Rattle.fresh.specs.declared.Start.{Start}

@@ -4,7 +4,7 @@
 
 ghost use Rattle.std.specs.Prelude.{◌≡◌, true, [], ◌+◌, ◌*◌, ◌<◌};
 ghost use Rattle.names.specs.Size.{links};
-ghost use Rattle.answers.specs.Rows.{refusal};
+ghost use Rattle.answers.specs.Rows.{checked};
 ghost use Rattle.answers.specs.Out.{out};
 ghost use Rattle.cells.specs.View.{view};
 ghost use Rattle.cells.specs.World.{lent};
@@ -21,7 +21,7 @@ use cells::node::Node;
 use cells::{link, node};
 use circuits::Circuit;
 use names::Slot;
-use names::no::{NO_SUCH, UNSOUND};
+use names::no::No;
 use names::size::{LINKS, NODES};
 use routing::direction::Directions;
 
@@ -117,13 +117,13 @@ fn start_state(st: &mut [u32], which: Start)
     }
 }
 
-// The number by which a start is refused, 0 for none.
-fn start_no(st: &[u32], mem: &[u16], ls: &[u16], nodes: usize) -> u8
-    ensures { result ≡ refusal (start_rows (lent st.now mem.now ls.now) nodes) }
+// Whether a start is refused.
+fn check_start(st: &[u32], mem: &[u16], ls: &[u16], nodes: usize) -> Result<(), No>
+    ensures { result ≡ checked (start_rows (lent st.now mem.now ls.now) nodes) }
 {
     let counted = (1 <= nodes) & (nodes <= NODES);
     if !counted {
-        return NO_SUCH;
+        return Err(No::NoSuch);
     }
     let fitting = shaped(&Memories {
         state: st,
@@ -131,23 +131,26 @@ fn start_no(st: &[u32], mem: &[u16], ls: &[u16], nodes: usize) -> u8
         lines: ls,
     }) & (node::count(st) == nodes);
     if !fitting {
-        return UNSOUND;
+        return Err(No::Unsound);
     }
-    0
+    Ok(())
 }
 
 // A start, whole: refused by its number with nothing changed, or a network of so many nodes.
-pub fn begin(st: &mut [u32], mem: &mut [u16], ls: &mut [u16], which: Start, nodes: usize) -> Answer
+pub fn begin(
+    st: &mut [u32],
+    mem: &mut [u16],
+    ls: &mut [u16],
+    which: Start,
+    nodes: usize,
+) -> Result<Answer, No>
     ensures { out result (lent st.new mem.new ls.new)
         ≡ begin (lent st.old mem.old ls.old) which nodes }
 {
-    let no = start_no(st, mem, ls, nodes);
-    if no != 0 {
-        return Answer::No(no);
-    }
+    check_start(st, mem, ls, nodes)?;
     start_state(st, which);
     // "every token word 0", in ports and on lines
     mem.fill(0);
     ls.fill(0);
-    Answer::Done
+    Ok(Answer::Done)
 }

@@ -10,9 +10,9 @@ use Rattle.names.specs.No.{passes}
 use Rattle.circuits.specs.declared.Cause.{Cause}
 use Rattle.circuits.specs.declared.Cause.TheVariants.{Split, NoRoute}
 use Rattle.answers.specs.Answer.{number_of, case_of, answer_value, answer_number}
-use Rattle.answers.specs.declared.Answer.{Answer}
-use Rattle.answers.specs.declared.Answer.TheVariants.{No, Done, Granted, Token, Idle, Waiting, Moved, OpenedLink, OpenedChannel}
-use Rattle.answers.specs.declared.Answer.TheVariants.{OpenedUnit, Refused, Dropped, Malformed, Unheard, Arrived}
+use Rattle.answers.specs.Answered.{Answered}
+use Rattle.answers.specs.Answered.{No, Done, Granted, Token, Idle, Waiting, Moved, OpenedLink, OpenedChannel}
+use Rattle.answers.specs.Answered.{OpenedUnit, Refused, Dropped, Malformed, Unheard, Arrived}
 use Rattle.cells.specs.World.{World, lent}
 use Rattle.cells.proofs.Whole.{whole_state}
 use Rattle.bench.specs.Calls.{Call, apply}
@@ -24,7 +24,7 @@ use Rattle.host.specs.Crossed.{Crossing, crossing, crossed}
 abbrev cause_at : ℕ → Cause
 cause_at v = pick (eqb v 0) Split NoRoute
 
-abbrev answer_at : ℕ → ℕ → Answer
+abbrev answer_at : ℕ → ℕ → Answered
 answer_at k v =
     pick (eqb k 0) (No v)
     (pick (eqb k 1) Done
@@ -40,7 +40,7 @@ answer_at k v =
     (pick (eqb k 11) (Dropped (cause_at v))
     (pick (eqb k 12) Malformed (pick (eqb k 13) Unheard (Arrived v))))))))))))))
 
-back : (a : Answer) → answer_at (case_of a) (answer_value a) ≡ a
+back : (a : Answered) → answer_at (case_of a) (answer_value a) ≡ a
 back (No n) = refl
 back Done = refl
 back (Granted g) = refl
@@ -64,7 +64,7 @@ halves : (k j v u : ℕ) → v < 256 → u < 256 → k * 4294967296 + v ≡ j * 
 halves k j v u h l e = (omega arith, omega arith)
 
 -- two answers within their bounds that cross as one number are one answer
-pub one_answer : (a b : Answer) → Bounded a → Bounded b → answer_number a ≡ answer_number b → a ≡ b
+pub one_answer : (a b : Answered) → Bounded a → Bounded b → answer_number a ≡ answer_number b → a ≡ b
 one_answer a b h l e =
     let z = halves (case_of a) (case_of b) (answer_value a) (answer_value b) (small_value a h) (small_value b l) e in
     sym (back a) ∙ ap (λ (k : ℕ). answer_at k (answer_value a)) z.0 ∙ ap (answer_at (case_of b)) z.1 ∙ back b
@@ -75,7 +75,7 @@ pub answer_told : (w v : World) (c d : Call) → answer_number (apply w c).answe
 answer_told w v c d e = one_answer (apply w c).answer (apply v d).answer (bounded w c) (bounded v d) e
 
 -- and what meets a call's contract on the other side names the one answer: the number tells which, and there is no second
-pub answer_heard : (w : World) (c : Call) (r : ℕ) (left : World) (a : Answer) → Bounded a
+pub answer_heard : (w : World) (c : Call) (r : ℕ) (left : World) (a : Answered) → Bounded a
     → crossing r left ≡ crossed (apply w c)
     → r ≡ answer_number a
     → (apply w c).answer ≡ a
@@ -85,7 +85,7 @@ answer_heard w c r left a h e q =
 -- Refusals
 
 -- a refusal crosses as its own number, 1 to 12, and every other answer as 2 to the 32nd or more
-pub refusal_number : (a : Answer) → Bounded a → answer_number a < 4294967296
+pub refusal_number : (a : Answered) → Bounded a → answer_number a < 4294967296
     → (number_of a ≡ answer_number a) × ((1 ≤ number_of a) × (number_of a ≤ 12))
 refusal_number (No n) h l = (omega arith, h)
 refusal_number Done h l = absurd (omega arith)

@@ -2,7 +2,7 @@
 use Prim.{Unit, tt}
 use Rattle.laws.specs.Table.{upd}
 use Rattle.laws.specs.All.{first}
-use Rattle.tokens.specs.Control.{output_no}
+use Rattle.tokens.specs.Control.{output_checked}
 use Rattle.tokens.specs.Word.{closes}
 use Rattle.tokens.specs.Shape.{legal_channel, three_shape, shape_of}
 use Rattle.tokens.specs.Header.{header_of, read_one, read_three}
@@ -25,7 +25,7 @@ use Rattle.plans.specs.Plan.{step_plan}
 
 unfoldable pub computes : Unit {0}
 unfolding
-    upd first output_no closes legal_channel three_shape shape_of header_of read_one read_three highest field with_field entry_of with_entry ring
+    upd first output_checked closes legal_channel three_shape shape_of header_of read_one read_three highest field with_field entry_of with_entry ring
     credit_of is_token before grant_of shaped pushed popped load_at reached put_on taken_off grant_due grants_back says_hello disabled line_came
     line_stepped set_call message_of written ended took output_plan step_plan
 computes = tt

@@ -8,7 +8,7 @@ use lib.Dec.{eqb, ltb}
 use borrow.Author.Tests.{ltb-true}
 use Rattle.laws.proofs.All.{either, equal}
 use Rattle.laws.proofs.Order.{by_test, clash}
-use Rattle.tokens.specs.Control.{writec, readc, output_no}
+use Rattle.tokens.specs.Control.{writec, readc, output_checked, output_no}
 use Rattle.tokens.specs.declared.header.Target.{Target}
 use Rattle.cells.specs.World.{World}
 use Rattle.ends.specs.Plan.{target_of, lowest_free, output_plan}
@@ -23,7 +23,7 @@ use Rattle.kept.proofs.Chosen.{Found, narrow, full, opens, behind, starts, goes_
 
 -- A TOKEN THAT OUTPUT LETS OUT is data, or control below 0xC2
 control_small : (v : ℕ) (u : Bool) → eqb (output_no v u) 7 ≡ false → eqb (output_no v u) 8 ≡ false → v < 0xC2
-unfolding output_no
+unfolding output_checked
 control_small v u hard privileged =
     by_test (ltb v 0x80)
     (λ e. omega (arith, ltb-true v 0x80 e))

@@ -4,8 +4,8 @@ use Rattle.laws.specs.Pick.{pick}
 use Rattle.laws.proofs.Order.{by_test}
 use Rattle.tokens.specs.Header.{header_of, is_narrow}
 use Rattle.tokens.specs.declared.header.Target.{Target}
-use Rattle.answers.specs.declared.Answer.{Answer}
-use Rattle.answers.specs.declared.Answer.TheVariants as Answers
+use Rattle.answers.specs.Answered.{Answered}
+use Rattle.answers.specs.Answered as Answers
 use Rattle.cells.specs.World.{World}
 use Rattle.acts.specs.Acts.{width_at}
 use Rattle.messages.specs.Register.{fields_of, read_of}
@@ -17,7 +17,7 @@ use Rattle.messages.specs.declared.heard.Message.TheVariants.{Malformed, Wrong, 
 use Rattle.messages.specs.declared.reply.Reply.{Reply}
 use Rattle.messages.specs.declared.reply.Reply.TheVariants.{Nack, Ack, Value}
 
-module _ (P : Answer → Type 0) (moved : P Answers.Moved) (malformed : P Answers.Malformed) (unheard : P Answers.Unheard) where
+module _ (P : Answered → Type 0) (moved : P Answers.Moved) (malformed : P Answers.Malformed) (unheard : P Answers.Unheard) where
   of_sent : (w : World) (n : ℕ) (g : Target) (x : Reply) → P (reply_sent w n g x).answer
   of_sent w n g x =
       by_test (is_narrow (header_of g (width_at w.net n))) (λ e. rw e unheard) (λ e. rw e moved)

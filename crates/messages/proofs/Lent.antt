@@ -12,8 +12,8 @@ use Rattle.tokens.specs.Header.{header_of, words, is_narrow}
 use Rattle.tokens.specs.declared.header.Header.{Header}
 use Rattle.tokens.specs.declared.header.Target.{Target}
 use Rattle.answers.specs.Out.{Out, out}
-use Rattle.answers.specs.declared.Answer.{Answer}
-use Rattle.answers.specs.declared.Answer.TheVariants as Answers
+use Rattle.answers.specs.Answered.{Answered}
+use Rattle.answers.specs.Answered as Answers
 use Rattle.cells.specs.View.{Net}
 use Rattle.cells.specs.World.{World}
 use Rattle.acts.specs.Acts.{width_at, pushed, pushed_all}
@@ -62,7 +62,7 @@ module _ (ls : List ℕ) (n : ℕ) where
       ∙ ap last (words_lent (said x) (pushed_all w n reply_port (words h)))
 
   -- what a function did that is lent no line
-  pub sent_lent : (w z : World) (a : Answer) (g : Target) (x : Reply) → out a z ≡ reply_sent w n g x
+  pub sent_lent : (w z : World) (a : Answered) (g : Target) (x : Reply) → out a z ≡ reply_sent w n g x
       → out a (with_line_memory z ls) ≡ reply_sent (with_line_memory w ls) n g x
   sent_lent w z a g x e =
       ap (λ (o : Out World). out o.answer (with_line_memory o.next ls)) e
@@ -71,11 +71,11 @@ module _ (ls : List ℕ) (n : ℕ) where
       (λ q. rw q (ap (out Answers.Moved) (sym (put_lent w (header_of g (width_at w.net n)) x))))
 
   -- .. of a message that is wrong, and of one that reads
-  pub wrong_lent : (w z : World) (a : Answer) {m : Message} {g : Target} → m ≡ Wrong g → out a z ≡ reply_sent w n g Nack
+  pub wrong_lent : (w z : World) (a : Answered) {m : Message} {g : Target} → m ≡ Wrong g → out a z ≡ reply_sent w n g Nack
       → out a (with_line_memory z ls) ≡ obeyed (with_line_memory w ls) n m
   wrong_lent w z a {g = g} d e = rw d (sent_lent w z a g Nack e)
 
-  pub read_lent : (w z : World) (a : Answer) {m : Message} {g : Target} {r : Register} (v : ℕ) → m ≡ Read g r → v ≡ read_of w.net n r
+  pub read_lent : (w z : World) (a : Answered) {m : Message} {g : Target} {r : Register} (v : ℕ) → m ≡ Read g r → v ≡ read_of w.net n r
       → out a z ≡ reply_sent w n g (Value v)
       → out a (with_line_memory z ls) ≡ obeyed (with_line_memory w ls) n m
   read_lent w z a {g = g} {r = r} v d q e =
@@ -86,7 +86,7 @@ module _ (s : Net) (m ls : List ℕ) (n : ℕ) where
   abbrev lines : World
   lines = record { net = s; memory = []; line_memory = ls }
 
-  pub write_lent : (y z : World) (a : Answer) (done : Bool) (x : Reply) {k : Message} {g : Target} {r : Register} {v : ℕ} → k ≡ Write g r v
+  pub write_lent : (y z : World) (a : Answered) (done : Bool) (x : Reply) {k : Message} {g : Target} {r : Register} {v : ℕ} → k ≡ Write g r v
       → (done ≡ accepted lines n (fields_of r v)) × (y ≡ written lines n (fields_of r v))
       → x ≡ pick done Ack Nack
       → out a z ≡ reply_sent (record { net = y.net; memory = m; line_memory = [] }) n g x

@@ -1,21 +1,23 @@
 -- A write to a register, made as its fields are: what would refuse a later one is seen before. Assumes nothing.
-use Prim.{tt}
+use Prim.{Unit as Nothing, tt}
 use Prim.Native.Nat.{ℕ, zero, suc, ◌+◌, ◌*◌, ◌/◌, ◌%◌, ◌^◌, ◌<◌, ◌≤◌}
 use mathlib.Core.Path.{◌≡◌, refl, sym, ap, ◌∙◌}
 use mathlib.Core.Bool.{Bool, true, false}
 use mathlib.Core.List.{List, [], ◌∷◌}
 use native.Mathlib.Omega.{arith}
 use lib.Dec.{eqb}
-use borrow.Author.Tests.{eq-eqb, ne_eqb, lt-ltb}
+use borrow.Author.Tests.{eq-eqb, eqb-true, lt-ltb}
 use Rattle.laws.specs.Row.{tab}
 use Rattle.laws.specs.All.{Means}
 use Rattle.laws.proofs.Order.{by_test, clash}
 use Rattle.laws.proofs.Table.{upd_same}
+use Rattle.std.specs.Prelude.{Result, is_err}
 use Rattle.names.specs.No.{passes}
+use Rattle.names.specs.declared.no.No.{No as Why}
 use Rattle.routing.specs.Direction.{field}
 use Rattle.answers.specs.Answer.{number_of}
-use Rattle.answers.specs.Rows.{refusal, Passes}
-use Rattle.answers.proofs.Refusals.{passed}
+use Rattle.answers.specs.Rows.{checked, refusal, Passes}
+use Rattle.answers.proofs.Refusals.{some_back, by_check, clear, passed}
 use Rattle.cells.specs.View.{Net, with_setup}
 use Rattle.cells.specs.World.{World, far_of, Far, Nowhere, At}
 use Rattle.cells.specs.Changes.{enabled_as}
@@ -44,28 +46,30 @@ module _ (w : World) (n : ℕ) (x : Setting) where
   pub by_rows : passes_set w n x ≡ eqb (refusal (set_rows w n x)) passes
   unfolding set_call
   by_rows =
-      by_test (eqb (refusal (set_rows w n x)) passes)
+      by_check (checked (set_rows w n x))
       (λ e. rw e (ap (λ (k : ℕ). eqb k passes) (unrefused x)))
-      (λ e. rw e e)
+      (λ k e. rw e)
 
   pub set_passes : Means (passes_set w n x) (Passes (set_rows w n x))
   set_passes = rw by_rows (passed (set_rows w n x))
 
   pub made_next : passes_set w n x ≡ true → (set_call w n x).next ≡ set_made w n x
   unfolding set_call
-  made_next h = rw (sym by_rows ∙ h)
+  made_next h = rw (clear (set_rows w n x) (eqb-true (refusal (set_rows w n x)) passes (sym by_rows ∙ h)))
 
   pub kept_next : passes_set w n x ≡ false → (set_call w n x).next ≡ w
   unfolding set_call
-  kept_next h = rw (sym by_rows ∙ h)
+  kept_next h = by_check (checked (set_rows w n x)) (λ e. clash (sym (by_rows ∙ rw e refl) ∙ h)) (λ k e. rw e)
 
--- .. by the number that the rows give
-module _ (w : World) (n : ℕ) (x : Setting) (k : ℕ) (e : k ≡ refusal (set_rows w n x)) where
-  pub refused_by : (k ≡ passes → ⊥) → passes_set w n x ≡ false
-  refused_by h = by_rows w n x ∙ rw (← e) (ne_eqb k passes h)
+-- .. as the rows say
+module _ (w : World) (n : ℕ) (x : Setting) (r : Result Nothing Why) (e : r ≡ checked (set_rows w n x)) where
+  pub refused_by : is_err r ≡ true → passes_set w n x ≡ false
+  refused_by h =
+      by_check r (λ q. clash (sym h ∙ ap (λ (y : Result Nothing Why). is_err y) q)) (λ k q. by_rows w n x ∙ rw (sym e ∙ q) (some_back k))
 
-  pub passes_by : k ≡ passes → passes_set w n x ≡ true
-  passes_by h = by_rows w n x ∙ rw (← e) (eq-eqb k passes h)
+  pub passes_by : is_err r ≡ false → passes_set w n x ≡ true
+  passes_by h =
+      by_check r (λ q. by_rows w n x ∙ rw (sym e ∙ q) refl) (λ k q. clash (sym (ap (λ (y : Result Nothing Why). is_err y) q) ∙ h))
 
 -- a bit is 0 or 1
 pub zero_bit : (b : ℕ) → b ≡ 0 → eqb b 1 ≡ false

@@ -8,7 +8,7 @@ use Rattle.tokens.specs.Header.{header_of, words, is_narrow}
 use Rattle.tokens.specs.declared.header.Header.{Header}
 use Rattle.tokens.specs.declared.header.Target.{Target}
 use Rattle.answers.specs.Out.{Out, out}
-use Rattle.answers.specs.declared.Answer.TheVariants as Answers
+use Rattle.answers.specs.Answered as Answers
 use Rattle.cells.specs.World.{World}
 use Rattle.acts.specs.Acts.{width_at, pushed, pushed_all}
 use Rattle.messages.specs.Register.{fields_of, read_of}

@@ -8,7 +8,7 @@ pub mod register;
 pub mod reply;
 pub mod write;
 
-ghost use Rattle.std.specs.Prelude.{◌≡◌};
+ghost use Rattle.std.specs.Prelude.{◌≡◌, Ok};
 ghost use Rattle.laws.specs.Pick.{pick};
 ghost use Rattle.answers.specs.Out.{out};
 ghost use Rattle.cells.specs.World.{lent};
@@ -37,7 +37,7 @@ fn verdict(accepted: bool) -> Reply
 // A message is obeyed, and replied to with the width that the node has then.
 fn obey(st: &mut [u32], mem: &mut [u16], ls: &mut [u16], slot: Slot, m: Message) -> Answer
     requires { Ready (lent st.old mem.old ls.old) slot.0 }
-    ensures { out result (lent st.new mem.new ls.new) ≡ obeyed (lent st.old mem.old ls.old) slot.0 m }
+    ensures { out (Ok result) (lent st.new mem.new ls.new) ≡ obeyed (lent st.old mem.old ls.old) slot.0 m }
 {
     match m {
         Message::Malformed => Answer::Malformed,
@@ -56,7 +56,7 @@ fn obey(st: &mut [u32], mem: &mut [u16], ls: &mut [u16], slot: Slot, m: Message)
 // END or PAUSE has come to a node's control unit.
 pub fn end_message(st: &mut [u32], mem: &mut [u16], ls: &mut [u16], slot: Slot, word: u16) -> Answer
     requires { Ready (lent st.old mem.old ls.old) slot.0 }
-    ensures { out result (lent st.new mem.new ls.new)
+    ensures { out (Ok result) (lent st.new mem.new ls.new)
         ≡ ended (lent st.old mem.old ls.old) slot.0 word }
 {
     let k = unit::at(st, slot);

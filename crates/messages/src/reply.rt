@@ -1,5 +1,5 @@
 // What a control unit replies, by port 12 (document 01, "Switch messages").
-ghost use Rattle.std.specs.Prelude.{◌≡◌, ◌≤◌};
+ghost use Rattle.std.specs.Prelude.{◌≡◌, ◌≤◌, Ok};
 ghost use Rattle.names.specs.Size.{reply_port};
 ghost use Rattle.answers.specs.Out.{out};
 ghost use Rattle.cells.specs.World.{world};
@@ -74,7 +74,7 @@ fn put_reply(st: &mut [u32], mem: &mut [u16], slot: Slot, h: Header, x: Reply)
 // A reply is sent, if the node's width at this moment can carry where it is to go.
 pub fn send(st: &mut [u32], mem: &mut [u16], slot: Slot, g: Target, x: Reply) -> Answer
     requires { Room (world st.old mem.old) slot.0 reply_port longest }
-    ensures { out result (world st.new mem.new)
+    ensures { out (Ok result) (world st.new mem.new)
         ≡ reply_sent (world st.old mem.old) slot.0 g x }
 {
     let h = make_header(g, width_at(st, slot));

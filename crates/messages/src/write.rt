@@ -11,10 +11,9 @@ ghost use Rattle.messages.specs.declared.register.Register.TheVariants.{Route, S
 ghost use Rattle.messages.specs.Write.{passes_set, accepted, written};
 
 use crate::register::Register;
-use answers::number;
 use names::Slot;
 use routing::direction::field;
-use settings::refused::{cable_signalled, set_no};
+use settings::refused::{cable_signalled, check_set};
 use settings::{Setting, set};
 
 // One Set: whether it was made.
@@ -23,7 +22,7 @@ fn tried(st: &mut [u32], ls: &mut [u16], slot: Slot, x: Setting) -> bool
     ensures { (result ≡ passes_set (lined st.old ls.old) slot.0 x)
         × (lined st.new ls.new ≡ (set_call (lined st.old ls.old) slot.0 x).next) }
 {
-    number(set(st, ls, slot, x)) == 0
+    set(st, ls, slot, x).is_ok()
 }
 
 // A register with one field.
@@ -54,7 +53,7 @@ fn write_route(st: &mut [u32], ls: &mut [u16], slot: Slot, l: usize, v: u32) -> 
         × (lined st.new ls.new ≡ written (lined st.old ls.old) slot.0 (fields_of (Route l) v)) }
 {
     let network = Setting::Network(l, v / 0x0010 % 4);
-    if set_no(st, ls, slot, network) != 0 {
+    if check_set(st, ls, slot, network).is_err() {
         return false;
     }
     tried(st, ls, slot, Setting::LinkDirection(l, v / 0x0100 % 16));
@@ -76,7 +75,7 @@ fn write_state(st: &mut [u32], ls: &mut [u16], slot: Slot, l: usize, v: u32) -> 
     if enable == 0 {
         return false;
     }
-    if set_no(st, ls, slot, Setting::Enable(l, enable)) != 0 {
+    if check_set(st, ls, slot, Setting::Enable(l, enable)).is_err() {
         return false;
     }
     if cable_signalled(st, ls, slot, l) {

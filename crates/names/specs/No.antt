@@ -1,8 +1,8 @@
 -- Document 01, "Numbers for no": each name and its number.
-use Rattle.std.specs.Prelude.{ℕ}
-
-pub data No : Type 0 where
-  Unsound NoSuch Value Busy Unaimed Open Hardware Privileged Narrow Full Empty Trap : No
+use Prim.{Unit}
+use Rattle.std.specs.Prelude.{ℕ, Result, Ok, Err}
+use Rattle.names.specs.declared.no.No.{No}
+use Rattle.names.specs.declared.no.No.TheVariants.{Unsound, NoSuch, Value, Busy, Unaimed, Open, Hardware, Privileged, Narrow, Full, Empty, Trap}
 
 abbrev pub number : No → ℕ
 number Unsound = 1
@@ -21,3 +21,8 @@ number Trap = 12
 -- what stands for no refusal
 abbrev pub passes : ℕ
 passes = 0
+
+-- the number that a test gives
+abbrev pub number_by : Result Unit No → ℕ
+number_by (Ok u) = passes
+number_by (Err k) = number k

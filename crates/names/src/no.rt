@@ -1,24 +1,41 @@
-// Numbers for no (document 01): what a refused call answers. 0 is no refusal.
-pub const UNSOUND: u8 = 1;
+// Numbers for no (document 01): why a call is refused.
+ghost use Rattle.std.specs.Prelude.{◌≡◌};
+ghost use Rattle.names.specs.No.{number};
 
-pub const NO_SUCH: u8 = 2;
+#[derive(Clone, Copy, PartialEq, Eq)]
+pub enum No {
+    Unsound,
+    NoSuch,
+    Value,
+    Busy,
+    Unaimed,
+    Open,
+    Hardware,
+    Privileged,
+    Narrow,
+    Full,
+    Empty,
+    Trap,
+}
 
-pub const VALUE: u8 = 3;
-
-pub const BUSY: u8 = 4;
-
-pub const UNAIMED: u8 = 5;
-
-pub const OPEN: u8 = 6;
-
-pub const HARDWARE: u8 = 7;
-
-pub const PRIVILEGED: u8 = 8;
-
-pub const NARROW: u8 = 9;
-
-pub const FULL: u8 = 10;
-
-pub const EMPTY: u8 = 11;
-
-pub const TRAP: u8 = 12;
+impl No {
+    // The paper's number.
+    pub fn number(self) -> u8
+        ensures { result ≡ number self }
+    {
+        match self {
+            Self::Unsound => 1,
+            Self::NoSuch => 2,
+            Self::Value => 3,
+            Self::Busy => 4,
+            Self::Unaimed => 5,
+            Self::Open => 6,
+            Self::Hardware => 7,
+            Self::Privileged => 8,
+            Self::Narrow => 9,
+            Self::Full => 10,
+            Self::Empty => 11,
+            Self::Trap => 12,
+        }
+    }
+}

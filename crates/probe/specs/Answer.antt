@@ -2,7 +2,7 @@
 -- output buffer too short for the whole result is NoSuch" (document 02, Ask 8).
 use Rattle.std.specs.Prelude.{ℕ, Result, Ok, Err}
 use Rattle.names.specs.No.{number, passes}
-use Rattle.names.specs.No as No
+use Rattle.names.specs.declared.no.No.TheVariants as No
 use Rattle.probe.specs.declared.answer.Refusal.{Refusal}
 use Rattle.probe.specs.declared.answer.Refusal.TheVariants.{Bad, Cut, NoSuch}
 

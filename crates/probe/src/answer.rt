@@ -2,7 +2,7 @@
 ghost use Rattle.std.specs.Prelude.{◌≡◌};
 ghost use Rattle.probe.specs.Answer.{answer_number, answer_value};
 
-use names::no::NO_SUCH;
+use names::no::No;
 
 #[derive(Clone, Copy)]
 pub enum Refusal {
@@ -26,7 +26,7 @@ pub fn number(answer: Result<usize, Refusal>) -> u8
         Ok(_) => 0,
         Err(Refusal::Bad(_)) => BAD,
         Err(Refusal::Cut) => CUT,
-        Err(Refusal::NoSuch) => NO_SUCH,
+        Err(Refusal::NoSuch) => No::NoSuch.number(),
     }
 }
 

@@ -4,8 +4,8 @@ use Prim.Native.Nat.{ℕ}
 use mathlib.Core.Path.{◌≡◌, refl, ◌∙◌}
 use lib.Dec.{eqb}
 use Rattle.laws.proofs.Order.{by_test}
-use Rattle.names.specs.No.{passes}
-use Rattle.answers.specs.Rows.{refusal}
+use Rattle.answers.proofs.Refusals.{by_check}
+use Rattle.answers.specs.Rows.{checked}
 use Rattle.cells.specs.View.{with_setup}
 use Rattle.cells.specs.World.{World, far_of, Far, Nowhere, At}
 use Rattle.cells.specs.Changes.{enabled_as}
@@ -86,4 +86,4 @@ module _ (w : World) (n : ℕ) where
   pub set_leaves : (x : Setting) → Leaves w (set_call w n x).next
   unfolding set_call
   set_leaves x =
-      by_test (eqb (refusal (set_rows w n x)) passes) (λ e. rw e (setting_leaves x)) (λ e. rw e (leaves_all w))
+      by_check (checked (set_rows w n x)) (λ e. rw e (setting_leaves x)) (λ k e. rw e (leaves_all w))

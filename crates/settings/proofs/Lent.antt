@@ -4,10 +4,10 @@ use mathlib.Core.Path.{◌≡◌, refl, sym, ap, ◌∙◌}
 use mathlib.Core.List.{List}
 use lib.Dec.{eqb}
 use Rattle.laws.proofs.Order.{by_test}
-use Rattle.names.specs.No.{passes}
-use Rattle.answers.specs.Rows.{Row, refusal}
+use Rattle.answers.proofs.Refusals.{by_check}
+use Rattle.answers.specs.Rows.{Row, checked}
 use Rattle.answers.specs.Out.{Out, out, attempt}
-use Rattle.answers.specs.declared.Answer.{Answer}
+use Rattle.answers.specs.Answered.{Answered}
 use Rattle.cells.specs.World.{World}
 use Rattle.clauses.specs.Cables.{far_enabled}
 use Rattle.travel.specs.Travel.{put_on, says_hello}
@@ -50,9 +50,9 @@ module _ (w : World) (m : List ℕ) where
     unfolding set_call
     set_lent x =
         ap (λ (rs : List Row). attempt rs (with_memory w m) (out (set_answer x) (set_made (with_memory w m) n x))) (rows_lent x)
-        ∙ by_test (eqb (refusal (set_rows w n x)) passes) (λ e. rw e (ap (out (set_answer x)) (made_lent x))) (λ e. rw e)
+        ∙ by_check (checked (set_rows w n x)) (λ e. rw e (ap (out (set_answer x)) (made_lent x))) (λ k e. rw e)
 
 -- .. what a function did that is lent no port
-pub called_lent : (w z : World) (a : Answer) (m : List ℕ) (n : ℕ) (x : Setting) → out a z ≡ set_call w n x
+pub called_lent : (w z : World) (a : Answered) (m : List ℕ) (n : ℕ) (x : Setting) → out a z ≡ set_call w n x
     → out a (with_memory z m) ≡ set_call (with_memory w m) n x
 called_lent w z a m n x e = ap (λ (o : Out World). out_memory o m) e ∙ sym (set_lent w m n x)

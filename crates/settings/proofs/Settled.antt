@@ -10,11 +10,11 @@ use borrow.Author.Tests.{eqb-true, not-false}
 use Rattle.laws.proofs.Order.{by_test, clash}
 use Rattle.laws.proofs.Table.{place}
 use Rattle.names.specs.Size.{links}
-use Rattle.names.specs.No.{passes}
 use Rattle.lines.specs.Line.{line_capacity}
 use Rattle.lines.specs.Load.{hello_word}
 use Rattle.lines.proofs.Ends.{hello_last_lem}
-use Rattle.answers.specs.Rows.{refusal}
+use Rattle.answers.proofs.Refusals.{by_check}
+use Rattle.answers.specs.Rows.{checked}
 use Rattle.cells.specs.View.{Net, with_setup}
 use Rattle.cells.specs.World.{World, far_of, line_from, Far, Nowhere, At}
 use Rattle.cells.specs.Changes.{enabled_as}
@@ -126,6 +126,6 @@ module _ (w : World) (n : ℕ) (h : Settled w) where
   pub still_settled : (x : Setting) → Settled (set_call w n x).next
   unfolding set_call
   still_settled x =
-      by_test (eqb (refusal (set_rows w n x)) passes)
-      (λ e. rw e (made_settled x (set_there w n x (eqb-true (refusal (set_rows w n x)) passes e))))
-      (λ e. rw e h)
+      by_check (checked (set_rows w n x))
+      (λ e. rw e (made_settled x (set_there w n x e)))
+      (λ k e. rw e h)

@@ -1,4 +1,4 @@
--- What making a Set asks of the state: the link is present and a number has sixteen bits, from the number that refuses it (`set_no`);
+-- What making a Set asks of the state: the link is present and a number has sixteen bits, from the test that refuses it (`check_set`);
 -- cables lead to links that are present and lines can be read, as a sound state's do (`settled` in switch/proofs/Cabled.antt).
 use Prim.{Unit}
 use Rattle.std.specs.Prelude.{ℕ, ◌<◌, ◌≤◌}

@@ -2,13 +2,13 @@
 use Rattle.std.specs.Prelude.{ℕ, Bool, true, false, not, ◌&&◌, ◌||◌, List, [], ◌∷◌, eqb, ltb, leb}
 use Rattle.laws.specs.Pick.{pick}
 use Rattle.names.specs.Size.{links, networks, directions, bits}
-use Rattle.names.specs.No.{NoSuch, Value, Busy}
+use Rattle.names.specs.declared.no.No.TheVariants.{NoSuch, Value, Busy}
 use Rattle.names.specs.Number.{is_number}
 use Rattle.routing.specs.Direction.{with_entry}
 use Rattle.answers.specs.Rows.{Row, refused_if}
 use Rattle.answers.specs.Out.{Out, out, attempt}
-use Rattle.answers.specs.declared.Answer.{Answer}
-use Rattle.answers.specs.declared.Answer.TheVariants.{Done, Granted}
+use Rattle.answers.specs.Answered.{Answered}
+use Rattle.answers.specs.Answered.{Done, Granted}
 use Rattle.cells.specs.View.{Net, whole_port, with_node, with_setup}
 use Rattle.cells.specs.World.{World, far_of, Far}
 use Rattle.cells.specs.Changes.{numbered_as, width_as, directions_as, directed_to, network_as, enabled_as}
@@ -102,7 +102,7 @@ set_made w n (Enable l v) = with_net w (enabled_or w.net n l v)
 set_made w n (Hello l) = says_hello w n l
 
 -- "The answer to HELLO gives the grant" (document 01): when it is sent there is none yet
-abbrev pub set_answer : Setting → Answer
+abbrev pub set_answer : Setting → Answered
 set_answer (Number v) = Done
 set_answer (Width v) = Done
 set_answer (Direction b v) = Done

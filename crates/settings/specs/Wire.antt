@@ -2,10 +2,10 @@
 -- a wired end, no longer for an enabled one")
 use Rattle.std.specs.Prelude.{ℕ, Bool, not, ◌&&◌, ◌||◌, List, [], ◌∷◌, eqb, ltb}
 use Rattle.names.specs.Size.{links}
-use Rattle.names.specs.No.{NoSuch, Value, Busy}
+use Rattle.names.specs.declared.no.No.TheVariants.{NoSuch, Value, Busy}
 use Rattle.answers.specs.Rows.{Row, refused_if}
 use Rattle.answers.specs.Out.{Out, out, attempt}
-use Rattle.answers.specs.declared.Answer.TheVariants.{Done}
+use Rattle.answers.specs.Answered.{Done}
 use Rattle.cells.specs.View.{Net, with_cable}
 use Rattle.cells.specs.declared.link.Cable.{Cable}
 

@@ -13,9 +13,10 @@ ghost use Rattle.settings.specs.Set.{set_call};
 ghost use Rattle.settings.specs.Needs.{Settled};
 
 use crate::made::make;
-use crate::refused::set_no;
+use crate::refused::check_set;
 use answers::Answer;
 use names::Slot;
+use names::no::No;
 
 // What is to be set. Values are as wide as they are asked for: those out of range are refused.
 #[derive(Clone, Copy)]
@@ -37,14 +38,11 @@ pub enum Setting {
 }
 
 // Set, whole: refused by its number with nothing changed, or made.
-#[tactic(auto, using(crate::proofs::Passed::set_goes_on, crate::proofs::Passed::set_refuses, crate::proofs::Passed::set_there))]
-pub fn set(st: &mut [u32], ls: &mut [u16], slot: Slot, x: Setting) -> Answer
+#[tactic(auto, using(crate::proofs::Passed::set_goes_on, crate::proofs::Passed::set_there))]
+pub fn set(st: &mut [u32], ls: &mut [u16], slot: Slot, x: Setting) -> Result<Answer, No>
     requires { Settled (lined st.old ls.old) }
     ensures { out result (lined st.new ls.new) ≡ set_call (lined st.old ls.old) slot.0 x }
 {
-    let no = set_no(st, ls, slot, x);
-    if no != 0 {
-        return Answer::No(no);
-    }
-    make(st, ls, slot, x)
+    check_set(st, ls, slot, x)?;
+    Ok(make(st, ls, slot, x))
 }

@@ -1,5 +1,5 @@
 // A Set that is not refused, made: each form reads its record, changes it, and writes it back.
-ghost use Rattle.std.specs.Prelude.{◌≡◌, false, ◌<◌};
+ghost use Rattle.std.specs.Prelude.{◌≡◌, false, ◌<◌, Ok};
 ghost use Rattle.names.specs.Size.{links};
 ghost use Rattle.answers.specs.Out.{out};
 ghost use Rattle.routing.specs.Direction.{with_entry};
@@ -84,7 +84,7 @@ fn set_enable(st: &mut [u32], slot: Slot, l: usize, v: u32)
 pub fn make(st: &mut [u32], ls: &mut [u16], slot: Slot, x: Setting) -> Answer
     requires { (slot.0 < (view st.old).nodes) × Settable x × Settled (lined st.old ls.old)
         × (set_busy (lined st.old ls.old) slot.0 x ≡ false) }
-    ensures { out result (lined st.new ls.new)
+    ensures { out (Ok result) (lined st.new ls.new)
         ≡ out (set_answer x) (set_made (lined st.old ls.old) slot.0 x) }
 {
     match x {

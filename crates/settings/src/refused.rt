@@ -1,6 +1,6 @@
 // When Set is refused (document 01, "Numbers for no").
 ghost use Rattle.std.specs.Prelude.{◌≡◌, [], ◌<◌};
-ghost use Rattle.answers.specs.Rows.{refusal};
+ghost use Rattle.answers.specs.Rows.{checked};
 ghost use Rattle.cells.specs.View.{view};
 ghost use Rattle.cells.specs.World.{lined, far_of};
 ghost use Rattle.travel.specs.Needs.{LineThere, FarLine};
@@ -11,7 +11,7 @@ ghost use Rattle.settings.specs.Needs.{Settable, Settled};
 use crate::Setting;
 use cells::link::far_at;
 use cells::{line, link, node, port};
-use names::no::{BUSY, NO_SUCH, VALUE};
+use names::no::No;
 use names::size::{BITS, DIRECTIONS, LINKS, NETWORKS};
 use names::{Slot, is_number};
 use travel::line::load_from;
@@ -142,20 +142,20 @@ fn set_busy(st: &[u32], ls: &[u16], slot: Slot, x: Setting) -> bool
     }
 }
 
-// The number by which Set is refused, 0 for none.
-pub fn set_no(st: &[u32], ls: &[u16], slot: Slot, x: Setting) -> u8
+// Whether Set is refused.
+pub fn check_set(st: &[u32], ls: &[u16], slot: Slot, x: Setting) -> Result<(), No>
     requires { Settled (lined st.now ls.now) }
-    ensures { result ≡ refusal (set_rows (lined st.now ls.now) slot.0 x) }
+    ensures { result ≡ checked (set_rows (lined st.now ls.now) slot.0 x) }
 {
     let there = (slot.0 < node::count(st)) & link_there(x);
     if !there {
-        return NO_SUCH;
+        return Err(No::NoSuch);
     }
     if !in_range(x) {
-        return VALUE;
+        return Err(No::Value);
     }
     if set_busy(st, ls, slot, x) {
-        return BUSY;
+        return Err(No::Busy);
     }
-    0
+    Ok(())
 }

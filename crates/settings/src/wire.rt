@@ -1,7 +1,7 @@
 // Wire (document 01, "Calls"; document 02, Ask 7): join two different link ends, both unwired.
 ghost use Rattle.std.specs.Prelude.{◌≡◌, ◌<◌, ◌≤◌, ◌^◌};
 ghost use Rattle.names.specs.Size.{links, nodes};
-ghost use Rattle.answers.specs.Rows.{refusal};
+ghost use Rattle.answers.specs.Rows.{checked};
 ghost use Rattle.answers.specs.Out.{out};
 ghost use Rattle.cells.specs.View.{view};
 ghost use Rattle.settings.specs.Wire.{link_at, end_wired, wire_rows, cable_to, wired, wire};
@@ -10,7 +10,7 @@ use answers::Answer;
 use cells::link::Cable;
 use cells::{link, node};
 use names::Slot;
-use names::no::{BUSY, NO_SUCH, VALUE};
+use names::no::No;
 use names::size::LINKS;
 
 pub fn link_at(st: &[u32], slot: Slot, l: usize) -> bool
@@ -26,23 +26,23 @@ fn end_wired(st: &[u32], slot: Slot, l: usize) -> bool
     k.cable.wired == 1
 }
 
-// The number by which Wire is refused, 0 for none.
-fn wire_no(st: &[u32], a: Slot, l: usize, b: Slot, k: usize) -> u8
-    ensures { result ≡ refusal (wire_rows (view st.now) a.0 l b.0 k) }
+// Whether Wire is refused.
+fn check_wire(st: &[u32], a: Slot, l: usize, b: Slot, k: usize) -> Result<(), No>
+    ensures { result ≡ checked (wire_rows (view st.now) a.0 l b.0 k) }
 {
     let there = link_at(st, a, l) & link_at(st, b, k);
     if !there {
-        return NO_SUCH;
+        return Err(No::NoSuch);
     }
     let itself = (a == b) & (l == k);
     if itself {
-        return VALUE;
+        return Err(No::Value);
     }
     let wired = end_wired(st, a, l) | end_wired(st, b, k);
     if wired {
-        return BUSY;
+        return Err(No::Busy);
     }
-    0
+    Ok(())
 }
 
 // A cable that leads to link j of slot m.
@@ -67,15 +67,12 @@ fn join(st: &mut [u32], a: Slot, l: usize, b: Slot, k: usize)
 }
 
 // Wire, whole: refused by its number with nothing changed, or made.
-#[tactic(auto, using(crate::proofs::Passed::wire_goes_on, crate::proofs::Passed::wire_refuses, crate::proofs::Passed::wire_there))]
-pub fn wire(st: &mut [u32], a: Slot, l: usize, b: Slot, k: usize) -> Answer
+#[tactic(auto, using(crate::proofs::Passed::wire_goes_on, crate::proofs::Passed::wire_there))]
+pub fn wire(st: &mut [u32], a: Slot, l: usize, b: Slot, k: usize) -> Result<Answer, No>
     requires { (view st.old).nodes ≤ nodes }
     ensures { out result (view st.new) ≡ wire (view st.old) a.0 l b.0 k }
 {
-    let no = wire_no(st, a, l, b, k);
-    if no != 0 {
-        return Answer::No(no);
-    }
+    check_wire(st, a, l, b, k)?;
     join(st, a, l, b, k);
-    Answer::Done
+    Ok(Answer::Done)
 }

@@ -5,9 +5,10 @@ use mathlib.Core.Path.{◌≡◌, sym, ap, ◌∙◌}
 use mathlib.Core.List.{List, map}
 use lib.ListN.{length}
 use borrow.Author.Tests.{eq-eqb, ne_eqb}
-use Rattle.names.specs.No.{number, NoSuch}
+use Rattle.names.specs.No.{number}
+use Rattle.names.specs.declared.no.No.TheVariants.{NoSuch}
 use Rattle.answers.specs.Answer.{answer_number}
-use Rattle.answers.specs.declared.Answer.TheVariants.{No, Done}
+use Rattle.answers.specs.Answered.{No, Done}
 use Rattle.cells.specs.World.{lent}
 use Rattle.cells.proofs.Whole.{whole_state}
 use Rattle.bench.specs.declared.StepRecord.{StepRecord}

@@ -8,7 +8,7 @@ use lib.ListN.{set}
 use Rattle.laws.proofs.All.{also, as_is}
 use Rattle.answers.specs.Answer.{answer_number}
 use Rattle.answers.specs.Out.{Out, out}
-use Rattle.answers.specs.declared.Answer.{Answer}
+use Rattle.answers.specs.Answered.{Answered}
 use Rattle.cells.specs.World.{World}
 use Rattle.sound.specs.Sound.{sound, tight}
 use Rattle.kept.proofs.Parts.{sound_kept, kept_sound}
@@ -50,10 +50,10 @@ sure_sound b w e h = (rw e at h).0
 pub known_from : (b more : Bool) (w : World) (r : Bool) → r ≡ known b more w → Sure b w → Sure r w
 known_from b more w r e h = rw e (known_sure b more w h)
 
-pub kept_on : (b : Bool) (w : World) (c : Call) (a : Answer) (v : World) → out a v ≡ apply w c → Sure b w → Sure b v
+pub kept_on : (b : Bool) (w : World) (c : Call) (a : Answered) (v : World) → out a v ≡ apply w c → Sure b w → Sure b v
 kept_on b w c a v e h = rw (ap (λ (o : Out World). o.next) e) (sure_after b w c h)
 
-pub stored : (w : World) (rs : List ℕ) (i slot port n : ℕ) (a : Answer) (v : World)
+pub stored : (w : World) (rs : List ℕ) (i slot port n : ℕ) (a : Answered) (v : World)
     → out a v ≡ apply w (Step (record { 0 = slot }) port)
     → n ≡ answer_number a
     → left v (set rs i n) ≡ one_step (left w rs) i slot port

@@ -13,7 +13,7 @@ use Rattle.circuits.specs.declared.Peer.TheVariants.{Port, End}
 use Rattle.tokens.specs.Control.{end}
 use Rattle.tokens.specs.Word.{control_word}
 use Rattle.ports.specs.Memory.{place}
-use Rattle.answers.specs.declared.Answer.TheVariants as Answers
+use Rattle.answers.specs.Answered as Answers
 use Rattle.cells.specs.View.{Net, with_counters, with_leg, with_sender, with_aim, with_sending}
 use Rattle.cells.specs.World.{World}
 use Rattle.cells.specs.Start.{start_net, start_world, none_on}

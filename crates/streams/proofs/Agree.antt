@@ -18,8 +18,8 @@ use Rattle.tokens.specs.declared.header.Target.{Target}
 use Rattle.tokens.specs.declared.header.Target.TheVariants.{Channel, Unit}
 use Rattle.routing.specs.Way.{way_to, Way, ThisNode, OtherNode}
 use Rattle.answers.specs.Rows.{refusal, Passes}
-use Rattle.answers.specs.declared.Answer.{Answer}
-use Rattle.answers.specs.declared.Answer.TheVariants as Answers
+use Rattle.answers.specs.Answered.{Answered}
+use Rattle.answers.specs.Answered as Answers
 use Rattle.answers.proofs.Refusals.{passed}
 use Rattle.cells.specs.World.{World, far_of, queue, Far, Nowhere, At}
 use Rattle.acts.specs.Acts.{width_at, number_at, first_at}
@@ -91,7 +91,7 @@ module _ (w : World) (n c t : ℕ) where
   output_agrees g (Chosen.goes_on d goes given) e f = rw goes
 
 -- A MESSAGE AT ITS END, by its answer
-module _ (w : World) (n : ℕ) (k : Ghost) (write : Answer → Books) (unheard : write Answers.Unheard ≡ books_of k) where
+module _ (w : World) (n : ℕ) (k : Ghost) (write : Answered → Books) (unheard : write Answers.Unheard ≡ books_of k) where
   reply_agrees : (g : Target) (x : Reply) → write Answers.Moved ≡ write_reply w n g x (books_of k)
       → write (reply_sent w n g x).answer ≡ books_of (notes (reply_events w n g x) k)
   unfolding note
@@ -103,7 +103,7 @@ module _ (w : World) (n : ℕ) (k : Ghost) (write : Answer → Books) (unheard :
       (λ z. rw z unheard)
       (λ z. rw z (sent ∙ sym (puts_noted (said x ++ (control_word end ∷ [])) e d (note (Opens e d y g) k))))
 
-obey_agrees : (w : World) (n : ℕ) (m : Message) (k : Ghost) (write : Answer → Books)
+obey_agrees : (w : World) (n : ℕ) (m : Message) (k : Ghost) (write : Answered → Books)
     → write Answers.Malformed ≡ books_of k
     → write Answers.Unheard ≡ books_of k
     → write Answers.Moved ≡ write_obeyed w n m (books_of k)

@@ -17,8 +17,8 @@ use Rattle.circuits.specs.declared.Cause.TheVariants.{Split}
 use Rattle.tokens.specs.Control.{pause}
 use Rattle.tokens.specs.Word.{closes, control_word, value_of, is_control}
 use Rattle.tokens.specs.Header.{header_of, is_narrow}
-use Rattle.answers.specs.declared.Answer.{Answer}
-use Rattle.answers.specs.declared.Answer.TheVariants.{Token, Refused}
+use Rattle.answers.specs.Answered.{Answered}
+use Rattle.answers.specs.Answered.{Token, Refused}
 use Rattle.answers.proofs.Refusals.{passed}
 use Rattle.cells.specs.World.{World}
 use Rattle.fresh.specs.Fresh.{start_of}
@@ -55,10 +55,10 @@ use Rattle.streams.proofs.Misreads.{not_misread, is_misread, goes_on_lem}
 
 -- SPLIT
 -- both ways
-abbrev Same : Answer → World → ℕ → ℕ → Type 0
+abbrev Same : Answered → World → ℕ → ℕ → Type 0
 Same a w n p = (a ≡ Refused Split → misread w n p ≡ true) × (misread w n p ≡ true → a ≡ Refused Split)
 
-neither : {a : Answer} (w : World) (n p : ℕ) → (a ≡ Refused Split → ⊥) → misread w n p ≡ false → Same a w n p
+neither : {a : Answered} (w : World) (n p : ℕ) → (a ≡ Refused Split → ⊥) → misread w n p ≡ false → Same a w n p
 neither w n p other e = (λ z. absurd (other z), λ z. clash (sym z ∙ e))
 
 -- a message's end is answered by Moved, Unheard or Malformed

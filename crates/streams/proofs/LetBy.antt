@@ -11,10 +11,11 @@ use mathlib.Core.List.{List, []}
 use Rattle.laws.specs.Pick.{pick}
 use Rattle.laws.proofs.Order.{by_test, clash}
 use Rattle.names.specs.Size.{nodes}
-use Rattle.names.specs.No.{number, Unsound}
+use Rattle.names.specs.No.{number}
+use Rattle.names.specs.declared.no.No.TheVariants.{Unsound}
 use Rattle.answers.specs.Out.{Out, out}
-use Rattle.answers.specs.declared.Answer.{Answer}
-use Rattle.answers.specs.declared.Answer.TheVariants.{No, Idle}
+use Rattle.answers.specs.Answered.{Answered}
+use Rattle.answers.specs.Answered.{No, Idle}
 use Rattle.cells.specs.World.{World}
 use Rattle.fresh.specs.Fresh.{start_of}
 use Rattle.fresh.specs.declared.Start.{Start}
@@ -38,7 +39,7 @@ use Rattle.streams.proofs.Agree.{call_agrees}
 use Rattle.streams.proofs.Misreads.{call_splits}
 
 -- a bench that makes these calls, and says this of the others
-module _ (makes : Call → Bool) (say : Answer) where
+module _ (makes : Call → Bool) (say : Answered) where
   abbrev pub lame : World → Call → Out World
   lame w c = pick (makes c) (apply w c) (out say w)
 
@@ -81,7 +82,7 @@ module _ (makes : Call → Bool) (say : Answer) where
       abbrev observer : Observer is_link machine
       observer =
           record {
-            Answer = Answer;
+            Answered = Answered;
             answer = λ w c. (lame w c.call).answer;
             write = λ o w c. write o w c.call;
             jot = λ c. jot c.call;

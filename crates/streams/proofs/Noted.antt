@@ -23,7 +23,7 @@ use Rattle.tokens.specs.Header.{header_of, words}
 use Rattle.tokens.specs.declared.header.Target.{Target}
 use Rattle.tokens.proofs.Words.{header_back}
 use Rattle.answers.specs.Rows.{Passes}
-use Rattle.answers.specs.declared.Answer.{Answer}
+use Rattle.answers.specs.Answered.{Answered}
 use Rattle.cells.specs.View as Cells
 use Rattle.cells.specs.World.{World, far_of}
 use Rattle.cells.specs.declared.end.Aim as Aims
@@ -397,7 +397,7 @@ module _ (w : World) (k : Kept w) (o : Notes) where
       told_still w _ _ o (record { aims = refl; buffers = refl; units = refl }) (tt, tt) (λ d. refl) (λ d. refl)
   made_told (Set a x) p e = told_set (set_answer x)
     where
-      told_set : (y : Answer) → Told w (made w (Set a x)).next [] o (jot (Set a x) y o)
+      told_set : (y : Answered) → Told w (made w (Set a x)).next [] o (jot (Set a x) y o)
       told_set y = told_still w _ [] o (indoors_set (setting_leaves w a.0 x)) tt (λ d. refl) (λ d. refl)
   made_told (Aim a c g v) p e =
       aim_told w a.0 c g v o ((also (below a.0 w.net.nodes) (below c ends)).sure (not-false _ p.1.0)).1

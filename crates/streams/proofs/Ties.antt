@@ -10,7 +10,7 @@ use Rattle.laws.proofs.Order.{by_test, never}
 use Rattle.names.specs.Size.{ends}
 use Rattle.circuits.specs.declared.Peer.TheVariants as Peers
 use Rattle.answers.specs.Rows.{refusal}
-use Rattle.answers.specs.declared.Answer.TheVariants as Answers
+use Rattle.answers.specs.Answered as Answers
 use Rattle.answers.proofs.Refusals.{passed}
 use Rattle.cells.specs.World.{World}
 use Rattle.fresh.specs.Fresh.{start_of}

@@ -20,8 +20,8 @@ use Rattle.tokens.specs.declared.header.Width.{Width}
 use Rattle.tokens.specs.declared.header.Target.{Target}
 use Rattle.tokens.specs.declared.header.Target.TheVariants.{Channel, Unit}
 use Rattle.routing.specs.Way.{way_to, Way, ThisNode, OtherNode}
-use Rattle.answers.specs.declared.Answer.{Answer}
-use Rattle.answers.specs.declared.Answer.TheVariants as Answers
+use Rattle.answers.specs.Answered.{Answered}
+use Rattle.answers.specs.Answered as Answers
 use Rattle.cells.specs.World.{World, far_of, hop, Far, Nowhere, At}
 use Rattle.acts.specs.Acts.{width_at, number_at, word_at, first_at}
 use Rattle.lines.specs.Load.{is_token}
@@ -253,7 +253,7 @@ write_moved w n p (Hops.Channel c t) k = handed_on (port_no n p) (ToChannel c) (
 write_moved w n p Hops.Unit k = write_end w n p (handed_on (port_no n p) ToUnit (first_at w n p) k)
 write_moved w n p (Hops.Dropped x) k = k
 
-abbrev pub write_step : World → ℕ → ℕ → Answer → Books → Books
+abbrev pub write_step : World → ℕ → ℕ → Answered → Books → Books
 write_step w n p (Answers.No x) k = k
 write_step w n p Answers.Done k = k
 write_step w n p (Answers.Granted x) k = k
@@ -276,7 +276,7 @@ abbrev pub write_arrival : ℕ → ℕ → ℕ → Far → Books → Books
 write_arrival n l x Nowhere k = k
 write_arrival n l x (At m j) k = pick (is_token x) (arrived (port_no n l) (port_no m.0 j) k) k
 
-abbrev pub write_line : World → ℕ → ℕ → Answer → Books → Books
+abbrev pub write_line : World → ℕ → ℕ → Answered → Books → Books
 write_line w n l (Answers.No x) k = k
 write_line w n l Answers.Done k = k
 write_line w n l (Answers.Granted x) k = k
@@ -294,7 +294,7 @@ write_line w n l Answers.Unheard k = k
 write_line w n l (Answers.Arrived x) k = write_arrival n l (first_on w n l) (far_of (w.net.links.cables n l)) k
 
 -- where a call is done
-abbrev pub when_done : {A : Type 0} → Answer → A → A → A
+abbrev pub when_done : {A : Type 0} → Answered → A → A → A
 when_done (Answers.No x) k old = old
 when_done Answers.Done k old = k
 when_done (Answers.Granted x) k old = old
@@ -313,7 +313,7 @@ when_done (Answers.Arrived x) k old = old
 
 -- THE BOOKS AFTER A CALL. A circuit's destination is what the channel-end's latest Aim gave, by the notes (o). A start that is done opens
 -- new books (Watch.antt)
-abbrev pub write : Notes → World → Call → Answer → Books → Books
+abbrev pub write : Notes → World → Call → Answered → Books → Books
 write o w (Begin s n) x k = k
 write o w (Wire a l b j) x k = k
 write o w (Set a y) x k = k
@@ -344,7 +344,7 @@ jot_put e t k = record { aimed = k.aimed; put = push k.put e t; taken = k.taken 
 abbrev pub jot_taken : ℕ → ℕ → Notes → Notes
 jot_taken e t k = record { aimed = k.aimed; put = k.put; taken = push k.taken e t }
 
-abbrev pub jot_input : ℕ → Wanted → Answer → Notes → Notes
+abbrev pub jot_input : ℕ → Wanted → Answered → Notes → Notes
 jot_input e y (Answers.No x) k = k
 jot_input e y Answers.Done k = k
 jot_input e y (Answers.Granted x) k = k
@@ -361,7 +361,7 @@ jot_input e y Answers.Malformed k = k
 jot_input e y Answers.Unheard k = k
 jot_input e y (Answers.Arrived x) k = k
 
-abbrev pub jot : Call → Answer → Notes → Notes
+abbrev pub jot : Call → Answered → Notes → Notes
 jot (Begin s n) x k = k
 jot (Wire a l b j) x k = k
 jot (Set a y) x k = k
@@ -373,7 +373,7 @@ jot (Line a l) x k = k
 jot (Steps n xs) x k = k
 
 -- NEW BOOKS: after a start that is done; one that is refused changes none
-abbrev pub renews : Call → Answer → Bool
+abbrev pub renews : Call → Answered → Bool
 renews (Begin s n) x = when_done x true false
 renews (Wire a l b j) x = false
 renews (Set a y) x = false

@@ -6,7 +6,7 @@ use mathlib.Core.Bool.{true, false}
 use Rattle.names.specs.Size.{reply_port}
 use Rattle.tokens.specs.Word.{closes}
 use Rattle.answers.specs.Out.{Out, out}
-use Rattle.answers.specs.declared.Answer.TheVariants.{Moved}
+use Rattle.answers.specs.Answered.{Moved}
 use Rattle.cells.specs.View.{Net}
 use Rattle.cells.specs.World.{World}
 use Rattle.acts.specs.Acts.{with_net, first_at}

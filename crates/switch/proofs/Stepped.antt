@@ -8,12 +8,13 @@ use Rattle.laws.specs.Pick.{pick}
 use Rattle.laws.proofs.All.{also, below}
 use Rattle.laws.proofs.Order.{by_test}
 use Rattle.names.specs.Size.{ports}
-use Rattle.names.specs.No.{number, NoSuch}
+use Rattle.names.specs.No.{number}
+use Rattle.names.specs.declared.no.No.TheVariants.{NoSuch}
 use Rattle.circuits.specs.declared.Hop.{Hop}
 use Rattle.circuits.specs.declared.Hop.TheVariants as Hops
 use Rattle.answers.specs.Out.{out}
-use Rattle.answers.specs.declared.Answer.{Answer}
-use Rattle.answers.specs.declared.Answer.TheVariants.{No, Moved, Malformed, Unheard}
+use Rattle.answers.specs.Answered.{Answered}
+use Rattle.answers.specs.Answered.{No, Moved, Malformed, Unheard}
 use Rattle.cells.specs.View.{Net}
 use Rattle.cells.specs.World.{World, hop}
 use Rattle.tokens.specs.Word.{closes}
@@ -50,7 +51,7 @@ module _ (w : World) (n p : ℕ) where
   stepped e = rw e
 
 -- what a control unit's token may be answered with
-pub heard_answers : (P : Answer → Type 0) → P Moved → P Malformed → P Unheard → (w : World) (n p : ℕ) → P (hears w n p).answer
+pub heard_answers : (P : Answered → Type 0) → P Moved → P Malformed → P Unheard → (w : World) (n p : ℕ) → P (hears w n p).answer
 heard_answers P a b c w n p =
     by_test (closes (first_at w n p))
     (λ e. rw e (end_answers P a b c (with_net (took w n p) (closes_unit (took w n p).net n p)) n (first_at w n p)))

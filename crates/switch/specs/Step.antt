@@ -2,12 +2,12 @@
 use Rattle.std.specs.Prelude.{ℕ, Bool, not, ◌&&◌, List, [], ◌∷◌, ltb}
 use Rattle.laws.specs.Pick.{pick}
 use Rattle.names.specs.Size.{ports}
-use Rattle.names.specs.No.{NoSuch}
+use Rattle.names.specs.declared.no.No.TheVariants.{NoSuch}
 use Rattle.circuits.specs.declared.Hop.TheVariants as Hops
 use Rattle.tokens.specs.Word.{closes}
 use Rattle.answers.specs.Rows.{Row, refused_if}
 use Rattle.answers.specs.Out.{Out, out, attempt}
-use Rattle.answers.specs.declared.Answer.TheVariants as Answers
+use Rattle.answers.specs.Answered as Answers
 use Rattle.cells.specs.View.{Net}
 use Rattle.cells.specs.World.{World}
 use Rattle.acts.specs.Acts.{with_net, first_at, hopped}

@@ -1,8 +1,8 @@
 // Control tokens: their classes, and which of them Output refuses (002, 1.3).
 ghost use Rattle.std.specs.Prelude.{◌≡◌};
-ghost use Rattle.tokens.specs.Control.{class_of, privileged_no, output_no};
+ghost use Rattle.tokens.specs.Control.{class_of, privileged_checked, output_checked};
 
-use names::no;
+use names::no::No;
 
 // The control tokens that document 01 names.
 pub const END: u8 = 0x01;
@@ -38,31 +38,30 @@ pub fn class_of(v: u8) -> Class
     }
 }
 
-// The number for no that Output gives for a privileged token: a message's first token passes
-// towards a control unit.
-fn privileged_no(v: u8, to_unit: bool) -> u8
-    ensures { result ≡ privileged_no v to_unit }
+// A privileged token, which Output refuses: but a message's first token passes towards a control unit.
+fn check_privileged(v: u8, to_unit: bool) -> Result<(), No>
+    ensures { result ≡ privileged_checked v to_unit }
 {
     if to_unit {
         if v == WRITEC {
-            return 0;
+            return Ok(());
         }
         if v == READC {
-            return 0;
+            return Ok(());
         }
     }
-    no::PRIVILEGED
+    Err(No::Privileged)
 }
 
-// The number for no that Output gives for a control token, 0 where it passes.
-#[tactic(auto, unfolding(crate::specs::Control::output_no))]
-pub fn output_no(v: u8, to_unit: bool) -> u8
-    ensures { result ≡ output_no v to_unit }
+// A control token that Output lets pass, or why it refuses it.
+#[tactic(auto, unfolding(crate::specs::Control::output_checked))]
+pub fn check_output(v: u8, to_unit: bool) -> Result<(), No>
+    ensures { result ≡ output_checked v to_unit }
 {
     match class_of(v) {
-        Class::Application => 0,
-        Class::Special => 0,
-        Class::Privileged => privileged_no(v, to_unit),
-        Class::Hardware => no::HARDWARE,
+        Class::Application => Ok(()),
+        Class::Special => Ok(()),
+        Class::Privileged => check_privileged(v, to_unit),
+        Class::Hardware => Err(No::Hardware),
     }
 }

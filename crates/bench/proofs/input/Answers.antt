@@ -1,7 +1,7 @@
 -- `bench::input` meets its contract. Assumes nothing.
 use Rattle.std.proofs.Common.{refl, sym, ◌∙◌}
 use Rattle.answers.specs.Out.{out}
-use Rattle.answers.specs.declared.Answer.TheVariants.{Token}
+use Rattle.answers.specs.Answered.{Token}
 use Rattle.cells.specs.View.{view}
 use Rattle.cells.specs.World.{lent}
 use Rattle.ends.specs.Input.{input_rows, input_value, input_made, input}

@@ -1,10 +1,11 @@
 -- `bench::line` meets its contract. Assumes nothing.
 use Rattle.std.proofs.Common.{◌≡◌, ℕ, ◌<◌, true, false, refl, sym, ◌∙◌, Option}
 use Rattle.laws.proofs.All.{also, below}
-use Rattle.names.specs.No.{number, NoSuch}
+use Rattle.names.specs.No.{number}
+use Rattle.names.specs.declared.no.No.TheVariants.{NoSuch}
 use Rattle.names.specs.Size.{links}
 use Rattle.answers.specs.Out.{Out, out, attempt}
-use Rattle.answers.specs.declared.Answer.TheVariants.{No}
+use Rattle.answers.specs.Answered.{No}
 use Rattle.cells.specs.View.{view}
 use Rattle.cells.specs.World.{World, lent}
 use Rattle.settings.specs.Wire.{link_at}

@@ -1,7 +1,7 @@
 -- `bench::wire` meets its contract. Assumes nothing.
 use Rattle.std.proofs.Common.{refl, sym, ◌∙◌}
 use Rattle.answers.specs.Out.{out}
-use Rattle.answers.specs.declared.Answer.TheVariants.{Done}
+use Rattle.answers.specs.Answered.{Done}
 use Rattle.cells.specs.View.{view}
 use Rattle.cells.specs.World.{lent}
 use Rattle.settings.specs.Wire.{wire_rows, wired, wire}

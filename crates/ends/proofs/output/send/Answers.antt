@@ -7,10 +7,11 @@ use Rattle.ends.proofs.Possibles.{plan_possible}
 use Rattle.ends.proofs.Sent.{token_refused, token_passes}
 use Rattle.ends.proofs.output.send.Goals as goal
 
-pub returns-then-no-ne0 : goal.returns-then-no-ne0
-returns-then-no-ne0 c =
+pub returns-in_err-check_token : goal.returns-in_err-check_token
+returns-in_err-check_token c =
     let a = c.args in
-    token_refused (world a.st.now a.mem.now) a.slot.0 a.c a.g a.x _ c.token_no-no.ensures c.if-no-ne0.true
+    token_refused (world a.st.now a.mem.now) a.slot.0 a.c a.g a.x _ c.check_token.ensures _ _ c.from_residual.ensures
+    c.in_err-check_token.was
 
 pub plan_of-plan-requires : goal.plan_of-plan-requires
 plan_of-plan-requires c =
@@ -28,4 +29,4 @@ returns c =
     let a = c.args in
     c.carry.ensures
     ∙ rw (c.plan_of-plan.ensures, c.word_of-word.ensures)
-    (token_passes (world a.st.now a.mem.now) a.slot.0 a.c a.g a.x _ c.token_no-no.ensures c.if-no-ne0.false)
+    (token_passes (world a.st.now a.mem.now) a.slot.0 a.c a.g a.x _ c.check_token.ensures c.in_ok-check_token.was)
