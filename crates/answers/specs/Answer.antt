@@ -4,9 +4,8 @@ use Rattle.std.specs.Prelude.{ℕ, ◌+◌, ◌*◌}
 use Rattle.names.specs.No.{number, passes}
 use Rattle.circuits.specs.declared.Cause.{Cause}
 use Rattle.circuits.specs.declared.Cause.TheVariants.{Split, NoRoute}
-use Rattle.answers.specs.Answered.{Answered}
 use Rattle.answers.specs.Answered.{No, Done, Granted, Token, Idle, Waiting, Moved, OpenedLink, OpenedChannel}
-use Rattle.answers.specs.Answered.{OpenedUnit, Refused, Dropped, Malformed, Unheard, Arrived}
+use Rattle.answers.specs.Answered.{Answered, OpenedUnit, Refused, Dropped, Malformed, Unheard, Arrived}
 
 -- "A refused call returns its number": the number for no, and none for every other answer
 abbrev pub number_of : Answered → ℕ

@@ -1,6 +1,5 @@
 -- What a call answers, case by case: why it is refused, or what came of it.
 use Rattle.std.specs.Prelude.{ℕ, Result, Ok, Err}
-
 use Rattle.names.specs.declared.no.No.{No as Why}
 use Rattle.circuits.specs.declared.Cause.{Cause}
 use Rattle.answers.specs.declared.Answer.{Answer}

@@ -22,10 +22,10 @@ use Rattle.tokens.specs.declared.header.Target.TheVariants as Targets
 use Rattle.routing.specs.Way.{way_to, Way, ThisNode, OtherNode}
 use Rattle.routing.specs.Direction.{entry_of}
 use Rattle.answers.specs.Answer.{answer_value}
-use Rattle.answers.specs.Rows.{Row, refusal}
-use Rattle.answers.specs.Answered.{Answered}
+use Rattle.answers.specs.Rows.{Row, refusal, checked}
 use Rattle.answers.specs.Answered.{No, Done, Granted, Token, Idle, Waiting, Moved, OpenedLink, OpenedChannel}
-use Rattle.answers.specs.Answered.{OpenedUnit, Refused, Dropped, Malformed, Unheard, Arrived}
+use Rattle.answers.specs.Answered.{Answered, OpenedUnit, Refused, Dropped, Malformed, Unheard, Arrived}
+use Rattle.answers.proofs.Refusals.{by_check}
 use Rattle.credits.specs.Grant as Grant
 use Rattle.cells.specs.View.{Net}
 use Rattle.lines.specs.Load.{is_hello, credit_of}
@@ -45,7 +45,7 @@ use Rattle.bench.specs.Calls.{came_answer}
 use Rattle.bench.specs.Calls.{Call, Begin, Wire, Set, Aim, Output, Input, Step, Line, Steps, rows, made, apply}
 
 abbrev pub Bounded : Answered → Type 0
-Bounded (No n) = (1 ≤ n) × (n ≤ 12)
+Bounded (No n) = (1 ≤ Names.number n) × (Names.number n ≤ 12)
 Bounded Done = Unit
 Bounded (Granted g) = Grant.Granted g
 Bounded (Token v) = v < 256
@@ -76,10 +76,6 @@ twelve Whys.Narrow = (lit≤ tt, lit≤ tt)
 twelve Whys.Full = (lit≤ tt, lit≤ tt)
 twelve Whys.Empty = (lit≤ tt, lit≤ tt)
 twelve Whys.Trap = (lit≤ tt, lit≤ tt)
-
-refused_by : (rs : List Row) → (refusal rs ≡ Names.passes → ⊥) → (1 ≤ refusal rs) × (refusal rs ≤ 12)
-refused_by [] h = absurd (h refl)
-refused_by (r ∷ rs) h = by_test r.when (λ e. rw e (twelve r.no)) (λ e. rw e (refused_by rs (rw e at h)))
 
 -- Steps: the link that a circuit opens by
 
@@ -191,9 +187,9 @@ made_bounded w (Steps n xs) = tt
 pub bounded : (w : World) (c : Call) → Bounded (apply w c).answer
 unfolding apply
 bounded w c =
-    by_test (eqb (refusal (rows w c)) Names.passes)
+    by_check (checked (rows w c))
     (λ e. rw e (made_bounded w c))
-    (λ e. rw e (refused_by (rows w c) (eqb-false (refusal (rows w c)) Names.passes e)))
+    (λ k e. rw e (twelve k))
 
 -- Grants
 

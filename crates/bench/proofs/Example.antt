@@ -4,6 +4,7 @@ use mathlib.Core.Path.{refl}
 use mathlib.Core.List.{[], ◌∷◌}
 use Rattle.names.specs.declared.Slot.{Slot}
 use Rattle.answers.specs.Answered.{No, Done, Granted, Token, Idle, Moved, OpenedLink, OpenedChannel, Arrived}
+use Rattle.names.specs.declared.no.No.TheVariants.{Busy, Open, Trap}
 use Rattle.settings.specs.declared.Setting.TheVariants.{Number, Enable, Hello}
 use Rattle.ends.specs.declared.Token.TheVariants as Tokens
 use Rattle.ends.specs.declared.Wanted.TheVariants as Wanted
@@ -33,7 +34,7 @@ script =
     ∷ (Aim here 0 (Channel 1 5) 0, Done)
     ∷ (Output here 0 (Tokens.Data 7), Done)
     -- Open: it sends
-    ∷ (Aim here 0 (Channel 1 6) 0, No 6)
+    ∷ (Aim here 0 (Channel 1 6) 0, No Open)
     ∷ (Output here 0 (Tokens.Control 1), Done)
     -- a header of three bytes, 7 and END
     ∷ (Step here 8, OpenedLink 0)
@@ -42,11 +43,11 @@ script =
     ∷ (Step here 8, Moved)
     ∷ (Step here 8, Moved)
     -- Busy: the link is in a circuit
-    ∷ (Set here (Enable 0 0), No 4)
+    ∷ (Set here (Enable 0 0), No Busy)
     ∷ (Step here 8, Moved)
     ∷ (Step here 8, Idle)
     -- Busy: five tokens are on the line; then they arrive, and the line is empty
-    ∷ (Set here (Enable 0 0), No 4)
+    ∷ (Set here (Enable 0 0), No Busy)
     ∷ (Line here 0, Arrived 0)
     ∷ (Line here 0, Arrived 0)
     ∷ (Line here 0, Arrived 0)
@@ -57,7 +58,7 @@ script =
     ∷ (Step there 0, Moved)
     ∷ (Step there 0, Moved)
     -- Trap: 7 is no control token
-    ∷ (Input there 5 Wanted.Control, No 12)
+    ∷ (Input there 5 Wanted.Control, No Trap)
     ∷ (Input there 5 Wanted.Data, Token 7)
     ∷ (Input there 5 Wanted.Control, Token 1)
     -- END has closed the circuit at both boards

@@ -23,7 +23,8 @@ use Rattle.tokens.specs.declared.header.Target.{Target}
 use Rattle.tokens.specs.declared.header.Target.TheVariants.{Channel, Unit}
 use Rattle.routing.specs.Direction.{entry_of}
 use Rattle.routing.specs.Way.{way_to, Way, ThisNode, OtherNode}
-use Rattle.answers.specs.Rows.{refusal}
+use Rattle.answers.specs.Rows.{refusal, checked}
+use Rattle.answers.proofs.Refusals.{by_check}
 use Rattle.cells.specs.View.{Net}
 use Rattle.cells.specs.World.{World, hop}
 use Rattle.cells.specs.declared.port.Leg.{Leg}
@@ -164,6 +165,6 @@ pub step_frees : (w : World) (a : Slot) (p : ℕ) → took_one (apply w (Step a 
     → Closed (hop w.net a.0 p) (apply w (Step a p)).next.net a.0 p
 unfolding apply
 step_frees w a p took e =
-    by_test (eqb (refusal (rows w (Step a p))) passes)
+    by_check (checked (rows w (Step a p)))
     (λ f. rw f (by_plan w a.0 p e (rw f at took)))
-    (λ f. clash (sym (rw f at took)))
+    (λ k f. clash (sym (rw f at took)))

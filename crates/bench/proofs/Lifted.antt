@@ -1,14 +1,17 @@
 -- What a public call does that tests the state first, and then makes the call on a state that is known to be sound. Assumes nothing.
-use mathlib.Core.Path.{◌≡◌, ap, ◌∙◌}
-use mathlib.Core.Bool.{true, false}
-use mathlib.Core.List.{List, ◌∷◌}
-use lib.Dec.{eqb}
-use Rattle.laws.proofs.Order.{by_test}
-use Rattle.names.specs.No.{number, passes}
-use Rattle.names.specs.declared.no.No.TheVariants.{Unsound}
-use Rattle.answers.specs.Rows.{Row, refusal}
+use Prim.{Unit, tt}
+use mathlib.Core.Path.{◌≡◌, refl, sym, ap, ◌∙◌}
+use mathlib.Core.Bool.{true}
+use mathlib.Core.List.{List, [], ◌∷◌}
+use borrow.Author.Tests.{not-false}
+use Rattle.std.specs.Prelude.{Result, Ok, Err, IsErr, is_ok}
+use Rattle.std.specs.Result.{IsErrAnd}
+use Rattle.laws.proofs.Order.{by_test, clash}
+use Rattle.names.specs.declared.no.No.{No as Why}
+use Rattle.answers.specs.Rows.{Row, checked}
+use Rattle.answers.proofs.Refusals.{by_check, all_clear, hands_on}
 use Rattle.answers.specs.Out.{Out, out, attempt}
-use Rattle.answers.specs.Answered.{No}
+use Rattle.answers.specs.Answered.{Answered}
 use Rattle.cells.specs.View.{Net}
 use Rattle.cells.specs.World.{World}
 use Rattle.acts.specs.Acts.{with_net}
@@ -19,11 +22,22 @@ use Rattle.bench.specs.Calls.{Call, unsound, rows, made, apply}
 abbrev pub lifted : World → Out Net → Out World
 lifted w o = out o.answer (with_net w o.next)
 
+-- the test of the state has let pass
+pub found_sound : (w : World) (r : Result Unit Why) → r ≡ checked (unsound w ∷ []) → r ≡ Ok tt → sound w ≡ true
+found_sound w r e h = not-false (sound w) (all_clear (unsound w ∷ []) (sym e ∙ h)).0
+
 -- a call whose first row is Unsound, and whose others are rs
 module _ (w : World) (c : Call) (rs : List Row) (q : rows w c ≡ (unsound w ∷ rs)) where
-  pub refused_unsound : sound w ≡ false → out (No (number Unsound)) w ≡ apply w c
+  pub refused_unsound : (r : Result Unit Why) → r ≡ checked (unsound w ∷ []) → (a : Answered) (k : Why)
+      → IsErr a × IsErrAnd a (λ j. j ≡ k)
+      → r ≡ Err k
+      → out a w ≡ apply w c
   unfolding apply
-  refused_unsound e = rw (q, e)
+  refused_unsound r e a k p h =
+      by_test (sound w)
+      (λ t.
+      let ok : checked (unsound w ∷ []) ≡ Ok tt = rw t refl in clash (sym (ap (λ (y : Result Unit Why). is_ok y) (sym h ∙ e ∙ ok))))
+      (λ f. hands_on (unsound w ∷ []) w (made w c) r e a k p h ∙ rw (q, f))
 
   -- .. is on a sound state what the others say
   pub on_world : sound w ≡ true → (o : Out World) → o ≡ attempt rs w (made w c) → o ≡ apply w c
@@ -35,4 +49,4 @@ module _ (w : World) (c : Call) (rs : List Row) (q : rows w c ≡ (unsound w ∷
   on_net e done m o h =
       on_world e (lifted w o)
       (ap (lifted w) h
-      ∙ by_test (eqb (refusal rs) passes) (λ f. rw (m, f)) (λ f. rw f))
+      ∙ by_check (checked rs) (λ f. rw (m, f)) (λ k f. rw f))

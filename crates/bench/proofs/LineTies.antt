@@ -12,8 +12,8 @@ use Rattle.tokens.specs.Word.{control_word, header_word}
 use Rattle.tokens.specs.declared.header.Width.TheVariants.{One}
 use Rattle.lines.specs.Line.{line_place}
 use Rattle.lines.specs.Load.{hello_word, credit_word}
-use Rattle.answers.specs.Answered.{Answered}
-use Rattle.answers.specs.Answered.{No, Arrived}
+use Rattle.answers.specs.Answered.{Answered, No, Arrived}
+use Rattle.names.specs.declared.no.No.TheVariants.{Unsound}
 use Rattle.cells.specs.View.{Net, with_flow, with_setup, with_ring, with_issued}
 use Rattle.cells.specs.World.{World}
 use Rattle.cells.specs.Start.{start_net, start_world, none_on}
@@ -50,7 +50,7 @@ answered w = (run w (Line one 0 ∷ Line one 0 ∷ [])).answers
 
 -- of the five asked these hold, and the first step leads out of the list
 abbrev LeadsOut : World → List Bool → ℕ → Type 0
-LeadsOut w held g = (asked w ≡ held) × (answered w ≡ Arrived g ∷ No 1 ∷ [])
+LeadsOut w held g = (asked w ≡ held) × (answered w ≡ Arrived g ∷ No Unsound ∷ [])
 
 -- one board with a cable from its link A to its link B, disabled and enabled, and one thing on the line that starts at A
 abbrev joined : Net

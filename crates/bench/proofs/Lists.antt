@@ -14,8 +14,7 @@ use Rattle.names.specs.No.{number}
 use Rattle.names.specs.declared.no.No.TheVariants.{Unsound, NoSuch}
 use Rattle.names.specs.Size.{nodes}
 use Rattle.answers.specs.Out.{out}
-use Rattle.answers.specs.Answered.{Answered}
-use Rattle.answers.specs.Answered.{No, Done}
+use Rattle.answers.specs.Answered.{Answered, No, Done}
 use Rattle.cells.specs.World.{World}
 use Rattle.fresh.specs.Fresh.{start_of}
 use Rattle.fresh.specs.declared.Start.{Start}
@@ -50,32 +49,32 @@ unfolding apply
 list_done w xs = rw (eq-eqb (length xs) (length xs) refl) (ap (out Done) (left_by_steps xs w))
 
 -- "first, a results buffer of another length than the list is NoSuch, and nothing is done"
-pub length_first : (w : World) (n : ℕ) (xs : List StepRecord) → (n ≡ length xs → ⊥) → apply w (Steps n xs) ≡ out (No (number NoSuch)) w
+pub length_first : (w : World) (n : ℕ) (xs : List StepRecord) → (n ≡ length xs → ⊥) → apply w (Steps n xs) ≡ out (No NoSuch) w
 unfolding apply
 length_first w n xs other = rw (ne_eqb n (length xs) other)
 
 -- "Unsound is each record's own": on an unsound state every record's, and nothing is changed
-unsound_step : (w : World) (x : StepRecord) → sound w ≡ false → step_by w x ≡ out (No (number Unsound)) w
+unsound_step : (w : World) (x : StepRecord) → sound w ≡ false → step_by w x ≡ out (No Unsound) w
 unsound_step w x e = rw e
 
-pub unsound_results : (xs : List StepRecord) (w : World) → sound w ≡ false → results w xs ≡ map (λ (x : StepRecord). No (number Unsound)) xs
+pub unsound_results : (xs : List StepRecord) (w : World) → sound w ≡ false → results w xs ≡ map (λ (x : StepRecord). No Unsound) xs
 unsound_results [] w e = refl
 unsound_results (x ∷ xs) w e =
-    rw (unsound_step w x e) (ap (λ (rest : List Answered). No (number Unsound) ∷ rest) (unsound_results xs w e))
+    rw (unsound_step w x e) (ap (λ (rest : List Answered). No Unsound ∷ rest) (unsound_results xs w e))
 
 pub unsound_left : (xs : List StepRecord) (w : World) → sound w ≡ false → stepped w xs ≡ w
 unsound_left [] w e = refl
 unsound_left (x ∷ xs) w e = rw (unsound_step w x e) (unsound_left xs w e)
 
 -- on a state that is sound and tight no record's is
-pub results_sure : (xs : List StepRecord) (w : World) → Kept w → Each (λ (a : Answered). a ≡ No (number Unsound) → ⊥) (results w xs)
+pub results_sure : (xs : List StepRecord) (w : World) → Kept w → Each (λ (a : Answered). a ≡ No Unsound → ⊥) (results w xs)
 unfolding apply
 results_sure [] w k = tt
 results_sure (x ∷ xs) w k = (call_unsound w k (step_of x), results_sure xs (step_by w x).next (call_keeps w k (step_of x)))
 
 -- .. so of no list of any run from a start, whatever calls were made before it
 pub never_unsound_results : (s : Start) (n : ℕ) → 1 ≤ n → n ≤ nodes → (cs : List Call) (xs : List StepRecord)
-    → Each (λ (a : Answered). a ≡ No (number Unsound) → ⊥) (results (run (start_of s n) cs).last xs)
+    → Each (λ (a : Answered). a ≡ No Unsound → ⊥) (results (run (start_of s n) cs).last xs)
 never_unsound_results s n some few cs xs =
     results_sure xs (run (start_of s n) cs).last (run_keeps cs (start_of s n) (start_kept s n some few))
 

@@ -7,10 +7,10 @@ use mathlib.Core.List.{List, [], ◌∷◌, ◌++◌, map}
 use lib.ListN.{replicate}
 use Rattle.names.specs.declared.Slot.{Slot}
 use Rattle.circuits.specs.declared.Cause.TheVariants.{NoRoute, Split}
-use Rattle.answers.specs.Answered.{Answered}
 use Rattle.answers.specs.Answered.{No, Done, Granted, Idle, Moved, OpenedLink, OpenedChannel}
-use Rattle.answers.specs.Answered.{OpenedUnit, Refused, Dropped, Waiting, Arrived}
+use Rattle.answers.specs.Answered.{Answered, OpenedUnit, Refused, Dropped, Waiting, Arrived}
 use Rattle.answers.specs.Answered as Answers
+use Rattle.names.specs.declared.no.No.TheVariants.{Busy, Empty}
 use Rattle.settings.specs.declared.Setting.TheVariants.{Number, Width, Network, Enable, Hello}
 use Rattle.ends.specs.declared.Token.{Token}
 use Rattle.ends.specs.declared.Token.TheVariants.{Data, Control}
@@ -119,7 +119,7 @@ update =
     ++ ((Set lane (Number 18), Done) ∷ (Step lane 0, OpenedChannel) ∷ [])
     ++ steps 2 lane 0 Moved
     ++ inputs lane 5 (Data 6 ∷ [])
-    ++ ((Input lane 5 Wanted.Control, No 11) ∷ [])
+    ++ ((Input lane 5 Wanted.Control, No Empty) ∷ [])
 
 -- "Hub at one-byte, lane at three-byte: the lane opens, the hub's step says Refused, Split; three header tokens and the rest are Dropped."
 abbrev pub halfway : Script
@@ -175,7 +175,7 @@ booted =
     early
     ++ ((Step hub 8, OpenedLink 4) ∷ (Step hub 8, Waiting) ∷ [])
     -- Busy: the network of an enabled link
-    ++ ((Set hub (Network 4 1), No 4) ∷ [])
+    ++ ((Set hub (Network 4 1), No Busy) ∷ [])
     -- a cable between two enabled ends, one of them in use; once it is greeted the circuit goes on, and arrives whole
     ++ ((Wire hub 4 lane 5, Done) ∷ (Step hub 8, Waiting) ∷ [])
     ++ greeting hub 4 lane 5
@@ -192,7 +192,7 @@ booted =
     ++ ((Step hub 4, OpenedChannel) ∷ (Step hub 4, Moved) ∷ [])
     ++ inputs hub 6 (Control 1 ∷ [])
     -- Busy: a wired end. Disabled, the link changes its network
-    ++ ((Wire hub 4 lane 6, No 4) ∷ (Set hub (Enable 4 0), Done) ∷ (Set hub (Network 4 1), Done) ∷ [])
+    ++ ((Wire hub 4 lane 6, No Busy) ∷ (Set hub (Enable 4 0), Done) ∷ (Set hub (Network 4 1), Done) ∷ [])
 
 -- from blank there is no way out
 abbrev pub blanked : Script

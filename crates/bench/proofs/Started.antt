@@ -7,9 +7,9 @@ use Rattle.laws.proofs.All.{also, at_most}
 use Rattle.names.specs.Size.{nodes}
 use Rattle.names.specs.No.{passes}
 use Rattle.answers.specs.Answer.{number_of}
-use Rattle.answers.specs.Rows.{refusal}
 use Rattle.answers.specs.Out.{Out, out}
 use Rattle.answers.specs.Answered.{Done}
+use Rattle.answers.proofs.Refusals.{clear}
 use Rattle.cells.specs.World.{World}
 use Rattle.fresh.specs.Fresh.{leaves_on, start_of}
 use Rattle.fresh.specs.declared.Start.{Start}
@@ -22,7 +22,7 @@ module _ (w : World) (s : Start) (n : ℕ) (ok : number_of (apply w (Begin s n))
   -- the whole of all three memories
   pub started : apply w (Begin s n) ≡ out Done (start_of s n)
   unfolding apply
-  started = rw (eq-eqb (refusal (rows w (Begin s n))) passes (sym (numbered w (Begin s n)) ∙ ok))
+  started = rw (clear (rows w (Begin s n)) (sym (numbered w (Begin s n)) ∙ ok))
 
   ranged : (1 ≤ n) × (n ≤ nodes)
   ranged =

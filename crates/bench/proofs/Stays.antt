@@ -1,7 +1,7 @@
 -- A circuit stays as it was opened: while a channel-end has one, no call changes where it goes but its own Output of END or PAUSE, and
 -- a start. Whatever the settings have become, each token in between goes behind the others in the port that the circuit has taken, or
 -- straight to the channel that it was opened to. For every state and every call. Assumes nothing.
-use Prim.{tt}
+use Prim.{Unit as Nothing, tt}
 use Prim.Native.Nat.{ℕ, ◌≤◌}
 use mathlib.Core.Path.{◌≡◌, refl, sym, ap, ◌∙◌}
 use mathlib.Core.Bool.{true, false, not}
@@ -14,7 +14,9 @@ use Rattle.laws.specs.Table.{Off}
 use Rattle.laws.proofs.Order.{by_test, clash}
 use Rattle.laws.proofs.Table.{upd_same, upd_miss, place}
 use Rattle.names.specs.Size.{sink}
+use Rattle.std.specs.Prelude.{Result, is_ok}
 use Rattle.names.specs.No.{passes}
+use Rattle.names.specs.declared.no.No.{No as Why}
 use Rattle.names.specs.declared.Slot.{Slot}
 use Rattle.circuits.specs.Circuit.{circuit, peer_of, of_peer}
 use Rattle.circuits.specs.declared.Circuit.{Circuit}
@@ -25,7 +27,8 @@ use Rattle.tokens.specs.Header.{header_of, words}
 use Rattle.tokens.specs.declared.header.Target.{Target}
 use Rattle.ports.specs.Queue.{capacity}
 use Rattle.answers.specs.Answer.{number_of}
-use Rattle.answers.specs.Rows.{refusal, Passes}
+use Rattle.answers.specs.Rows.{refusal, Passes, checked}
+use Rattle.answers.proofs.Refusals.{by_check, clear}
 use Rattle.cells.specs.View.{Net, EndTables}
 use Rattle.cells.specs.World.{World, queue}
 use Rattle.acts.specs.Acts.{with_net, width_at, pushed, pushed_all, first_at, shut, hopped, tiled_to, handed, claimed_by, until_closed}
@@ -142,9 +145,9 @@ module _ (w : World) (c : Call) (ok : number_of (apply w c).answer ≡ passes) w
   done_next : (apply w c).next ≡ (made w c).next
   unfolding apply
   done_next =
-      by_test (eqb (refusal (rows w c)) passes)
+      by_check (checked (rows w c))
       (λ e. rw e)
-      (λ e. absurd (eqb-false (refusal (rows w c)) passes e (sym (numbered w c) ∙ ok)))
+      (λ k e. clash (sym (ap (λ (r : Result Nothing Why). is_ok r) (clear (rows w c) (sym (numbered w c) ∙ ok))) ∙ rw e refl))
 
 -- AN OUTPUT OF WHO HAS A CIRCUIT, that is done: the token goes as the circuit was opened, whatever width, number, destination and
 -- directions are now

@@ -14,6 +14,7 @@ use Rattle.tokens.specs.Control.{end}
 use Rattle.tokens.specs.Word.{control_word}
 use Rattle.ports.specs.Memory.{place}
 use Rattle.answers.specs.Answered.{No, Done, Granted, Moved, Arrived}
+use Rattle.names.specs.declared.no.No.TheVariants.{Unsound}
 use Rattle.cells.specs.View.{Net, with_counters, with_leg, with_user}
 use Rattle.cells.specs.World.{World}
 use Rattle.fresh.specs.Fresh.{start_of}
@@ -70,6 +71,6 @@ other = record { 0 = 1 }
 abbrev calls : List Call
 calls = Wire one 4 other 4 ∷ Set one (Hello 4) ∷ Line one 4 ∷ Line other 4 ∷ Step one 8 ∷ Step other 4 ∷ []
 
-pub unsound_at_the_end : (run begun calls).answers ≡ Done ∷ Granted 0 ∷ Arrived 64 ∷ Arrived 0 ∷ Moved ∷ No 1 ∷ []
+pub unsound_at_the_end : (run begun calls).answers ≡ Done ∷ Granted 0 ∷ Arrived 64 ∷ Arrived 0 ∷ Moved ∷ No Unsound ∷ []
 unfolding computes apply sound holds every all
 unsound_at_the_end = refl

@@ -6,9 +6,10 @@ use lib.Dec.{eqb}
 use Rattle.laws.proofs.Order.{by_test, clash}
 use Rattle.names.specs.No.{passes}
 use Rattle.names.specs.declared.Slot.{Slot}
-use Rattle.answers.specs.Rows.{refusal}
+use Rattle.answers.specs.Rows.{refusal, checked}
 use Rattle.answers.specs.Answered.{Answered}
 use Rattle.answers.specs.Answered as A
+use Rattle.answers.proofs.Refusals.{by_check}
 use Rattle.cells.specs.World.{World, far_of, Far, Nowhere, At}
 use Rattle.plans.specs.Plan.{step_plan}
 use Rattle.switch.specs.Step.{step_performed}
@@ -52,9 +53,9 @@ module _ (w : World) (n p : ℕ) where
 pub waits_change_nothing : (w : World) (a : Slot) (p : ℕ) → still (apply w (Step a p)).answer ≡ true → (apply w (Step a p)).next ≡ w
 unfolding apply
 waits_change_nothing w a p h =
-    by_test (eqb (refusal (rows w (Step a p))) passes)
+    by_check (checked (rows w (Step a p)))
     (λ e. rw e (plan_still w a.0 p (step_plan w a.0 p) (rw e at h)))
-    (λ e. rw e)
+    (λ k e. rw e)
 
 came_still : (w : World) (n l : ℕ) (f : Far) → still (came_answer (came_by w n l f)) ≡ true → left_by w n l f ≡ w
 came_still w n l Nowhere e = refl
@@ -63,6 +64,6 @@ came_still w n l (At m k) e = by_test (line_empty w n l) (λ d. rw d) (λ d. cla
 pub idle_line_changes_nothing : (w : World) (a : Slot) (l : ℕ) → still (apply w (Line a l)).answer ≡ true → (apply w (Line a l)).next ≡ w
 unfolding apply line_came line_stepped
 idle_line_changes_nothing w a l h =
-    by_test (eqb (refusal (rows w (Line a l))) passes)
+    by_check (checked (rows w (Line a l)))
     (λ e. rw e (came_still w a.0 l (far_of (w.net.links.cables a.0 l)) (rw e at h)))
-    (λ e. rw e)
+    (λ k e. rw e)

@@ -6,8 +6,7 @@ use Rattle.names.specs.declared.no.No.TheVariants.{Unsound, NoSuch}
 use Rattle.names.specs.declared.Slot.{Slot}
 use Rattle.answers.specs.Rows.{Row, refused_if}
 use Rattle.answers.specs.Out.{Out, out, attempt}
-use Rattle.answers.specs.Answered.{Answered}
-use Rattle.answers.specs.Answered.{Done}
+use Rattle.answers.specs.Answered.{Answered, Done}
 use Rattle.answers.specs.Answered as Answers
 use Rattle.cells.specs.View.{Net}
 use Rattle.cells.specs.World.{World}

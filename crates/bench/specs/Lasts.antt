@@ -4,8 +4,7 @@ use Prim.{Unit}
 use Rattle.std.specs.Prelude.{ℕ, ◌≡◌, List, [], ◌∷◌}
 use Rattle.names.specs.No.{number}
 use Rattle.names.specs.declared.no.No.TheVariants.{Unsound}
-use Rattle.answers.specs.Answered.{Answered}
-use Rattle.answers.specs.Answered.{No}
+use Rattle.answers.specs.Answered.{Answered, No}
 use Rattle.bench.specs.Calls.{Call, Begin, Wire, Set, Aim, Output, Input, Step, Line, Steps}
 
 -- a start of another number of boards than the memory has, n
@@ -22,7 +21,7 @@ OtherBoards n (Steps m xs) = ⊥
 
 -- a call that answers Unsound is such a start
 abbrev pub NeverUnsound : ℕ → Call → Answered → Type 0
-NeverUnsound n c a = a ≡ No (number Unsound) → OtherBoards n c
+NeverUnsound n c a = a ≡ No Unsound → OtherBoards n c
 
 -- P holds of every call with its answer, and there are as many answers as calls
 abbrev pub Throughout : (Call → Answered → Type 0) → List Call → List Answered → Type 0

@@ -8,7 +8,7 @@ ghost use Rattle.ports.specs.Queue.{capacity};
 use names::NodeNumber;
 use routing::way::way_to;
 use std::io;
-use tokens::control::output_no;
+use tokens::control::check_output;
 use tokens::header::{Header, Target, Width, make_header};
 use tokens::word::{closes, of_control, of_data, value};
 
@@ -68,7 +68,10 @@ fn grant(rt: &impl Print, label: &str, credit: u32, held: u32) -> io::Result<()>
 fn control(rt: &impl Print, label: &str, v: u8, to_unit: bool) -> io::Result<()> {
     say(rt, label)?;
     say(rt, " ")?;
-    say_number(rt, output_no(v, to_unit) as u32)?;
+    match check_output(v, to_unit) {
+        Ok(()) => say_number(rt, 0)?,
+        Err(no) => say_number(rt, no.number() as u32)?,
+    }
     say(rt, "\n")
 }
 

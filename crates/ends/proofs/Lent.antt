@@ -2,7 +2,6 @@
 use Prim.Native.Nat.{ℕ}
 use mathlib.Core.Path.{◌≡◌, refl, ap}
 use mathlib.Core.List.{List, [], ◌∷◌}
-use lib.Dec.{eqb}
 use Rattle.answers.proofs.Refusals.{by_check}
 use Rattle.tokens.specs.Header.{header_of, words}
 use Rattle.tokens.specs.declared.header.Target.{Target}

@@ -1,6 +1,6 @@
 -- "Output a token." (document 01, "Calls"): a plan carried out by the acts, and when it is refused.
 use Prim.{Unit, tt}
-use Rattle.std.specs.Prelude.{ℕ, ◌%◌, Bool, true, false, not, List, [], ◌∷◌, Result, Ok, Err, eqb}
+use Rattle.std.specs.Prelude.{ℕ, ◌%◌, Bool, true, false, not, List, [], ◌∷◌, Result, Ok, eqb}
 use Rattle.names.specs.No as Names
 use Rattle.names.specs.declared.no.No.{No as Why}
 use Rattle.names.specs.declared.no.No.TheVariants as Whys

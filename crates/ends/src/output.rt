@@ -175,13 +175,7 @@ fn send(
 }
 
 // Output, whole: refused by its number with nothing changed, or done.
-pub fn output(
-    st: &mut [u32],
-    mem: &mut [u16],
-    slot: Slot,
-    c: usize,
-    x: Token,
-) -> Result<Answer, No>
+pub fn output(st: &mut [u32], mem: &mut [u16], slot: Slot, c: usize, x: Token) -> Result<Answer, No>
     requires { SoundBy (world st.old mem.old) }
     ensures { out result (world st.new mem.new)
         ≡ output (world st.old mem.old) slot.0 c x }

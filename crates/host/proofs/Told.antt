@@ -7,12 +7,13 @@ use native.Mathlib.Omega.{arith}
 use lib.Dec.{eqb}
 use Rattle.laws.specs.Pick.{pick}
 use Rattle.names.specs.No.{passes}
+use Rattle.names.specs.declared.no.No.{No as Why}
+use Rattle.names.specs.declared.no.No.TheVariants as Whys
 use Rattle.circuits.specs.declared.Cause.{Cause}
 use Rattle.circuits.specs.declared.Cause.TheVariants.{Split, NoRoute}
 use Rattle.answers.specs.Answer.{number_of, case_of, answer_value, answer_number}
-use Rattle.answers.specs.Answered.{Answered}
 use Rattle.answers.specs.Answered.{No, Done, Granted, Token, Idle, Waiting, Moved, OpenedLink, OpenedChannel}
-use Rattle.answers.specs.Answered.{OpenedUnit, Refused, Dropped, Malformed, Unheard, Arrived}
+use Rattle.answers.specs.Answered.{Answered, OpenedUnit, Refused, Dropped, Malformed, Unheard, Arrived}
 use Rattle.cells.specs.World.{World, lent}
 use Rattle.cells.proofs.Whole.{whole_state}
 use Rattle.bench.specs.Calls.{Call, apply}
@@ -24,9 +25,22 @@ use Rattle.host.specs.Crossed.{Crossing, crossing, crossed}
 abbrev cause_at : ℕ → Cause
 cause_at v = pick (eqb v 0) Split NoRoute
 
+abbrev named : ℕ → Why
+named v =
+    pick (eqb v 1) Whys.Unsound
+    (pick (eqb v 2) Whys.NoSuch
+    (pick (eqb v 3) Whys.Value
+    (pick (eqb v 4) Whys.Busy
+    (pick (eqb v 5) Whys.Unaimed
+    (pick (eqb v 6) Whys.Open
+    (pick (eqb v 7) Whys.Hardware
+    (pick (eqb v 8) Whys.Privileged
+    (pick (eqb v 9) Whys.Narrow
+    (pick (eqb v 10) Whys.Full (pick (eqb v 11) Whys.Empty Whys.Trap))))))))))
+
 abbrev answer_at : ℕ → ℕ → Answered
 answer_at k v =
-    pick (eqb k 0) (No v)
+    pick (eqb k 0) (No (named v))
     (pick (eqb k 1) Done
     (pick (eqb k 2) (Granted v)
     (pick (eqb k 3) (Token v)
@@ -41,7 +55,18 @@ answer_at k v =
     (pick (eqb k 12) Malformed (pick (eqb k 13) Unheard (Arrived v))))))))))))))
 
 back : (a : Answered) → answer_at (case_of a) (answer_value a) ≡ a
-back (No n) = refl
+back (No Whys.Unsound) = refl
+back (No Whys.NoSuch) = refl
+back (No Whys.Value) = refl
+back (No Whys.Busy) = refl
+back (No Whys.Unaimed) = refl
+back (No Whys.Open) = refl
+back (No Whys.Hardware) = refl
+back (No Whys.Privileged) = refl
+back (No Whys.Narrow) = refl
+back (No Whys.Full) = refl
+back (No Whys.Empty) = refl
+back (No Whys.Trap) = refl
 back Done = refl
 back (Granted g) = refl
 back (Token v) = refl

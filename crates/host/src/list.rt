@@ -4,13 +4,10 @@ ghost use Rattle.std.specs.Prelude.{◌≡◌};
 ghost use Rattle.cells.specs.World.{lent};
 ghost use Rattle.shift.specs.Lists.{listed, list_made};
 
+use answers::{Answer, answer_number};
 use bench::StepRecord;
+use names::no::No;
 use shift::step_into;
-
-// What the call itself answers, as the number that every answer crosses as: NoSuch, and Done.
-const NO_SUCH: u64 = 2;
-
-const DONE: u64 = 0x1_0000_0000;
 
 // Each record's Step in order, its answer's number at its place of the results; results of another length than
 // the list are refused, and nothing is done. Nothing is known of the state before the first record.
@@ -25,7 +22,7 @@ pub extern "C" fn tarvelgyo_steps(
     ensures { listed result (lent st.new mem.new ls.new) results.new ≡ list_made (lent st.old mem.old ls.old) results.old list.now }
 {
     if results.len() != list.len() {
-        return NO_SUCH;
+        return answer_number(Err(No::NoSuch));
     }
     let mut sure = false;
     let mut i = 0;
@@ -34,5 +31,5 @@ pub extern "C" fn tarvelgyo_steps(
         sure = step_into(st, mem, ls, results, i, x.slot, x.port, sure);
         i = i + 1;
     }
-    DONE
+    answer_number(Ok(Answer::Done))
 }

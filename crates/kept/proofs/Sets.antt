@@ -10,9 +10,9 @@ use Rattle.laws.proofs.All.{also, either, as_is, below, equal}
 use Rattle.laws.proofs.Order.{by_test, clash}
 use Rattle.names.specs.Size.{links, directions, networks}
 use Rattle.names.specs.No.{passes}
-use Rattle.answers.specs.Rows.{Row, refusal, Passes}
+use Rattle.answers.specs.Rows.{Row, refusal, Passes, checked}
 use Rattle.answers.specs.Out.{Out, attempt}
-use Rattle.answers.proofs.Refusals.{passed}
+use Rattle.answers.proofs.Refusals.{passed, by_check, all_clear}
 use Rattle.cells.specs.World.{World}
 use Rattle.clauses.specs.Cables.{enabled}
 use Rattle.settings.specs.Set.{link_there, in_range, set_busy, set_rows, set_made, set_call}
@@ -48,7 +48,7 @@ module _ (w : World) (k : Kept w) (n : ℕ) (hn : n < w.net.nodes) where
 pub attempted : {S : Type 0} (P : S → Type 0) (rs : List Row) (s : S) (done : Out S) → P s → (Passes rs → P done.next)
     → P (attempt rs s done).next
 attempted P rs s done old new =
-    by_test (eqb (refusal rs) passes) (λ e. rw e (new ((passed rs).sure e))) (λ e. rw e old)
+    by_check (checked rs) (λ e. rw e (new (all_clear rs e))) (λ k e. rw e old)
 
 pub keep_set : (w : World) → Kept w → (n : ℕ) (x : Setting) → Kept (set_call w n x).next
 unfolding set_call

@@ -2,7 +2,6 @@
 use Prim.Native.Nat.{ℕ}
 use mathlib.Core.Path.{◌≡◌, refl, sym, ap, ◌∙◌}
 use mathlib.Core.List.{List}
-use lib.Dec.{eqb}
 use Rattle.laws.proofs.Order.{by_test}
 use Rattle.answers.proofs.Refusals.{by_check}
 use Rattle.answers.specs.Rows.{Row, checked}

@@ -7,8 +7,7 @@ use Rattle.names.specs.Number.{is_number}
 use Rattle.routing.specs.Direction.{with_entry}
 use Rattle.answers.specs.Rows.{Row, refused_if}
 use Rattle.answers.specs.Out.{Out, out, attempt}
-use Rattle.answers.specs.Answered.{Answered}
-use Rattle.answers.specs.Answered.{Done, Granted}
+use Rattle.answers.specs.Answered.{Answered, Done, Granted}
 use Rattle.cells.specs.View.{Net, whole_port, with_node, with_setup}
 use Rattle.cells.specs.World.{World, far_of, Far}
 use Rattle.cells.specs.Changes.{numbered_as, width_as, directions_as, directed_to, network_as, enabled_as}

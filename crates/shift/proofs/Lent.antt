@@ -47,7 +47,7 @@ module _ (st mem ls rs zt nem ks qs : List ℕ) (xs : List StepRecord) (r : ℕ)
       )
 
   -- "a results buffer of another length than the list is NoSuch, and nothing is done": every lent word is as it was
-  pub list_as_lent : (length rs ≡ length xs → ⊥) → (r ≡ answer_number (No (number NoSuch))) × (zt ≡ st) × (nem ≡ mem) × (ks ≡ ls) × (qs ≡ rs)
+  pub list_as_lent : (length rs ≡ length xs → ⊥) → (r ≡ answer_number (No NoSuch)) × (zt ≡ st) × (nem ≡ mem) × (ks ≡ ls) × (qs ≡ rs)
   unfolding list_made apply
   list_as_lent other =
       let d = rw (ne_eqb (length rs) (length xs) other) at e in (

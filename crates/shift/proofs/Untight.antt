@@ -14,6 +14,7 @@ use Rattle.tokens.specs.Control.{end}
 use Rattle.tokens.specs.Word.{control_word}
 use Rattle.ports.specs.Memory.{place}
 use Rattle.answers.specs.Answered as Answers
+use Rattle.names.specs.declared.no.No.TheVariants.{Unsound, NoSuch}
 use Rattle.cells.specs.View.{Net, with_counters, with_leg, with_sender, with_aim, with_sending}
 use Rattle.cells.specs.World.{World}
 use Rattle.cells.specs.Start.{start_net, start_world, none_on}
@@ -55,6 +56,6 @@ list = at 0 0 ∷ at 1 0 ∷ at 0 8 ∷ at 0 8 ∷ at 0 0 ∷ at 1 0 ∷ []
 -- the third record's Step drops END, and with it the port's circuit; channel-end 0 names a circuit from then on that is not there. A list
 -- that had asked for sound alone, once, would say Idle, Idle and NoSuch in the end
 pub unsound_in_the_middle : results untight list
-    ≡ Answers.Idle ∷ Answers.No 2 ∷ Answers.Dropped NoRoute ∷ Answers.No 1 ∷ Answers.No 1 ∷ Answers.No 1 ∷ []
+    ≡ Answers.Idle ∷ Answers.No NoSuch ∷ Answers.Dropped NoRoute ∷ Answers.No Unsound ∷ Answers.No Unsound ∷ Answers.No Unsound ∷ []
 unfolding computes sound holds every all
 unsound_in_the_middle = refl

@@ -12,6 +12,7 @@ ghost use Rattle.shift.specs.Needs.{Sure, known};
 use answers::{Answer, answer_number};
 use cells::memories::Memories;
 use names::Slot;
+use names::no::No;
 use sound::{is_sound, is_tight};
 
 // The state is sound and tight: it was at the record before, and every Step keeps it so, or it is found to be
@@ -47,7 +48,7 @@ fn step(
     slot: Slot,
     port: usize,
     sure: bool,
-) -> Answer
+) -> Result<Answer, No>
     requires { Sure sure (lent st.old mem.old ls.old) }
     ensures { out result (lent st.new mem.new ls.new) ≡ apply (lent st.old mem.old ls.old) (Step slot port) }
 {

@@ -17,10 +17,11 @@ use Rattle.tokens.specs.Header.{header_of, is_narrow}
 use Rattle.tokens.specs.declared.header.Target.{Target}
 use Rattle.tokens.specs.declared.header.Target.TheVariants.{Channel, Unit}
 use Rattle.routing.specs.Way.{way_to, Way, ThisNode, OtherNode}
-use Rattle.answers.specs.Rows.{refusal, Passes}
+use Rattle.names.specs.declared.no.No.{No as Why}
+use Rattle.answers.specs.Rows.{checked, Passes}
 use Rattle.answers.specs.Answered.{Answered}
 use Rattle.answers.specs.Answered as Answers
-use Rattle.answers.proofs.Refusals.{passed}
+use Rattle.answers.proofs.Refusals.{some_back, by_check, all_clear}
 use Rattle.cells.specs.World.{World, far_of, queue, Far, Nowhere, At}
 use Rattle.acts.specs.Acts.{width_at, number_at, first_at}
 use Rattle.lines.specs.Load.{is_token}
@@ -187,7 +188,7 @@ module _ (w : World) (k : Kept w) (g : Ghost) (o : Notes) (aims : AimsNoted w o)
   made_agrees (Line a l) p e = line_agrees w a.0 l g
   made_agrees (Steps n xs) p e = clash e
 
-  refused_agrees : (c : Call) (r : ℕ) → write o w c (Answers.No r) (books_of g) ≡ books_of g
+  refused_agrees : (c : Call) (r : Why) → write o w c (Answers.No r) (books_of g) ≡ books_of g
   refused_agrees (Begin s n) r = refl
   refused_agrees (Wire a l b j) r = refl
   refused_agrees (Set a x) r = refl
@@ -202,6 +203,6 @@ module _ (w : World) (k : Kept w) (g : Ghost) (o : Notes) (aims : AimsNoted w o)
       → write o w c (apply w c).answer (books_of g) ≡ books_of (notes (events_of w c) g)
   unfolding apply
   call_agrees c l e =
-      by_test (done w c)
-      (λ t. rw t (made_agrees c ((passed (rows w c)).sure t) (is_event w c l t e)))
-      (λ t. rw t (refused_agrees c (refusal (rows w c))))
+      by_check (checked (rows w c))
+      (λ t. rw t (made_agrees c (all_clear (rows w c) t) (is_event w c l (rw t refl) e)))
+      (λ j t. rw (t, some_back j) (refused_agrees c j))

@@ -1,7 +1,8 @@
 -- WHAT CALLS ANSWER, on every state of every run: a Step answers Refused, Split exactly when it reads a whole header of the other width;
 -- and no Input answers PAUSE. Assumes nothing.
+use Prim.{Unit as Nothing}
 use Prim.Native.Nat.{ℕ, ◌/◌, ◌%◌, ◌≤◌, ◌<◌}
-use mathlib.Core.Path.{◌≡◌, refl, sym, ◌∙◌}
+use mathlib.Core.Path.{◌≡◌, refl, sym, ap, ◌∙◌}
 use mathlib.Core.Bool.{true, false, not}
 use mathlib.Core.List.{List}
 use native.Mathlib.Omega.{arith}
@@ -17,9 +18,11 @@ use Rattle.circuits.specs.declared.Cause.TheVariants.{Split}
 use Rattle.tokens.specs.Control.{pause}
 use Rattle.tokens.specs.Word.{closes, control_word, value_of, is_control}
 use Rattle.tokens.specs.Header.{header_of, is_narrow}
-use Rattle.answers.specs.Answered.{Answered}
-use Rattle.answers.specs.Answered.{Token, Refused}
-use Rattle.answers.proofs.Refusals.{passed}
+use Rattle.std.specs.Prelude.{Result, is_ok}
+use Rattle.names.specs.declared.no.No.{No as Why}
+use Rattle.answers.specs.Rows.{checked}
+use Rattle.answers.specs.Answered.{Answered, Token, Refused}
+use Rattle.answers.proofs.Refusals.{by_check, all_clear}
 use Rattle.cells.specs.World.{World}
 use Rattle.fresh.specs.Fresh.{start_of}
 use Rattle.fresh.specs.declared.Start.{Start}
@@ -104,12 +107,12 @@ pub step_splits : (w : World) → Kept w → (a : Slot) (p : ℕ)
     × (misread w a.0 p ≡ true → (apply w (Step a p)).answer ≡ Refused Split)
 unfolding apply
 step_splits w k a p =
-    by_test (done w (Step a p))
+    by_check (checked (rows w (Step a p)))
     (λ t.
-    let there = step_there w a.0 p ((passed (rows w (Step a p))).sure t).1 in
+    let there = step_there w a.0 p (all_clear (rows w (Step a p)) t).1 in
     rw t (found_answers w a.0 p there.0 there.1 (step_found w k a.0 p there.0 there.1)))
-    (λ t. rw t (neither w a.0 p (λ z. never (cc)) (by_test (port_at w.net a.0 p)
-    (λ u. clash (rw ((kept_sound w k).0, u) at t))
+    (λ j t. rw t (neither w a.0 p (λ z. never (cc)) (by_test (port_at w.net a.0 p)
+    (λ u. clash (ap (λ (r : Result Nothing Why). is_ok r) (rw ((kept_sound w k).0, u) at t)))
     (λ u. rw u))))
 
 -- PAUSE
@@ -130,15 +133,15 @@ module _ (w : World) (k : Kept w) (n e : ℕ) (hn : n < w.net.nodes) (he : e < e
 pub input_answers : (w : World) → Kept w → (a : Slot) (c : ℕ) → (apply w (Input a c Control)).answer ≡ Token pause → ⊥
 unfolding apply
 input_answers w k a c =
-    by_test (done w (Input a c Control))
+    by_check (checked (rows w (Input a c Control)))
     (λ t.
-    let (ok, (some, (wanted, rest))) = ((passed (rows w (Input a c Control))).sure t).1 in
+    let (ok, (some, (wanted, rest))) = (all_clear (rows w (Input a c Control)) t).1 in
     let there = (also (below a.0 w.net.nodes) (below c ends)).sure (not-false _ ok) in
     let b = w.net.ends.buffers a.0 c in
     let held = eqb-false b.held 0 some in
     let legal = held_legal w k a.0 c there.0 there.1 0 (omega arith) in
     rw t (λ e. not_pause (first_held b) legal.0 legal.1 (not-false _ wanted) (cc)))
-    (λ t. rw t (λ e. never (cc)))
+    (λ j t. rw t (λ e. never (cc)))
 
 -- of every state of every run
 module _ (s : Start) (n : ℕ) (some : 1 ≤ n) (few : n ≤ nodes) (cs : List Call) where

@@ -9,7 +9,7 @@ use native.Mathlib.Omega.{arith}
 use lib.Arith.{digits_mod}
 use lib.Dec.{eqb, ltb}
 use lib.ListN.{take}
-use borrow.Author.Tests.{eqb-false, lt-ltb, not-false}
+use borrow.Author.Tests.{eqb-true, eqb-false, lt-ltb, not-false}
 use Rattle.laws.specs.Pick.{pick}
 use Rattle.laws.specs.Table as Two
 use Rattle.laws.proofs.All.{also, below}
@@ -25,8 +25,8 @@ use Rattle.tokens.specs.Control.{end}
 use Rattle.tokens.specs.Word.{closes, control_word}
 use Rattle.tokens.specs.Header.{Carried, header_of, is_narrow}
 use Rattle.tokens.specs.declared.header.Target.{Target}
-use Rattle.answers.specs.Rows.{refusal, Passes}
-use Rattle.answers.proofs.Refusals.{passed}
+use Rattle.answers.specs.Rows.{checked, refusal, Passes}
+use Rattle.answers.proofs.Refusals.{some_back, by_check, clear, all_clear}
 use Rattle.lines.specs.Load.{is_hello, credit_of, is_token, tokens_of}
 use Rattle.cells.specs.View as Cells
 use Rattle.cells.specs.World.{World, far_of, queue, Far, Nowhere, At}
@@ -369,7 +369,7 @@ events_of w c = pick (done w c) (made_events w c) []
 -- new books are opened exactly by a start that is not refused
 pub anew_done : (w : World) (c : Call) → anew w c ≡ (is_start c && done w c)
 unfolding apply
-anew_done w (Begin s n) = by_test (done w (Begin s n)) (λ t. rw t) (λ t. rw t)
+anew_done w (Begin s n) = by_check (checked (rows w (Begin s n))) (λ t. rw t) (λ j t. rw (t, some_back j))
 anew_done w (Wire a l b j) = refl
 anew_done w (Set a x) = refl
 anew_done w (Aim a c g v) = refl
@@ -393,7 +393,7 @@ unfolding apply
 anew_case P h w c e = go c (sym (anew_done w c) ∙ e)
   where
     go : (c : Call) → (is_start c && done w c) ≡ true → P (apply w c).next
-    go (Begin s n) f = rw f (h s n)
+    go (Begin s n) f = rw (clear (rows w (Begin s n)) (eqb-true (refusal (rows w (Begin s n))) passes f)) (h s n)
     go (Wire a l b j) f = clash (sym f)
     go (Set a x) f = clash (sym f)
     go (Aim a c g v) f = clash (sym f)
@@ -407,9 +407,9 @@ pub call_leads : (w : World) → Kept w → (c : Call) → is_list c ≡ false �
     → Leads is_link (events_of w c) (moving w) (moving (apply w c).next)
 unfolding apply
 call_leads w k c l e =
-    by_test (done w c)
-    (λ t. rw t (made_leads w k c ((passed (rows w c)).sure t) (is_event w c l t e)))
-    (λ t. rw t (leads_none (moving w)))
+    by_check (checked (rows w c))
+    (λ t. rw t (made_leads w k c (all_clear (rows w c) t) (is_event w c l (rw t refl) e)))
+    (λ j t. rw (t, some_back j) (leads_none (moving w)))
 
 either : {A : Type 0} (b : Bool) (x : A) → pick b x x ≡ x
 either true x = refl

@@ -14,8 +14,7 @@ use Rattle.names.specs.Size.{nodes}
 use Rattle.names.specs.No.{number}
 use Rattle.names.specs.declared.no.No.TheVariants.{Unsound}
 use Rattle.answers.specs.Out.{Out, out}
-use Rattle.answers.specs.Answered.{Answered}
-use Rattle.answers.specs.Answered.{No, Idle}
+use Rattle.answers.specs.Answered.{Answered, No, Idle}
 use Rattle.cells.specs.World.{World}
 use Rattle.fresh.specs.Fresh.{start_of}
 use Rattle.fresh.specs.declared.Start.{Start}
@@ -82,7 +81,7 @@ module _ (makes : Call → Bool) (say : Answered) where
       abbrev observer : Observer is_link machine
       observer =
           record {
-            Answered = Answered;
+            Answer = Answered;
             answer = λ w c. (lame w c.call).answer;
             write = λ o w c. write o w c.call;
             jot = λ c. jot c.call;
@@ -118,10 +117,10 @@ abbrev none : Call → Bool
 none c = false
 
 module _ (x : Start) (n : ℕ) (some : 1 ≤ n) (few : n ≤ nodes) where
-  pub refuses_all : (cs : List Call) → let s = seen_of none (No (number Unsound)) x n cs in Demand3 s.books s.misread
-  refuses_all = let_by none (No (number Unsound)) x n some few unwritten unnoted
+  pub refuses_all : (cs : List Call) → let s = seen_of none (No Unsound) x n cs in Demand3 s.books s.misread
+  refuses_all = let_by none (No Unsound) x n some few unwritten unnoted
     where
-      unwritten : (o : Notes) (w : World) (c : Call) (k : Books) → none c ≡ false → write o w c (No (number Unsound)) k ≡ k
+      unwritten : (o : Notes) (w : World) (c : Call) (k : Books) → none c ≡ false → write o w c (No Unsound) k ≡ k
       unwritten o w (Begin s m) k e = refl
       unwritten o w (Wire a l b j) k e = refl
       unwritten o w (Set a x) k e = refl
@@ -132,7 +131,7 @@ module _ (x : Start) (n : ℕ) (some : 1 ≤ n) (few : n ≤ nodes) where
       unwritten o w (Line a l) k e = refl
       unwritten o w (Steps m xs) k e = refl
 
-      unnoted : (c : Call) (o : Notes) → none c ≡ false → jot c (No (number Unsound)) o ≡ o
+      unnoted : (c : Call) (o : Notes) → none c ≡ false → jot c (No Unsound) o ≡ o
       unnoted (Begin s m) o e = refl
       unnoted (Wire a l b j) o e = refl
       unnoted (Set a x) o e = refl

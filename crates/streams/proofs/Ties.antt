@@ -9,9 +9,10 @@ use Rattle.laws.specs.All.{Each}
 use Rattle.laws.proofs.Order.{by_test, never}
 use Rattle.names.specs.Size.{ends}
 use Rattle.circuits.specs.declared.Peer.TheVariants as Peers
-use Rattle.answers.specs.Rows.{refusal}
+use Rattle.names.specs.declared.no.No.{No as Why}
+use Rattle.answers.specs.Rows.{checked}
 use Rattle.answers.specs.Answered as Answers
-use Rattle.answers.proofs.Refusals.{passed}
+use Rattle.answers.proofs.Refusals.{passed, some_back, by_check}
 use Rattle.cells.specs.World.{World}
 use Rattle.fresh.specs.Fresh.{start_of}
 use Rattle.fresh.specs.declared.Start.{Start}
@@ -65,7 +66,7 @@ tied_anew = anew_case (λ z. Tied z new_ghost no_notes) tied_start
 
 -- EVERY OTHER CALL
 module _ (w : World) (k : Kept w) (g : Ghost) (iv : Inv is_link (moving w) g) (o : Notes) (t : Tied w g o) where
-  refused_jots : (c : Call) (r : ℕ) → jot c (Answers.No r) o ≡ o
+  refused_jots : (c : Call) (r : Why) → jot c (Answers.No r) o ≡ o
   refused_jots (Begin s n) r = refl
   refused_jots (Wire a l b j) r = refl
   refused_jots (Set a x) r = refl
@@ -106,9 +107,9 @@ module _ (w : World) (k : Kept w) (g : Ghost) (iv : Inv is_link (moving w) g) (o
   tied_call c l e =
       let boards = call_boards w c in
       let ok = (call_leads w k c l e).ok in
-      by_test (done w c)
-      (λ d. rw d (made_ties c d (is_event w c l d e) (rw d at ok) (rw d at boards)))
-      (λ d. rw (d, refused_jots c (refusal (rows w c))) t)
+      by_check (checked (rows w c))
+      (λ d. rw d (made_ties c (rw d refl) (is_event w c l (rw d refl) e) (rw d at ok) (rw d at boards)))
+      (λ j d. rw (d, some_back j, refused_jots c j) t)
 
 -- WHAT IS PROMISED
 -- cells that follow each other in streams whose tokens are marked are intact

@@ -8,13 +8,11 @@ use Rattle.laws.specs.Pick.{pick}
 use Rattle.laws.proofs.All.{also, below}
 use Rattle.laws.proofs.Order.{by_test}
 use Rattle.names.specs.Size.{ports}
-use Rattle.names.specs.No.{number}
 use Rattle.names.specs.declared.no.No.TheVariants.{NoSuch}
 use Rattle.circuits.specs.declared.Hop.{Hop}
 use Rattle.circuits.specs.declared.Hop.TheVariants as Hops
 use Rattle.answers.specs.Out.{out}
-use Rattle.answers.specs.Answered.{Answered}
-use Rattle.answers.specs.Answered.{No, Moved, Malformed, Unheard}
+use Rattle.answers.specs.Answered.{Answered, No, Moved, Malformed, Unheard}
 use Rattle.cells.specs.View.{Net}
 use Rattle.cells.specs.World.{World, hop}
 use Rattle.tokens.specs.Word.{closes}
@@ -42,7 +40,7 @@ plan_lent w ls n p = ap (pick (eqb (w.net.ports.counters n p).held 0) Idle) (at_
     at_hop (Hops.Dropped x) = refl
 
 module _ (w : World) (n p : ℕ) where
-  pub not_there : port_at w.net n p ≡ false → out (No (number NoSuch)) w ≡ step w n p
+  pub not_there : port_at w.net n p ≡ false → out (No NoSuch) w ≡ step w n p
   unfolding step
   not_there e = rw e
 

@@ -1,5 +1,5 @@
 // A token that the control unit hears.
-ghost use Rattle.std.specs.Prelude.{◌≡◌};
+ghost use Rattle.std.specs.Prelude.{◌≡◌, Ok};
 ghost use Rattle.answers.specs.Out.{out};
 ghost use Rattle.cells.specs.World.{lent};
 ghost use Rattle.messages.specs.Needs.{Ready};
@@ -17,7 +17,7 @@ use tokens::word::closes;
 // "To the control unit: Moved", or what becomes of a message at its end, the hop being closed first.
 pub fn hear(st: &mut [u32], mem: &mut [u16], ls: &mut [u16], slot: Slot, p: usize) -> Answer
     requires { Takes (lent st.old mem.old ls.old) slot.0 p 1 × Ready (lent st.old mem.old ls.old) slot.0 }
-    ensures { out result (lent st.new mem.new ls.new)
+    ensures { out (Ok result) (lent st.new mem.new ls.new)
         ≡ hears (lent st.old mem.old ls.old) slot.0 p }
 {
     let word = take(st, mem, ls, slot, p);

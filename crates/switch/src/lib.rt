@@ -16,7 +16,7 @@ use crate::perform::perform;
 use answers::Answer;
 use cells::node;
 use names::Slot;
-use names::no::NO_SUCH;
+use names::no::No;
 use names::size::PORTS;
 use plans::plan_of;
 
@@ -28,14 +28,20 @@ fn port_at(st: &[u32], slot: Slot, p: usize) -> bool
 }
 
 // Step, whole: refused by its number with nothing changed, or what its plan does.
-pub fn step(st: &mut [u32], mem: &mut [u16], ls: &mut [u16], slot: Slot, p: usize) -> Answer
+pub fn step(
+    st: &mut [u32],
+    mem: &mut [u16],
+    ls: &mut [u16],
+    slot: Slot,
+    p: usize,
+) -> Result<Answer, No>
     requires { sound (lent st.old mem.old ls.old) ≡ true }
     ensures { out result (lent st.new mem.new ls.new)
         ≡ step (lent st.old mem.old ls.old) slot.0 p }
 {
     if !port_at(st, slot, p) {
-        return Answer::No(NO_SUCH);
+        return Err(No::NoSuch);
     }
     let plan = plan_of(st, mem, slot, p);
-    perform(st, mem, ls, slot, p, plan)
+    Ok(perform(st, mem, ls, slot, p, plan))
 }

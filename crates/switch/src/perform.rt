@@ -1,5 +1,5 @@
 // A plan carried out, and what the Step answers.
-ghost use Rattle.std.specs.Prelude.{◌≡◌, ◌<◌};
+ghost use Rattle.std.specs.Prelude.{◌≡◌, ◌<◌, Ok};
 ghost use Rattle.names.specs.Size.{ports};
 ghost use Rattle.answers.specs.Out.{out};
 ghost use Rattle.cells.specs.View.{view};
@@ -26,7 +26,7 @@ pub fn perform(
     plan: Plan,
 ) -> Answer
     requires { (slot.0 < (view st.old).nodes) × (p < ports) × StepPossible (lent st.old mem.old ls.old) slot.0 p plan }
-    ensures { out result (lent st.new mem.new ls.new)
+    ensures { out (Ok result) (lent st.new mem.new ls.new)
         ≡ step_performed (lent st.old mem.old ls.old) slot.0 p plan }
 {
     match plan {

@@ -6,19 +6,19 @@ use Rattle.cells.specs.View.{view}
 use Rattle.cells.specs.World.{lent}
 use Rattle.ends.specs.Aim.{aim_rows, aim_made, aim}
 use Rattle.bench.specs.Calls.{Aim}
-use Rattle.bench.proofs.Lifted.{refused_unsound, on_net}
+use Rattle.bench.proofs.Lifted.{found_sound, refused_unsound, on_net}
 use Rattle.bench.proofs.aim.Goals as goal
 
-pub returns-then-not-is_sound : goal.returns-then-not-is_sound
-returns-then-not-is_sound c =
+pub returns-in_err-check_sound : goal.returns-in_err-check_sound
+returns-in_err-check_sound c =
     let a = c.args in
-    refused_unsound (lent a.st.now a.mem.now a.ls.now) (Aim a.slot a.c a.g a.network) (aim_rows (view a.st.now) a.slot.0 a.c a.g a.network) refl
-    (sym c.is_sound.ensures ∙ c.if-not-is_sound.true)
+    refused_unsound (lent a.st.now a.mem.now a.ls.now) (Aim a.slot a.c a.g a.network) (aim_rows (view a.st.now) a.slot.0 a.c a.g a.network) refl _ c.check_sound.ensures _ _ c.from_residual.ensures
+    c.in_err-check_sound.was
 
 pub returns : goal.returns
 unfolding aim
 returns c =
     let a = c.args in
     on_net (lent a.st.now a.mem.now a.ls.now) (Aim a.slot a.c a.g a.network) (aim_rows (view a.st.now) a.slot.0 a.c a.g a.network) refl
-    (sym c.is_sound.ensures ∙ c.if-not-is_sound.false)
+    (found_sound (lent a.st.now a.mem.now a.ls.now) _ c.check_sound.ensures c.in_ok-check_sound.was)
     (out Done (aim_made (view a.st.now) a.slot.0 a.c a.g a.network)) refl _ c.aim.ensures

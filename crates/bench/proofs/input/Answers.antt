@@ -6,19 +6,19 @@ use Rattle.cells.specs.View.{view}
 use Rattle.cells.specs.World.{lent}
 use Rattle.ends.specs.Input.{input_rows, input_value, input_made, input}
 use Rattle.bench.specs.Calls.{Input}
-use Rattle.bench.proofs.Lifted.{refused_unsound, on_net}
+use Rattle.bench.proofs.Lifted.{found_sound, refused_unsound, on_net}
 use Rattle.bench.proofs.input.Goals as goal
 
-pub returns-then-not-is_sound : goal.returns-then-not-is_sound
-returns-then-not-is_sound c =
+pub returns-in_err-check_sound : goal.returns-in_err-check_sound
+returns-in_err-check_sound c =
     let a = c.args in
-    refused_unsound (lent a.st.now a.mem.now a.ls.now) (Input a.slot a.c a.wanted) (input_rows (view a.st.now) a.slot.0 a.c a.wanted) refl
-    (sym c.is_sound.ensures ∙ c.if-not-is_sound.true)
+    refused_unsound (lent a.st.now a.mem.now a.ls.now) (Input a.slot a.c a.wanted) (input_rows (view a.st.now) a.slot.0 a.c a.wanted) refl _ c.check_sound.ensures _ _ c.from_residual.ensures
+    c.in_err-check_sound.was
 
 pub returns : goal.returns
 unfolding input
 returns c =
     let a = c.args in
     on_net (lent a.st.now a.mem.now a.ls.now) (Input a.slot a.c a.wanted) (input_rows (view a.st.now) a.slot.0 a.c a.wanted) refl
-    (sym c.is_sound.ensures ∙ c.if-not-is_sound.false)
+    (found_sound (lent a.st.now a.mem.now a.ls.now) _ c.check_sound.ensures c.in_ok-check_sound.was)
     (out (Token (input_value (view a.st.now) a.slot.0 a.c)) (input_made (view a.st.now) a.slot.0 a.c)) refl _ c.input.ensures

@@ -4,7 +4,7 @@ use Rattle.fresh.proofs.Passed.{fitting, start_refuses, start_goes_on}
 use Rattle.fresh.proofs.begin.Goals as goal
 
 pub returns-in_err-check_start : goal.returns-in_err-check_start
-returns-in_err-check_start c =  start_refuses _ _ _ c.check_start.ensures _ _ _ c.from_residual.ensures c.in_err-check_start.was
+returns-in_err-check_start c = start_refuses _ _ _ c.check_start.ensures _ _ _ c.from_residual.ensures c.in_err-check_start.was
 
 pub start_state-requires : goal.start_state-requires
 start_state-requires c =

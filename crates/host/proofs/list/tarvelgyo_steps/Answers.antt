@@ -8,7 +8,8 @@ use Rattle.host.proofs.list.tarvelgyo_steps.Goals as goal
 
 pub returns-then-results-list : goal.returns-then-results-list
 returns-then-results-list c =
-    let a = c.args in refused a.list.now a.st.now a.mem.now a.ls.now a.results.now c.if-results-list.true
+    let a = c.args in
+    rw c.answer_number.ensures (refused a.list.now a.st.now a.mem.now a.ls.now a.results.now c.if-results-list.true)
 
 pub loop-i-preserved : goal.loop-i-preserved
 loop-i-preserved c =
@@ -44,4 +45,4 @@ returns c =
       ls_len = omega arith;
       results_len = omega arith;
     } in
-    done_all a.list.now a.st.now a.mem.now a.ls.now a.results.now t (omega arith) (omega arith)
+    rw c.answer_number-2.ensures (done_all a.list.now a.st.now a.mem.now a.ls.now a.results.now t (omega arith) (omega arith))
