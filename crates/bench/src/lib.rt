@@ -11,6 +11,7 @@ ghost use Rattle.fresh.specs.declared.Start.TheVariants.{Fresh, Blank};
 ghost use Rattle.bench.specs.Calls.{unsound, apply, Begin, Wire, Set, Aim, Output, Input, Step, Line};
 
 use answers::Answer;
+use cells::memories::Memories;
 use ends::aim::Goal;
 use ends::{Token, Wanted};
 use fresh::{Start, begin};
@@ -34,7 +35,11 @@ pub struct StepRecord {
 fn check_sound(st: &[u32], mem: &[u16], ls: &[u16]) -> Result<(), No>
     ensures { result ≡ checked (unsound (lent st.now mem.now ls.now) ∷ []) }
 {
-    if !is_sound(st, mem, ls) {
+    if !is_sound(&Memories {
+        state: st,
+        tokens: mem,
+        lines: ls,
+    }) {
         return Err(No::Unsound);
     }
     Ok(())
