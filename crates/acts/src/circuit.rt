@@ -5,9 +5,11 @@ ghost use Rattle.cells.specs.View.{view};
 ghost use Rattle.acts.specs.Acts.{leg_of, hopped, network_left, shut, linked_to, tiled_to, claimed_by, channel_claimed};
 ghost use Rattle.acts.specs.Needs.{Door};
 
-use cells::port::Leg;
+use cells::end::End;
+use cells::port::{Leg, Port};
+use cells::record::Record;
 use cells::tile::Tile;
-use cells::{end, link, port, tile};
+use cells::{end, link, port};
 use circuits::{Hop, Peer, of_hop, of_peer, tile_of};
 use names::Slot;
 use names::size::SINK;
@@ -34,7 +36,7 @@ pub fn set_hop(st: &mut [u32], slot: Slot, p: usize, h: Hop)
 fn network_left(st: &[u32], slot: Slot, p: usize) -> u32
     ensures { result ≡ network_left (view st.now) slot.0 p }
 {
-    let k = port::at(st, slot, p);
+    let k = Port::at(st, slot, p);
     if k.counters.held == 0 {
         return 0;
     }
@@ -64,14 +66,14 @@ pub fn set_tile_user(st: &mut [u32], slot: Slot, t: usize, x: Peer)
     requires { (slot.0 < (view st.old).nodes) × (t < tile_links) }
     ensures { view st.new ≡ tiled_to (view st.old) slot.0 t x }
 {
-    tile::put(st, slot, t, Tile { user: of_peer(x) });
+    Tile::put(st, slot, t, Tile { user: of_peer(x) });
 }
 
 // The channel is claimed: the sink never is.
 pub fn channel_claimed(st: &[u32], slot: Slot, c: usize) -> bool
     ensures { result ≡ channel_claimed (view st.now) slot.0 c }
 {
-    let k = end::at(st, slot, c);
+    let k = End::at(st, slot, c);
     !(c == SINK as usize) & !(k.claim.kind == 0)
 }
 

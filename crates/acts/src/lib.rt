@@ -12,8 +12,11 @@ ghost use Rattle.acts.specs.Acts.{width_at, number_at, pushed, pushed_all, word_
 ghost use Rattle.acts.specs.Acts.{networked, sent_by, sends_to, until_closed, channel_full, buffer_after, handed};
 ghost use Rattle.acts.specs.Needs.{NumberFits, Room, Holds, Keeps, Given};
 
-use cells::end::Buffer;
-use cells::{end, node, port};
+use cells::end::{Buffer, End};
+use cells::node::Node;
+use cells::port::Port;
+use cells::record::Record;
+use cells::{end, port};
 use circuits::{Peer, of_peer};
 use names::size::{END_BUFFER, SINK};
 use names::{NodeNumber, Slot};
@@ -28,7 +31,7 @@ const BUFFER: u32 = END_BUFFER as u32;
 pub fn width_at(st: &[u32], slot: Slot) -> Width
     ensures { result ≡ width_at (view st.now) slot.0 }
 {
-    let k = node::at(st, slot);
+    let k = Node::at(st, slot, 0);
     if k.width == 1 {
         return Width::One;
     }
@@ -40,7 +43,7 @@ pub fn number_at(st: &[u32], slot: Slot) -> NodeNumber
     requires { NumberFits (view st.now) slot.0 }
     ensures { result ≡ number_at (view st.now) slot.0 }
 {
-    let k = node::at(st, slot);
+    let k = Node::at(st, slot, 0);
     NodeNumber(k.number as u16)
 }
 
@@ -50,7 +53,7 @@ pub fn push(st: &mut [u32], mem: &mut [u16], slot: Slot, p: usize, word: u16)
     requires { Room (world st.old mem.old) slot.0 p 1 }
     ensures { world st.new mem.new ≡ pushed (world st.old mem.old) slot.0 p word }
 {
-    let k = port::at(st, slot, p);
+    let k = Port::at(st, slot, p);
     let after = put_at(k.counters, mem, slot, p, word);
     port::put_counters(st, slot, p, after);
 }
@@ -78,7 +81,7 @@ pub fn word_at(st: &[u32], mem: &[u16], slot: Slot, p: usize, i: u32) -> u16
     requires { Holds (world st.now mem.now) slot.0 p (i + 1) }
     ensures { result ≡ word_at (world st.now mem.now) slot.0 p i }
 {
-    let k = port::at(st, slot, p);
+    let k = Port::at(st, slot, p);
     Ports::word(k.counters, mem, slot, p, i)
 }
 
@@ -89,7 +92,7 @@ pub fn pop(st: &mut [u32], mem: &mut [u16], slot: Slot, p: usize) -> u16
     ensures { (result ≡ first_at (world st.old mem.old) slot.0 p)
         × (world st.new mem.new ≡ popped (world st.old mem.old) slot.0 p) }
 {
-    let k = port::at(st, slot, p);
+    let k = Port::at(st, slot, p);
     let taken = take_at(k.counters, mem, slot, p);
     port::put_counters(st, slot, p, taken.counters);
     taken.token
@@ -109,7 +112,7 @@ pub fn still(word: u16, x: Peer) -> Peer
 pub fn channel_full(st: &[u32], slot: Slot, c: usize, word: u16) -> bool
     ensures { result ≡ channel_full (view st.now) slot.0 c word }
 {
-    let k = end::at(st, slot, c);
+    let k = End::at(st, slot, c);
     !(c == SINK as usize) & ((BUFFER <= k.buffer.held) & !is_pause(word))
 }
 
@@ -138,7 +141,7 @@ pub fn give(st: &mut [u32], slot: Slot, c: usize, word: u16)
     if c == SINK as usize {
         return;
     }
-    let k = end::at(st, slot, c);
+    let k = End::at(st, slot, c);
     let after = keep(k.buffer, word);
     end::put_buffer(st, slot, c, after);
 }

@@ -1,23 +1,22 @@
 -- The tables of the state after the words of one record changed, once for every kind. Assumes nothing.
-use Prim.Native.Nat.{ℕ, ◌+◌, ◌*◌, ◌-◌, ◌/◌, ◌≤◌, ◌<◌}
+use Prim.Native.Nat.{ℕ, ◌+◌, ◌*◌, ◌/◌, ◌≤◌, ◌<◌}
 use mathlib.Core.Path.{◌≡◌, refl, sym, ap, ◌∙◌, fun_ext}
-use mathlib.Core.Logic.{◌⊎◌, inl, inr, ⊎_elim}
+use mathlib.Core.Logic.{inl, inr, ⊎_elim}
 use mathlib.Core.List.{List, []}
-use mathlib.Core.Bool.{Bool, true, false}
+use mathlib.Core.Bool.{true}
 use native.Mathlib.Decide.{ℕ_discrete}
 use native.Mathlib.Omega.{arith}
-use lib.Dec.{eqb, ltb}
-use lib.ListN.{length}
-use borrow.Author.Tests.{eq-eqb, lt-ltb}
-use borrow.Rule.Slice.PartMut.{mid_of}
-use Rattle.laws.specs.Pick.{pick}
+use lib.Dec.{ltb}
+use lib.ListN.{length, drop}
+use borrow.Author.Tests.{lt-ltb}
 use Rattle.laws.specs.Row.{row, Apart, Same}
 use Rattle.laws.specs.Table.{upd, Off}
 use Rattle.laws.proofs.All.{both, below}
 use Rattle.laws.proofs.Order.{by_test, order, next}
-use Rattle.laws.proofs.Row.{row_long, row_kept}
+use Rattle.laws.proofs.Row.{row_long, row_kept, rest_kept}
 use Rattle.laws.proofs.Table.{place, upd_hit, upd_miss}
-use Rattle.cells.specs.Layout.{stride, Within, begins, nodes_in, inside, words_of, table, whole}
+use Rattle.cells.specs.Layout.{stride, Within, begins, nodes_in, inside, words_of}
+use Rattle.cells.specs.Record.{Clear, Rewritten}
 use Rattle.cells.specs.declared.layout.Kind.{Kind}
 
 pub is_inside : (k : Kind) (ws : List ℕ) (n i : ℕ) → inside k ws n i ≡ true → (n < nodes_in ws) × (i < k.many)
@@ -35,28 +34,14 @@ module _ (k : Kind) (within : Within k) where
   in_state ws n i h g = omega (arith, in_node n i g)
 
   -- the words of a record are as many as it has, or none
-  pub words_whole : (ws : List ℕ) (n i : ℕ) → whole k.size (words_of k ws n i) ≡ words_of k ws n i
-  words_whole ws n i =
+  pub words_missing : (ws : List ℕ) (n i : ℕ) → (length (words_of k ws n i) ≡ k.size → ⊥) → words_of k ws n i ≡ []
+  words_missing ws n i short =
       by_test (inside k ws n i)
       (λ e.
       let z = is_inside k ws n i e in
       let l = row_long k.size (begins k n i) ws (in_state ws n i z.0 z.1) in
-      rw (e, eq-eqb (length (row k.size (begins k n i) ws)) k.size l))
-      (λ e. rw e (same_pick (eqb 0 k.size)))
-    where
-      same_pick : (b : Bool) → pick {A = List ℕ} b [] [] ≡ []
-      same_pick true = refl
-      same_pick false = refl
-
-  -- the part from a record's begin to its end is its words
-  pub part_words : (ws : List ℕ) (n i a e : ℕ) → n < nodes_in ws → i < k.many → a ≡ begins k n i → e ≡ a + k.size
-      → mid_of a (e - a) ws ≡ words_of k ws n i
-  part_words ws n i a e h g ha he =
-      let sized : e - a ≡ k.size = omega arith in rw (inside_is k ws n i h g, sized, ha)
-
--- two kinds whose records do not meet within a node
-abbrev pub Clear : Kind → Kind → Type 0
-Clear k l = (k.from + k.many * k.size ≤ l.from) ⊎ (l.from + l.many * l.size ≤ k.from)
+      absurd (short (rw e l)))
+      (λ e. rw e)
 
 module _ (k l : Kind) (wk : Within k) (wl : Within l) (n i m j : ℕ) (hi : i < k.many) (hj : j < l.many) where
   -- records of two nodes
@@ -99,7 +84,7 @@ apart_places k w n i m j hi hj o =
 -- The words of record i of node n changed, and no others
 module _ (k : Kind) (wk : Within k) (n i : ℕ) {xs ys : List ℕ} (hn : n < nodes_in xs) (hi : i < k.many)
     (same : Same (begins k n i) (begins k n i + k.size) xs ys) where
-  pub nodes_same : nodes_in ys ≡ nodes_in xs
+  nodes_same : nodes_in ys ≡ nodes_in xs
   nodes_same = ap (λ (m : ℕ). m / stride) same.long
 
   -- the words of a record that lies apart
@@ -110,13 +95,25 @@ module _ (k : Kind) (wk : Within k) (n i : ℕ) {xs ys : List ℕ} (hn : n < nod
       (λ e. rw (nodes_same, e) (row_kept same (begins l m j) l.size (o (is_inside l xs m j e).1)))
       (λ e. rw (nodes_same, e))
 
-  pub table_kept : {A : Type 0} (l : Kind) (f : List ℕ → A) → Within l → Clear k l → table l f ys ≡ table l f xs
-  table_kept l f wl clear =
-      fun_ext (λ m. fun_ext (λ j. ap f (words_kept l m j (λ hj. apart_kinds k l wk wl n i m j hi hj clear))))
+  kind_kept : (l : Kind) → Within l → Clear k l → words_of l ys ≡ words_of l xs
+  kind_kept l wl clear =
+      fun_ext (λ m. fun_ext (λ j. words_kept l m j (λ hj. apart_kinds k l wk wl n i m j hi hj clear)))
 
-  pub table_set : {A : Type 0} (f : List ℕ → A) → table k f ys ≡ upd (table k f xs) n i (f (row k.size (begins k n i) ys))
-  table_set f =
+  kind_set : words_of k ys ≡ upd (words_of k xs) n i (row k.size (begins k n i) ys)
+  kind_set =
       fun_ext (λ m. fun_ext (λ j.
       place n i m j
-      (λ d e. rw (d, e, inside_is k ys n i (omega (arith, nodes_same)) hi) (sym (upd_hit (table k f xs) n i _ n i refl refl)))
-      (λ o. ap f (words_kept k m j (λ hj. apart_places k wk n i m j hi hj o)) ∙ sym (upd_miss (table k f xs) n i _ m j o))))
+      (λ d e. rw (d, e, inside_is k ys n i (omega (arith, nodes_same)) hi) (sym (upd_hit (words_of k xs) n i _ n i refl refl)))
+      (λ o. words_kept k m j (λ hj. apart_places k wk n i m j hi hj o) ∙ sym (upd_miss (words_of k xs) n i _ m j o))))
+
+  pub rewritten : Rewritten k n i xs ys
+  rewritten =
+      record {
+        there = hi;
+        nodes = nodes_same;
+        kind = kind_set;
+        others = kind_kept;
+        rest =
+            ap (λ (m : ℕ). drop (m * stride) ys) nodes_same
+            ∙ rest_kept same (nodes_in xs * stride) (omega (arith, in_node k wk n i hi));
+      }

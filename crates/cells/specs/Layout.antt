@@ -1,5 +1,5 @@
 -- Where a word of the state lies. Nothing above this crate opens these definitions.
-use Rattle.std.specs.Prelude.{ℕ, ◌+◌, ◌*◌, ◌/◌, ◌≤◌, Bool, ◌&&◌, List, [], eqb, ltb, length}
+use Rattle.std.specs.Prelude.{ℕ, ◌+◌, ◌*◌, ◌/◌, ◌≤◌, Bool, ◌&&◌, List, [], ltb, length}
 use Rattle.laws.specs.Pick.{pick}
 use Rattle.laws.specs.Row.{row}
 use Rattle.names.specs.Size as Size
@@ -58,7 +58,3 @@ words_of k ws n i = pick (inside k ws n i) (row k.size (begins k n i) ws) []
 -- the table of a kind, each record read by f from its words
 abbrev pub table : {A : Type 0} → Kind → (List ℕ → A) → List ℕ → ℕ → ℕ → A
 table k f ws n i = f (words_of k ws n i)
-
--- words that are not as many as a record has are none
-abbrev pub whole : ℕ → List ℕ → List ℕ
-whole s r = pick (eqb (length r) s) r []

@@ -3,6 +3,8 @@ pub mod Layout
 pub mod Records
 pub mod View
 pub mod Changes
+pub mod Record
+pub mod KindLaws
 pub mod World
 pub mod Start
 pub mod Memories

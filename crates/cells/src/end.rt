@@ -1,11 +1,13 @@
 // A channel-end.
-ghost use Rattle.std.specs.Prelude.{◌≡◌, ◌<◌, [], length};
+ghost use Rattle.std.specs.Prelude.{◌≡◌, ◌<◌};
 ghost use Rattle.names.specs.Size.{ends};
-ghost use Rattle.cells.specs.Layout.{whole, end};
+ghost use Rattle.cells.specs.Layout.{end};
+ghost use Rattle.cells.specs.KindLaws.{end_laws};
 ghost use Rattle.cells.specs.Records.{to_end, from_end};
 ghost use Rattle.cells.specs.View.{view, whole_end, with_end, with_aim, with_sending, with_claim, with_buffer};
 
-use crate::layout::{END, begins, copy, words};
+use crate::layout::{END, Kind};
+use crate::record::Record;
 use circuits::Circuit;
 use names::Slot;
 use names::size::END_BUFFER;
@@ -43,130 +45,100 @@ pub struct End {
     pub buffer: Buffer,
 }
 
-// What stands where there is no such record.
-fn none() -> End
-    ensures { result ≡ to_end [] }
-{
-    End {
-        aim: Aim {
-            kind: 0,
-            number: 0,
-            channel: 0,
-            network: 0,
-        },
-        sending: circuits::none(),
-        claim: circuits::none(),
-        buffer: Buffer {
-            held: 0,
-            tokens: [0; END_BUFFER],
-        },
+impl Record for End {
+    const KIND: Kind = END;
+
+    ghost KIND = { end };
+
+    ghost of_words = { to_end };
+
+    ghost to_words = { from_end };
+
+    ghost entry = { whole_end };
+
+    ghost with = { with_end };
+
+    ghost laws = { end_laws };
+
+    fn none() -> End {
+        End {
+            aim: Aim {
+                kind: 0,
+                number: 0,
+                channel: 0,
+                network: 0,
+            },
+            sending: circuits::none(),
+            claim: circuits::none(),
+            buffer: Buffer {
+                held: 0,
+                tokens: [0; END_BUFFER],
+            },
+        }
     }
-}
 
-fn fields(w: &[u32]) -> End
-    requires { length w.now ≡ end.size }
-    ensures { result ≡ to_end w.now }
-{
-    let mut tokens = [0; END_BUFFER];
-    copy(&mut tokens, &w[TOKENS..OWN]);
-    let e = OWN + circuits::WORDS;
-    End {
-        aim: Aim {
-            kind: w[0],
-            number: w[1],
-            channel: w[2],
-            network: w[3],
-        },
-        sending: circuits::read(&w[OWN..e]),
-        claim: circuits::read(&w[e..]),
-        buffer: Buffer { held: w[4], tokens },
+    fn from_words(w: &[u32]) -> End {
+        let mut tokens = [0; END_BUFFER];
+        tokens.copy_from_slice(&w[TOKENS..OWN]);
+        let e = OWN + circuits::WORDS;
+        End {
+            aim: Aim {
+                kind: w[0],
+                number: w[1],
+                channel: w[2],
+                network: w[3],
+            },
+            sending: circuits::read(&w[OWN..e]),
+            claim: circuits::read(&w[e..]),
+            buffer: Buffer { held: w[4], tokens },
+        }
     }
-}
 
-// Where words are missing there is no record.
-fn read(w: &[u32]) -> End
-    ensures { result ≡ to_end (whole end.size w.now) }
-{
-    if w.len() == END.size {
-        return fields(w);
+    fn write(self, w: &mut [u32]) {
+        w[0] = self.aim.kind;
+        w[1] = self.aim.number;
+        w[2] = self.aim.channel;
+        w[3] = self.aim.network;
+        w[4] = self.buffer.held;
+        w[TOKENS..OWN].copy_from_slice(&self.buffer.tokens);
+        let e = OWN + circuits::WORDS;
+        circuits::write(&mut w[OWN..e], self.sending);
+        circuits::write(&mut w[e..], self.claim);
     }
-    none()
-}
-
-#[tactic(auto, using(laws::proofs::Row::listed))]
-pub fn write(w: &mut [u32], k: End)
-    requires { length w.old ≡ end.size }
-    ensures { w.new ≡ from_end k }
-{
-    w[0] = k.aim.kind;
-    w[1] = k.aim.number;
-    w[2] = k.aim.channel;
-    w[3] = k.aim.network;
-    w[4] = k.buffer.held;
-    let tokens = k.buffer.tokens;
-    copy(&mut w[TOKENS..OWN], &tokens);
-    let e = OWN + circuits::WORDS;
-    circuits::write(&mut w[OWN..e], k.sending);
-    circuits::write(&mut w[e..], k.claim);
-}
-
-#[tactic(auto, using(crate::proofs::Tables::words_whole), unfolding(crate::specs::View::view))]
-pub fn at(st: &[u32], slot: Slot, c: usize) -> End
-    ensures { result ≡ whole_end (view st.now) slot.0 c }
-{
-    read(words(st, slot, c, END))
-}
-
-#[tactic(auto, using(crate::proofs::Puts::end_put), unfolding(crate::specs::View::view))]
-pub fn put(st: &mut [u32], slot: Slot, c: usize, k: End)
-    requires { (slot.0 < (view st.old).nodes) × (c < ends) }
-    ensures { view st.new ≡ with_end (view st.old) slot.0 c k }
-{
-    let a = begins(slot, c, END);
-    let e = a + END.size;
-    write(&mut st[a..e], k);
 }
 
 // Its destination alone.
-#[tactic(auto, using(crate::proofs::Alone::aim_alone))]
+#[tactic(auto, using(laws::proofs::Table::upd_own))]
 pub fn put_aim(st: &mut [u32], slot: Slot, c: usize, x: Aim)
     requires { (slot.0 < (view st.old).nodes) × (c < ends) }
     ensures { view st.new ≡ with_aim (view st.old) slot.0 c x }
 {
-    let mut k = at(st, slot, c);
-    k.aim = x;
-    put(st, slot, c, k);
+    End::change(st, slot, c, |k: &mut End| k.aim = x);
 }
 
 // Where its circuit goes, alone.
-#[tactic(auto, using(crate::proofs::Alone::sending_alone))]
+#[tactic(auto, using(laws::proofs::Table::upd_own))]
 pub fn put_sending(st: &mut [u32], slot: Slot, c: usize, x: Circuit)
     requires { (slot.0 < (view st.old).nodes) × (c < ends) }
     ensures { view st.new ≡ with_sending (view st.old) slot.0 c x }
 {
-    let mut k = at(st, slot, c);
-    k.sending = x;
-    put(st, slot, c, k);
+    End::change(st, slot, c, |k: &mut End| k.sending = x);
 }
 
 // Its claim alone.
-#[tactic(auto, using(crate::proofs::Alone::claim_alone))]
+#[tactic(auto, using(laws::proofs::Table::upd_own))]
 pub fn put_claim(st: &mut [u32], slot: Slot, c: usize, x: Circuit)
     requires { (slot.0 < (view st.old).nodes) × (c < ends) }
     ensures { view st.new ≡ with_claim (view st.old) slot.0 c x }
 {
-    let mut k = at(st, slot, c);
-    k.claim = x;
-    put(st, slot, c, k);
+    End::change(st, slot, c, |k: &mut End| k.claim = x);
 }
 
 // What it holds, alone.
-#[tactic(auto, using(crate::proofs::Alone::buffer_alone))]
+#[tactic(auto, using(laws::proofs::Table::upd_own))]
 pub fn put_buffer(st: &mut [u32], slot: Slot, c: usize, x: Buffer)
     requires { (slot.0 < (view st.old).nodes) × (c < ends) }
     ensures { view st.new ≡ with_buffer (view st.old) slot.0 c x }
 {
-    let mut k = at(st, slot, c);
-    k.buffer = x;
-    put(st, slot, c, k);
+    End::change(st, slot, c, |k: &mut End| k.buffer = x);
 }

@@ -125,14 +125,6 @@ pub fn words(st: &[u32], slot: Slot, i: usize, k: Kind) -> &[u32]
     &st[a..e]
 }
 
-// As many words as there are, from one place to another.
-pub fn copy(to: &mut [u32], from: &[u32])
-    requires { length to.old ≡ length from.now }
-    ensures { to.new ≡ from.now }
-{
-    to.copy_from_slice(from)
-}
-
 // The lengths are those of 1 to 16 nodes.
 #[tactic(auto, using(laws::proofs::All::and_false), unfolding(crate::specs::World::shaped, crate::specs::View::view))]
 pub fn shaped(m: &Memories) -> bool

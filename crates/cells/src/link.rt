@@ -1,12 +1,14 @@
 // One end of a cable.
-ghost use Rattle.std.specs.Prelude.{◌≡◌, ◌<◌, [], length};
+ghost use Rattle.std.specs.Prelude.{◌≡◌, ◌<◌};
 ghost use Rattle.names.specs.Size.{links};
-ghost use Rattle.cells.specs.Layout.{whole, link};
+ghost use Rattle.cells.specs.Layout.{link};
+ghost use Rattle.cells.specs.KindLaws.{link_laws};
 ghost use Rattle.cells.specs.Records.{to_link, from_link};
 ghost use Rattle.cells.specs.View.{view, whole_link, with_link, with_cable, with_setup, with_flow, with_user};
 ghost use Rattle.cells.specs.World.{far_of};
 
-use crate::layout::{LINK, begins, words};
+use crate::layout::{Kind, LINK};
+use crate::record::Record;
 use circuits::Circuit;
 use names::Slot;
 
@@ -56,143 +58,115 @@ pub fn far_of(k: Cable) -> Option<(Slot, usize)>
     None
 }
 
-// What stands where there is no such record.
-fn none() -> Link
-    ensures { result ≡ to_link [] }
-{
-    Link {
-        cable: Cable {
-            wired: 0,
-            far_slot: 0,
-            far_link: 0,
-        },
-        setup: Setup {
-            enabled: 0,
-            direction: 0,
-            network: 0,
-        },
-        flow: Flow {
-            greeted: 0,
-            credit: 0,
-        },
-        user: circuits::none(),
+impl Record for Link {
+    const KIND: Kind = LINK;
+
+    ghost KIND = { link };
+
+    ghost of_words = { to_link };
+
+    ghost to_words = { from_link };
+
+    ghost entry = { whole_link };
+
+    ghost with = { with_link };
+
+    ghost laws = { link_laws };
+
+    fn none() -> Link {
+        Link {
+            cable: Cable {
+                wired: 0,
+                far_slot: 0,
+                far_link: 0,
+            },
+            setup: Setup {
+                enabled: 0,
+                direction: 0,
+                network: 0,
+            },
+            flow: Flow {
+                greeted: 0,
+                credit: 0,
+            },
+            user: circuits::none(),
+        }
     }
-}
 
-fn fields(w: &[u32]) -> Link
-    requires { length w.now ≡ link.size }
-    ensures { result ≡ to_link w.now }
-{
-    Link {
-        cable: Cable {
-            wired: w[0],
-            far_slot: w[1],
-            far_link: w[2],
-        },
-        setup: Setup {
-            enabled: w[3],
-            direction: w[4],
-            network: w[5],
-        },
-        flow: Flow {
-            greeted: w[6],
-            credit: w[7],
-        },
-        user: circuits::read(&w[OWN..]),
+    fn from_words(w: &[u32]) -> Link {
+        Link {
+            cable: Cable {
+                wired: w[0],
+                far_slot: w[1],
+                far_link: w[2],
+            },
+            setup: Setup {
+                enabled: w[3],
+                direction: w[4],
+                network: w[5],
+            },
+            flow: Flow {
+                greeted: w[6],
+                credit: w[7],
+            },
+            user: circuits::read(&w[OWN..]),
+        }
     }
-}
 
-// Where words are missing there is no record.
-fn read(w: &[u32]) -> Link
-    ensures { result ≡ to_link (whole link.size w.now) }
-{
-    if w.len() == LINK.size {
-        return fields(w);
+    #[tactic(auto, using(laws::proofs::Row::listed))]
+    fn write(self, w: &mut [u32]) {
+        w[0] = self.cable.wired;
+        w[1] = self.cable.far_slot;
+        w[2] = self.cable.far_link;
+        w[3] = self.setup.enabled;
+        w[4] = self.setup.direction;
+        w[5] = self.setup.network;
+        w[6] = self.flow.greeted;
+        w[7] = self.flow.credit;
+        circuits::write(&mut w[OWN..], self.user);
     }
-    none()
-}
-
-#[tactic(auto, using(laws::proofs::Row::listed))]
-pub fn write(w: &mut [u32], k: Link)
-    requires { length w.old ≡ link.size }
-    ensures { w.new ≡ from_link k }
-{
-    w[0] = k.cable.wired;
-    w[1] = k.cable.far_slot;
-    w[2] = k.cable.far_link;
-    w[3] = k.setup.enabled;
-    w[4] = k.setup.direction;
-    w[5] = k.setup.network;
-    w[6] = k.flow.greeted;
-    w[7] = k.flow.credit;
-    circuits::write(&mut w[OWN..], k.user);
-}
-
-#[tactic(auto, using(crate::proofs::Tables::words_whole), unfolding(crate::specs::View::view))]
-pub fn at(st: &[u32], slot: Slot, l: usize) -> Link
-    ensures { result ≡ whole_link (view st.now) slot.0 l }
-{
-    read(words(st, slot, l, LINK))
 }
 
 // Where the cable of a link leads.
 pub fn far_at(st: &[u32], slot: Slot, l: usize) -> Option<(Slot, usize)>
     ensures { result ≡ far_of ((view st.now).links.cables slot.0 l) }
 {
-    let k = at(st, slot, l);
+    let k = Link::at(st, slot, l);
     far_of(k.cable)
 }
 
-#[tactic(auto, using(crate::proofs::Puts::link_put), unfolding(crate::specs::View::view))]
-pub fn put(st: &mut [u32], slot: Slot, l: usize, k: Link)
-    requires { (slot.0 < (view st.old).nodes) × (l < links) }
-    ensures { view st.new ≡ with_link (view st.old) slot.0 l k }
-{
-    let a = begins(slot, l, LINK);
-    let e = a + LINK.size;
-    write(&mut st[a..e], k);
-}
-
 // Its cable alone.
-#[tactic(auto, using(crate::proofs::Alone::cable_alone))]
+#[tactic(auto, using(laws::proofs::Table::upd_own))]
 pub fn put_cable(st: &mut [u32], slot: Slot, l: usize, x: Cable)
     requires { (slot.0 < (view st.old).nodes) × (l < links) }
     ensures { view st.new ≡ with_cable (view st.old) slot.0 l x }
 {
-    let mut k = at(st, slot, l);
-    k.cable = x;
-    put(st, slot, l, k);
+    Link::change(st, slot, l, |k: &mut Link| k.cable = x);
 }
 
 // Its settings alone.
-#[tactic(auto, using(crate::proofs::Alone::setup_alone))]
+#[tactic(auto, using(laws::proofs::Table::upd_own))]
 pub fn put_setup(st: &mut [u32], slot: Slot, l: usize, x: Setup)
     requires { (slot.0 < (view st.old).nodes) × (l < links) }
     ensures { view st.new ≡ with_setup (view st.old) slot.0 l x }
 {
-    let mut k = at(st, slot, l);
-    k.setup = x;
-    put(st, slot, l, k);
+    Link::change(st, slot, l, |k: &mut Link| k.setup = x);
 }
 
 // Its greeting and credit alone.
-#[tactic(auto, using(crate::proofs::Alone::flow_alone))]
+#[tactic(auto, using(laws::proofs::Table::upd_own))]
 pub fn put_flow(st: &mut [u32], slot: Slot, l: usize, x: Flow)
     requires { (slot.0 < (view st.old).nodes) × (l < links) }
     ensures { view st.new ≡ with_flow (view st.old) slot.0 l x }
 {
-    let mut k = at(st, slot, l);
-    k.flow = x;
-    put(st, slot, l, k);
+    Link::change(st, slot, l, |k: &mut Link| k.flow = x);
 }
 
 // Its user alone.
-#[tactic(auto, using(crate::proofs::Alone::user_alone))]
+#[tactic(auto, using(laws::proofs::Table::upd_own))]
 pub fn put_user(st: &mut [u32], slot: Slot, l: usize, x: Circuit)
     requires { (slot.0 < (view st.old).nodes) × (l < links) }
     ensures { view st.new ≡ with_user (view st.old) slot.0 l x }
 {
-    let mut k = at(st, slot, l);
-    k.user = x;
-    put(st, slot, l, k);
+    Link::change(st, slot, l, |k: &mut Link| k.user = x);
 }

@@ -1,10 +1,12 @@
 // A node's own settings.
-ghost use Rattle.std.specs.Prelude.{◌≡◌, ◌<◌, [], length};
-ghost use Rattle.cells.specs.Layout.{whole, node};
+ghost use Rattle.std.specs.Prelude.{◌≡◌};
+ghost use Rattle.cells.specs.Layout.{node};
+ghost use Rattle.cells.specs.KindLaws.{node_laws};
 ghost use Rattle.cells.specs.Records.{to_node, from_node};
 ghost use Rattle.cells.specs.View.{view, with_node};
 
-use crate::layout::{NODE, begins, nodes, words};
+use crate::layout::{Kind, NODE, nodes};
+use crate::record::Record;
 use names::Slot;
 use routing::direction::Directions;
 
@@ -20,52 +22,49 @@ pub struct Node {
     pub directions: Directions,
 }
 
-// What stands where there is no such record.
-fn none() -> Node
-    ensures { result ≡ to_node [] }
-{
-    Node {
-        number: 0,
-        width: 0,
-        directions: Directions {
-            first: 0,
-            second: 0,
-        },
-    }
-}
+impl Record for Node {
+    const KIND: Kind = NODE;
 
-fn fields(w: &[u32]) -> Node
-    requires { length w.now ≡ node.size }
-    ensures { result ≡ to_node w.now }
-{
-    Node {
-        number: w[0],
-        width: w[1],
-        directions: Directions {
-            first: w[2],
-            second: w[3],
-        },
-    }
-}
+    ghost KIND = { node };
 
-// Where words are missing there is no record.
-fn read(w: &[u32]) -> Node
-    ensures { result ≡ to_node (whole node.size w.now) }
-{
-    if w.len() == NODE.size {
-        return fields(w);
-    }
-    none()
-}
+    ghost of_words = { to_node };
 
-pub fn write(w: &mut [u32], k: Node)
-    requires { length w.old ≡ node.size }
-    ensures { w.new ≡ from_node k }
-{
-    w[0] = k.number;
-    w[1] = k.width;
-    w[2] = k.directions.first;
-    w[3] = k.directions.second;
+    ghost to_words = { from_node };
+
+    ghost entry = { λ s n i. s.own n i };
+
+    ghost with = { λ s n i k. with_node s n k };
+
+    ghost laws = { node_laws };
+
+    fn none() -> Node {
+        Node {
+            number: 0,
+            width: 0,
+            directions: Directions {
+                first: 0,
+                second: 0,
+            },
+        }
+    }
+
+    fn from_words(w: &[u32]) -> Node {
+        Node {
+            number: w[0],
+            width: w[1],
+            directions: Directions {
+                first: w[2],
+                second: w[3],
+            },
+        }
+    }
+
+    fn write(self, w: &mut [u32]) {
+        w[0] = self.number;
+        w[1] = self.width;
+        w[2] = self.directions.first;
+        w[3] = self.directions.second;
+    }
 }
 
 // How many nodes a state has.
@@ -74,21 +73,4 @@ pub fn count(st: &[u32]) -> usize
     ensures { result ≡ (view st.now).nodes }
 {
     nodes(st)
-}
-
-#[tactic(auto, using(crate::proofs::Tables::words_whole), unfolding(crate::specs::View::view))]
-pub fn at(st: &[u32], slot: Slot) -> Node
-    ensures { result ≡ (view st.now).own slot.0 0 }
-{
-    read(words(st, slot, 0, NODE))
-}
-
-#[tactic(auto, using(crate::proofs::Puts::node_put), unfolding(crate::specs::View::view))]
-pub fn put(st: &mut [u32], slot: Slot, k: Node)
-    requires { slot.0 < (view st.old).nodes }
-    ensures { view st.new ≡ with_node (view st.old) slot.0 k }
-{
-    let a = begins(slot, 0, NODE);
-    let e = a + NODE.size;
-    write(&mut st[a..e], k);
 }

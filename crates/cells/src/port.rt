@@ -1,11 +1,13 @@
 // A port.
-ghost use Rattle.std.specs.Prelude.{◌≡◌, ◌<◌, [], length};
+ghost use Rattle.std.specs.Prelude.{◌≡◌, ◌<◌};
 ghost use Rattle.names.specs.Size.{ports};
-ghost use Rattle.cells.specs.Layout.{whole, port};
+ghost use Rattle.cells.specs.Layout.{port};
+ghost use Rattle.cells.specs.KindLaws.{port_laws};
 ghost use Rattle.cells.specs.Records.{to_port, from_port};
 ghost use Rattle.cells.specs.View.{view, whole_port, with_port, with_counters, with_leg, with_network, with_sender};
 
-use crate::layout::{PORT, begins, words};
+use crate::layout::{Kind, PORT};
+use crate::record::Record;
 use circuits::Circuit;
 use names::Slot;
 use ports::Counters;
@@ -31,121 +33,92 @@ pub struct Port {
     pub sender: Circuit,
 }
 
-// What stands where there is no such record.
-fn none() -> Port
-    ensures { result ≡ to_port [] }
-{
-    Port {
-        counters: Counters::new(),
-        leg: Leg {
-            circuit: circuits::none(),
-            tile: 0,
-        },
-        network: 0,
-        sender: circuits::none(),
+impl Record for Port {
+    const KIND: Kind = PORT;
+
+    ghost KIND = { port };
+
+    ghost of_words = { to_port };
+
+    ghost to_words = { from_port };
+
+    ghost entry = { whole_port };
+
+    ghost with = { with_port };
+
+    ghost laws = { port_laws };
+
+    fn none() -> Port {
+        Port {
+            counters: Counters::new(),
+            leg: Leg {
+                circuit: circuits::none(),
+                tile: 0,
+            },
+            network: 0,
+            sender: circuits::none(),
+        }
     }
-}
 
-fn fields(w: &[u32]) -> Port
-    requires { length w.now ≡ port.size }
-    ensures { result ≡ to_port w.now }
-{
-    let e = OWN + circuits::WORDS;
-    Port {
-        counters: Counters {
-            head: w[0],
-            held: w[1],
-        },
-        leg: Leg {
-            circuit: circuits::read(&w[OWN..e]),
-            tile: w[2],
-        },
-        network: w[3],
-        sender: circuits::read(&w[e..]),
+    fn from_words(w: &[u32]) -> Port {
+        let e = OWN + circuits::WORDS;
+        Port {
+            counters: Counters {
+                head: w[0],
+                held: w[1],
+            },
+            leg: Leg {
+                circuit: circuits::read(&w[OWN..e]),
+                tile: w[2],
+            },
+            network: w[3],
+            sender: circuits::read(&w[e..]),
+        }
     }
-}
 
-// Where words are missing there is no record.
-fn read(w: &[u32]) -> Port
-    ensures { result ≡ to_port (whole port.size w.now) }
-{
-    if w.len() == PORT.size {
-        return fields(w);
+    fn write(self, w: &mut [u32]) {
+        w[0] = self.counters.head;
+        w[1] = self.counters.held;
+        w[2] = self.leg.tile;
+        w[3] = self.network;
+        let e = OWN + circuits::WORDS;
+        circuits::write(&mut w[OWN..e], self.leg.circuit);
+        circuits::write(&mut w[e..], self.sender);
     }
-    none()
-}
-
-#[tactic(auto, using(laws::proofs::Row::listed))]
-pub fn write(w: &mut [u32], k: Port)
-    requires { length w.old ≡ port.size }
-    ensures { w.new ≡ from_port k }
-{
-    w[0] = k.counters.head;
-    w[1] = k.counters.held;
-    w[2] = k.leg.tile;
-    w[3] = k.network;
-    let e = OWN + circuits::WORDS;
-    circuits::write(&mut w[OWN..e], k.leg.circuit);
-    circuits::write(&mut w[e..], k.sender);
-}
-
-#[tactic(auto, using(crate::proofs::Tables::words_whole), unfolding(crate::specs::View::view))]
-pub fn at(st: &[u32], slot: Slot, p: usize) -> Port
-    ensures { result ≡ whole_port (view st.now) slot.0 p }
-{
-    read(words(st, slot, p, PORT))
-}
-
-#[tactic(auto, using(crate::proofs::Puts::port_put), unfolding(crate::specs::View::view))]
-pub fn put(st: &mut [u32], slot: Slot, p: usize, k: Port)
-    requires { (slot.0 < (view st.old).nodes) × (p < ports) }
-    ensures { view st.new ≡ with_port (view st.old) slot.0 p k }
-{
-    let a = begins(slot, p, PORT);
-    let e = a + PORT.size;
-    write(&mut st[a..e], k);
 }
 
 // Its counters alone.
-#[tactic(auto, using(crate::proofs::Alone::counters_alone))]
+#[tactic(auto, using(laws::proofs::Table::upd_own))]
 pub fn put_counters(st: &mut [u32], slot: Slot, p: usize, x: Counters)
     requires { (slot.0 < (view st.old).nodes) × (p < ports) }
     ensures { view st.new ≡ with_counters (view st.old) slot.0 p x }
 {
-    let mut k = at(st, slot, p);
-    k.counters = x;
-    put(st, slot, p, k);
+    Port::change(st, slot, p, |k: &mut Port| k.counters = x);
 }
 
 // Its circuit alone.
-#[tactic(auto, using(crate::proofs::Alone::leg_alone))]
+#[tactic(auto, using(laws::proofs::Table::upd_own))]
 pub fn put_leg(st: &mut [u32], slot: Slot, p: usize, x: Leg)
     requires { (slot.0 < (view st.old).nodes) × (p < ports) }
     ensures { view st.new ≡ with_leg (view st.old) slot.0 p x }
 {
-    let mut k = at(st, slot, p);
-    k.leg = x;
-    put(st, slot, p, k);
+    Port::change(st, slot, p, |k: &mut Port| k.leg = x);
 }
 
 // Its circuit's network alone.
-#[tactic(auto, using(crate::proofs::Alone::network_alone))]
+#[tactic(auto, using(laws::proofs::Table::upd_own))]
 pub fn put_network(st: &mut [u32], slot: Slot, p: usize, x: u32)
     requires { (slot.0 < (view st.old).nodes) × (p < ports) }
     ensures { view st.new ≡ with_network (view st.old) slot.0 p x }
 {
-    let mut k = at(st, slot, p);
-    k.network = x;
-    put(st, slot, p, k);
+    Port::change(st, slot, p, |k: &mut Port| k.network = x);
 }
 
 // Its sender alone.
-#[tactic(auto, using(crate::proofs::Alone::sender_alone))]
+#[tactic(auto, using(laws::proofs::Table::upd_own))]
 pub fn put_sender(st: &mut [u32], slot: Slot, p: usize, x: Circuit)
     requires { (slot.0 < (view st.old).nodes) × (p < ports) }
     ensures { view st.new ≡ with_sender (view st.old) slot.0 p x }
 {
-    let mut k = at(st, slot, p);
-    k.sender = x;
-    put(st, slot, p, k);
+    Port::change(st, slot, p, |k: &mut Port| k.sender = x);
 }

@@ -1,10 +1,12 @@
 // A control unit.
-ghost use Rattle.std.specs.Prelude.{◌≡◌, ◌<◌, [], length};
-ghost use Rattle.cells.specs.Layout.{whole, unit};
+ghost use Rattle.std.specs.Prelude.{◌≡◌, ◌<◌};
+ghost use Rattle.cells.specs.Layout.{unit};
+ghost use Rattle.cells.specs.KindLaws.{unit_laws};
 ghost use Rattle.cells.specs.Records.{to_unit, from_unit};
-ghost use Rattle.cells.specs.View.{view, whole_unit, with_unit, with_serving, with_hearing};
+ghost use Rattle.cells.specs.View.{view, with_unit, with_serving, with_hearing};
 
-use crate::layout::{UNIT, begins, copy, words};
+use crate::layout::{Kind, UNIT};
+use crate::record::Record;
 use circuits::Circuit;
 use names::Slot;
 use names::size::UNIT_BUFFER;
@@ -28,90 +30,64 @@ pub struct Unit {
     pub hearing: Hearing,
 }
 
-// What stands where there is no such record.
-fn none() -> Unit
-    ensures { result ≡ to_unit [] }
-{
-    Unit {
-        serves: circuits::none(),
-        hearing: Hearing {
-            heard: 0,
-            tokens: [0; UNIT_BUFFER as usize],
-        },
+impl Record for Unit {
+    const KIND: Kind = UNIT;
+
+    ghost KIND = { unit };
+
+    ghost of_words = { to_unit };
+
+    ghost to_words = { from_unit };
+
+    ghost entry = { λ s n i. record { serves = s.units.serving n i; hearing = s.units.hearings n i } };
+
+    ghost with = { λ s n i k. with_unit s n k };
+
+    ghost laws = { unit_laws };
+
+    fn none() -> Unit {
+        Unit {
+            serves: circuits::none(),
+            hearing: Hearing {
+                heard: 0,
+                tokens: [0; UNIT_BUFFER as usize],
+            },
+        }
     }
-}
 
-fn fields(w: &[u32]) -> Unit
-    requires { length w.now ≡ unit.size }
-    ensures { result ≡ to_unit w.now }
-{
-    let mut tokens = [0; UNIT_BUFFER as usize];
-    copy(&mut tokens, &w[TOKENS..OWN]);
-    Unit {
-        serves: circuits::read(&w[OWN..]),
-        hearing: Hearing {
-            heard: w[0],
-            tokens,
-        },
+    fn from_words(w: &[u32]) -> Unit {
+        let mut tokens = [0; UNIT_BUFFER as usize];
+        tokens.copy_from_slice(&w[TOKENS..OWN]);
+        Unit {
+            serves: circuits::read(&w[OWN..]),
+            hearing: Hearing {
+                heard: w[0],
+                tokens,
+            },
+        }
     }
-}
 
-// Where words are missing there is no record.
-fn read(w: &[u32]) -> Unit
-    ensures { result ≡ to_unit (whole unit.size w.now) }
-{
-    if w.len() == UNIT.size {
-        return fields(w);
+    fn write(self, w: &mut [u32]) {
+        w[0] = self.hearing.heard;
+        w[TOKENS..OWN].copy_from_slice(&self.hearing.tokens);
+        circuits::write(&mut w[OWN..], self.serves);
     }
-    none()
-}
-
-#[tactic(auto, using(laws::proofs::Row::listed))]
-pub fn write(w: &mut [u32], k: Unit)
-    requires { length w.old ≡ unit.size }
-    ensures { w.new ≡ from_unit k }
-{
-    w[0] = k.hearing.heard;
-    let tokens = k.hearing.tokens;
-    copy(&mut w[TOKENS..OWN], &tokens);
-    circuits::write(&mut w[OWN..], k.serves);
-}
-
-#[tactic(auto, using(crate::proofs::Tables::words_whole), unfolding(crate::specs::View::view))]
-pub fn at(st: &[u32], slot: Slot) -> Unit
-    ensures { result ≡ whole_unit (view st.now) slot.0 }
-{
-    read(words(st, slot, 0, UNIT))
-}
-
-#[tactic(auto, using(crate::proofs::Puts::unit_put), unfolding(crate::specs::View::view))]
-pub fn put(st: &mut [u32], slot: Slot, k: Unit)
-    requires { slot.0 < (view st.old).nodes }
-    ensures { view st.new ≡ with_unit (view st.old) slot.0 k }
-{
-    let a = begins(slot, 0, UNIT);
-    let e = a + UNIT.size;
-    write(&mut st[a..e], k);
 }
 
 // Whom it serves, alone.
-#[tactic(auto, using(crate::proofs::Alone::serves_alone))]
+#[tactic(auto, using(laws::proofs::Table::upd_own))]
 pub fn put_serves(st: &mut [u32], slot: Slot, x: Circuit)
     requires { slot.0 < (view st.old).nodes }
     ensures { view st.new ≡ with_serving (view st.old) slot.0 x }
 {
-    let mut k = at(st, slot);
-    k.serves = x;
-    put(st, slot, k);
+    Unit::change(st, slot, 0, |k: &mut Unit| k.serves = x);
 }
 
 // What it has heard, alone.
-#[tactic(auto, using(crate::proofs::Alone::hearing_alone))]
+#[tactic(auto, using(laws::proofs::Table::upd_own))]
 pub fn put_hearing(st: &mut [u32], slot: Slot, x: Hearing)
     requires { slot.0 < (view st.old).nodes }
     ensures { view st.new ≡ with_hearing (view st.old) slot.0 x }
 {
-    let mut k = at(st, slot);
-    k.hearing = x;
-    put(st, slot, k);
+    Unit::change(st, slot, 0, |k: &mut Unit| k.hearing = x);
 }

@@ -3,8 +3,9 @@ ghost use Rattle.std.specs.Prelude.{◌≡◌};
 ghost use Rattle.cells.specs.View.{view};
 ghost use Rattle.clauses.specs.Cables.{leads_to, joined, cable, credited, enabled, far_enabled, greeted};
 
-use cells::link::{Cable, far_at, far_of};
-use cells::{link, node};
+use cells::link::{Cable, Link, far_at, far_of};
+use cells::node;
+use cells::record::Record;
 use names::Slot;
 use names::size::LINKS;
 
@@ -33,14 +34,14 @@ pub fn cable(st: &[u32], slot: Slot, l: usize) -> bool
 pub fn credited(st: &[u32], slot: Slot, l: usize) -> bool
     ensures { result ≡ credited (view st.now) slot.0 l }
 {
-    let k = link::at(st, slot, l);
+    let k = Link::at(st, slot, l);
     (k.flow.credit == 0) | (k.flow.greeted == 1)
 }
 
 fn enabled(st: &[u32], slot: Slot, l: usize) -> bool
     ensures { result ≡ enabled (view st.now) slot.0 l }
 {
-    let k = link::at(st, slot, l);
+    let k = Link::at(st, slot, l);
     k.setup.enabled == 1
 }
 
@@ -55,6 +56,6 @@ pub fn far_enabled(st: &[u32], k: Cable) -> bool
 pub fn greeted(st: &[u32], slot: Slot, l: usize) -> bool
     ensures { result ≡ greeted (view st.now) slot.0 l }
 {
-    let k = link::at(st, slot, l);
+    let k = Link::at(st, slot, l);
     !(k.flow.greeted == 1) | ((k.setup.enabled == 1) & far_enabled(st, k.cable))
 }

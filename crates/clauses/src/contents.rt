@@ -6,9 +6,12 @@ ghost use Rattle.cells.specs.World.{world};
 ghost use Rattle.clauses.specs.Contents.{ready, stages, front, back, contents, legal_word, legal_words, held_tokens};
 ghost use Rattle.clauses.specs.Contents.{heard_tokens};
 
+use cells::end::End;
 use cells::layout::TOKEN_WORDS;
 use cells::memories::Memories;
-use cells::{end, port, unit};
+use cells::port::Port;
+use cells::record::Record;
+use cells::unit::Unit;
 use circuits::hop_of;
 use grammar::port::{Stages, stages_of};
 use grammar::stage::Stage;
@@ -20,7 +23,7 @@ use ports::{Counters, Ports};
 fn ready(m: &Memories, slot: Slot, p: usize) -> bool
     ensures { result ≡ ready (world_of m.now) slot.0 p }
 {
-    let k = port::at(m.state, slot, p);
+    let k = Port::at(m.state, slot, p);
     (slot.0 < m.tokens.len() / TOKEN_WORDS)
         & ((p < PORTS)
             & ((k.counters.head < Counters::CAPACITY) & (k.counters.held <= Counters::CAPACITY)))
@@ -32,7 +35,7 @@ fn stages(m: &Memories, slot: Slot, p: usize) -> Stages
     ensures { result ≡ stages (world_of m.now) slot.0 p }
 {
     if ready(m, slot, p) {
-        let k = port::at(m.state, slot, p);
+        let k = Port::at(m.state, slot, p);
         let words = Ports::words(k.counters, m.tokens, slot, p);
         return stages_of(hop_of(k.leg.circuit, k.leg.tile), &words);
     }
@@ -60,7 +63,7 @@ pub fn back(m: &Memories, slot: Slot, p: usize) -> Stage
 pub fn contents(m: &Memories, slot: Slot, p: usize) -> bool
     ensures { result ≡ contents (world_of m.now) slot.0 p }
 {
-    let k = port::at(m.state, slot, p);
+    let k = Port::at(m.state, slot, p);
     if k.counters.held == 0 {
         // a port that holds nothing holds nothing wrong
         return ready(m, slot, p);
@@ -89,7 +92,7 @@ fn legal_words(words: &[u32], held: u32, ends: bool) -> bool
 pub fn held_tokens(st: &[u32], slot: Slot, c: usize) -> bool
     ensures { result ≡ held_tokens (view st.now) slot.0 c }
 {
-    let k = end::at(st, slot, c);
+    let k = End::at(st, slot, c);
     if k.buffer.held == 0 {
         // what holds nothing holds nothing wrong
         return true;
@@ -102,7 +105,7 @@ pub fn held_tokens(st: &[u32], slot: Slot, c: usize) -> bool
 pub fn heard_tokens(st: &[u32], slot: Slot) -> bool
     ensures { result ≡ heard_tokens (view st.now) slot.0 0 }
 {
-    let k = unit::at(st, slot);
+    let k = Unit::at(st, slot, 0);
     if k.serves.kind == 0 {
         return true;
     }

@@ -6,7 +6,12 @@ ghost use Rattle.circuits.specs.Circuit.{peer_of};
 ghost use Rattle.clauses.specs.Pairs.{port_of, end_of, claimable, straight_to, link_of, tile_of, unit_of, claim_of, named_by, backward};
 ghost use Rattle.clauses.specs.Pairs.{players, is_named, names_back, agrees, taken, open_by, open_end, silent};
 
-use cells::{end, link, port, tile, unit};
+use cells::end::End;
+use cells::link::Link;
+use cells::port::Port;
+use cells::record::Record;
+use cells::tile::Tile;
+use cells::unit::Unit;
 use circuits::{Hop, Peer, hop_of, peer_of};
 use names::Slot;
 use names::size::{ENDS, FIRST_TILE_PORT, LINKS, PORTS, REPLY_PORT, SINK, TILE_LINKS};
@@ -105,7 +110,7 @@ fn claim_of(h: Hop) -> Option<usize>
 pub fn hop_at(st: &[u32], slot: Slot, p: usize) -> Hop
     ensures { result ≡ hop (view st.now) slot.0 p }
 {
-    let k = port::at(st, slot, p);
+    let k = Port::at(st, slot, p);
     hop_of(k.leg.circuit, k.leg.tile)
 }
 
@@ -113,7 +118,7 @@ pub fn hop_at(st: &[u32], slot: Slot, p: usize) -> Hop
 pub fn link_user(st: &[u32], slot: Slot, i: usize) -> Peer
     ensures { result ≡ peer_of ((view st.now).links.users slot.0 i) }
 {
-    let k = link::at(st, slot, i);
+    let k = Link::at(st, slot, i);
     peer_of(k.user)
 }
 
@@ -121,7 +126,7 @@ pub fn link_user(st: &[u32], slot: Slot, i: usize) -> Peer
 pub fn tile_user(st: &[u32], slot: Slot, i: usize) -> Peer
     ensures { result ≡ peer_of ((view st.now).tiles slot.0 i).user }
 {
-    let k = tile::at(st, slot, i);
+    let k = Tile::at(st, slot, i);
     peer_of(k.user)
 }
 
@@ -129,7 +134,7 @@ pub fn tile_user(st: &[u32], slot: Slot, i: usize) -> Peer
 pub fn claim(st: &[u32], slot: Slot, i: usize) -> Peer
     ensures { result ≡ peer_of ((view st.now).ends.claims slot.0 i) }
 {
-    let k = end::at(st, slot, i);
+    let k = End::at(st, slot, i);
     peer_of(k.claim)
 }
 
@@ -137,7 +142,7 @@ pub fn claim(st: &[u32], slot: Slot, i: usize) -> Peer
 pub fn sending(st: &[u32], slot: Slot, i: usize) -> Peer
     ensures { result ≡ peer_of ((view st.now).ends.sendings slot.0 i) }
 {
-    let k = end::at(st, slot, i);
+    let k = End::at(st, slot, i);
     peer_of(k.sending)
 }
 
@@ -145,7 +150,7 @@ pub fn sending(st: &[u32], slot: Slot, i: usize) -> Peer
 pub fn sender(st: &[u32], slot: Slot, i: usize) -> Peer
     ensures { result ≡ peer_of ((view st.now).ports.senders slot.0 i) }
 {
-    let k = port::at(st, slot, i);
+    let k = Port::at(st, slot, i);
     peer_of(k.sender)
 }
 
@@ -153,7 +158,7 @@ pub fn sender(st: &[u32], slot: Slot, i: usize) -> Peer
 pub fn serves(st: &[u32], slot: Slot) -> Peer
     ensures { result ≡ peer_of ((view st.now).units.serving slot.0 0) }
 {
-    let k = unit::at(st, slot);
+    let k = Unit::at(st, slot, 0);
     peer_of(k.serves)
 }
 
@@ -240,7 +245,7 @@ pub fn agrees(st: &[u32], slot: Slot, r: Role, i: usize) -> bool
 pub fn taken(st: &[u32], slot: Slot, p: usize) -> bool
     ensures { result ≡ taken (view st.now) slot.0 p }
 {
-    let k = port::at(st, slot, p);
+    let k = Port::at(st, slot, p);
     !((k.leg.circuit.kind == 0) & (k.counters.held == 0))
 }
 
@@ -261,7 +266,7 @@ fn open_by(st: &[u32], slot: Slot, x: Peer) -> bool
 pub fn open_end(st: &[u32], slot: Slot, e: usize) -> bool
     ensures { result ≡ open_end (view st.now) slot.0 e }
 {
-    let k = end::at(st, slot, e);
+    let k = End::at(st, slot, e);
     (k.sending.kind == 0) | (!(k.aim.kind == 0) & open_by(st, slot, peer_of(k.sending)))
 }
 
@@ -269,7 +274,7 @@ pub fn open_end(st: &[u32], slot: Slot, e: usize) -> bool
 pub fn silent(st: &[u32], slot: Slot) -> bool
     ensures { result ≡ silent (view st.now) slot.0 0 }
 {
-    let k = unit::at(st, slot);
-    let reply = port::at(st, slot, REPLY_PORT);
+    let k = Unit::at(st, slot, 0);
+    let reply = Port::at(st, slot, REPLY_PORT);
     (k.serves.kind == 0) | (reply.counters.held == 0)
 }

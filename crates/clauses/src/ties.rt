@@ -7,8 +7,9 @@ ghost use Rattle.clauses.specs.Ties.{carried_for, unfed, unsent, idle, in_body, 
 
 use crate::contents::{back, front};
 use crate::pairs::{link_user, sending};
-use cells::link;
+use cells::link::Link;
 use cells::memories::Memories;
+use cells::record::Record;
 use circuits::Peer;
 use grammar::stage::{Stage, crossed};
 use names::Slot;
@@ -29,7 +30,7 @@ pub fn carried_for(m: &Memories, slot: Slot, x: Peer) -> Stage
 pub fn unfed(m: &Memories, slot: Slot, l: usize) -> bool
     ensures { result ≡ unfed (world_of m.now) slot.0 l }
 {
-    if link::at(m.state, slot, l).cable.wired == 1 {
+    if Link::at(m.state, slot, l).cable.wired == 1 {
         return true;
     }
     back(m, slot, l) == Stage::Fresh
@@ -39,7 +40,7 @@ pub fn unfed(m: &Memories, slot: Slot, l: usize) -> bool
 pub fn unsent(m: &Memories, slot: Slot, l: usize) -> bool
     ensures { result ≡ unsent (world_of m.now) slot.0 l }
 {
-    if link::at(m.state, slot, l).cable.wired == 1 {
+    if Link::at(m.state, slot, l).cable.wired == 1 {
         return true;
     }
     let carried = carried_for(m, slot, link_user(m.state, slot, l));
@@ -50,7 +51,7 @@ pub fn unsent(m: &Memories, slot: Slot, l: usize) -> bool
 pub fn idle(st: &[u32], slot: Slot, l: usize) -> bool
     ensures { result ≡ idle (view st.now) slot.0 l }
 {
-    let k = link::at(st, slot, l);
+    let k = Link::at(st, slot, l);
     (k.setup.enabled == 1) | (k.user.kind == 0)
 }
 

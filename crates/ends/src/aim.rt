@@ -10,7 +10,8 @@ ghost use Rattle.ends.specs.Aim.{goal_ranged, aimed_at, aim_rows, aim};
 use crate::end_at;
 use answers::Answer;
 use cells::end;
-use cells::end::Aim;
+use cells::end::{Aim, End};
+use cells::record::Record;
 use names::no::No;
 use names::size::NETWORKS;
 use names::{NodeNumber, Slot, is_number};
@@ -45,7 +46,7 @@ fn check_aim(st: &[u32], slot: Slot, c: usize, g: Goal, network: u32) -> Result<
     if !ranged {
         return Err(No::Value);
     }
-    let k = end::at(st, slot, c);
+    let k = End::at(st, slot, c);
     if k.sending.kind != 0 {
         return Err(No::Open);
     }

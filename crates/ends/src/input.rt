@@ -8,7 +8,8 @@ ghost use Rattle.ends.specs.Input.{is_wanted, first_held, input_rows, input_valu
 use crate::{Wanted, end_at};
 use answers::Answer;
 use cells::end;
-use cells::end::Buffer;
+use cells::end::{Buffer, End};
+use cells::record::Record;
 use names::Slot;
 use names::no::No;
 
@@ -38,7 +39,7 @@ fn check_input(st: &[u32], slot: Slot, c: usize, wanted: Wanted) -> Result<(), N
     if !end_at(st, slot, c) {
         return Err(No::NoSuch);
     }
-    let e = end::at(st, slot, c);
+    let e = End::at(st, slot, c);
     let k = e.buffer;
     if k.held == 0 {
         return Err(No::Empty);
@@ -67,7 +68,7 @@ pub fn input(st: &mut [u32], slot: Slot, c: usize, wanted: Wanted) -> Result<Ans
     ensures { out result (view st.new) ≡ input (view st.old) slot.0 c wanted }
 {
     check_input(st, slot, c, wanted)?;
-    let k = end::at(st, slot, c);
+    let k = End::at(st, slot, c);
     let word = first_held(k.buffer);
     end::put_buffer(st, slot, c, took_first(k.buffer));
     Ok(Answer::Token((word % 256) as u8))

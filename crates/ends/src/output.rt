@@ -18,8 +18,8 @@ use crate::{Token, end_at};
 use acts::circuit::claim;
 use acts::{give, push, push_header, set_network, set_sender, set_sending, still, width_at};
 use answers::Answer;
-use cells::end;
-use cells::end::Aim;
+use cells::end::{Aim, End};
+use cells::record::Record;
 use circuits::Peer;
 use names::no::No;
 use names::{NodeNumber, Slot};
@@ -102,7 +102,7 @@ fn open_by(st: &mut [u32], mem: &mut [u16], slot: Slot, c: usize, g: Target, p: 
     ensures { world st.new mem.new
         ≡ opens_by (world st.old mem.old) slot.0 c g p word }
 {
-    let k = end::at(st, slot, c);
+    let k = End::at(st, slot, c);
     let h = make_header(g, width_at(st, slot));
     fill(st, mem, slot, p, h, word);
     set_network(st, slot, p, k.aim.network);
@@ -183,7 +183,7 @@ pub fn output(st: &mut [u32], mem: &mut [u16], slot: Slot, c: usize, x: Token) -
     if !end_at(st, slot, c) {
         return Err(No::NoSuch);
     }
-    let k = end::at(st, slot, c);
+    let k = End::at(st, slot, c);
     let Some(g) = destination_of(k.aim) else {
         return Err(No::Unaimed);
     };

@@ -8,7 +8,9 @@ ghost use Rattle.ends.specs.Plan.{lowest_free, straight_plan, local_plan, port_p
 
 use acts::circuit::channel_claimed;
 use acts::{channel_full, number_at, width_at};
-use cells::{end, port};
+use cells::end::End;
+use cells::port::Port;
+use cells::record::Record;
 use circuits::{Peer, peer_of};
 use clauses::pairs::taken;
 use names::Slot;
@@ -98,7 +100,7 @@ fn open_plan(st: &[u32], slot: Slot, g: Target, word: u16) -> Plan
 fn behind_plan(st: &[u32], slot: Slot, p: usize) -> Plan
     ensures { result ≡ behind_plan (view st.now) slot.0 p }
 {
-    let k = port::at(st, slot, p);
+    let k = Port::at(st, slot, p);
     if k.counters.held >= Counters::CAPACITY {
         return Plan::Full;
     }
@@ -111,7 +113,7 @@ pub fn plan_of(st: &[u32], slot: Slot, c: usize, g: Target, word: u16) -> Plan
     requires { NumberFits (view st.now) slot.0 }
     ensures { result ≡ output_plan (view st.now) slot.0 c g word }
 {
-    let k = end::at(st, slot, c);
+    let k = End::at(st, slot, c);
     match peer_of(k.sending) {
         Peer::Nobody => open_plan(st, slot, g, word),
         Peer::Port(p) => behind_plan(st, slot, p as usize),

@@ -17,8 +17,9 @@ use answers::Answer;
 use cells::layout::shaped;
 use cells::link::{Cable, Flow, Link, Setup};
 use cells::memories::Memories;
+use cells::node;
 use cells::node::Node;
-use cells::{link, node};
+use cells::record::Record;
 use circuits::Circuit;
 use names::Slot;
 use names::no::No;
@@ -57,7 +58,7 @@ fn settle(st: &mut [u32])
     ensures { view st.new ≡ start_net none_on (view st.old).nodes }
 {
     for n in 0..node::count(st) {
-        node::put(st, Slot(n), settings());
+        Node::put(st, Slot(n), 0, settings());
     }
 }
 
@@ -90,7 +91,7 @@ fn boot_node(st: &mut [u32], slot: Slot)
     ensures { view st.new ≡ start_net (booted_to ((slot.0 + 1) * links)) (view st.old).nodes }
 {
     for l in FIRST_BOOT_LINK..LINKS {
-        link::put(st, slot, l, enabled_link());
+        Link::put(st, slot, l, enabled_link());
     }
 }
 

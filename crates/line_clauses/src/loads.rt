@@ -8,9 +8,11 @@ ghost use Rattle.line_clauses.specs.Lines.{line_ready, load_at, few, few_on, unl
 ghost use Rattle.line_clauses.specs.Lines.{count_with, count_to, counted, lines_to, lines_at};
 
 use cells::layout::LINE_WORDS;
-use cells::link::far_at;
+use cells::line::Line;
+use cells::link::{Link, far_at};
 use cells::memories::Memories;
-use cells::{line, link, port};
+use cells::port::Port;
+use cells::record::Record;
 use lines::CAPACITY;
 use lines::load::{Load, load_at};
 use names::Slot;
@@ -21,7 +23,7 @@ use ports::Counters;
 pub fn line_ready(m: &Memories, slot: Slot, l: usize) -> bool
     ensures { result ≡ line_ready (world_of m.now) slot.0 l }
 {
-    let k = line::at(m.state, slot, l);
+    let k = Line::at(m.state, slot, l);
     (slot.0 < m.lines.len() / LINE_WORDS)
         & ((l < LINKS) & ((k.ring.head < CAPACITY) & (k.ring.held <= CAPACITY)))
 }
@@ -32,7 +34,7 @@ pub fn load_on(m: &Memories, slot: Slot, l: usize) -> Load
     ensures { result ≡ load_at (world_of m.now) slot.0 l }
 {
     if line_ready(m, slot, l) {
-        let k = line::at(m.state, slot, l);
+        let k = Line::at(m.state, slot, l);
         return load_at(k.ring, m.lines, slot, l);
     }
     Load {
@@ -61,8 +63,8 @@ pub fn few_on(m: &Memories, slot: Slot, l: usize) -> bool
 pub fn unlined(st: &[u32], slot: Slot, l: usize) -> bool
     ensures { result ≡ unlined (lined st.now []) slot.0 l }
 {
-    let x = link::at(st, slot, l);
-    let k = line::at(st, slot, l);
+    let x = Link::at(st, slot, l);
+    let k = Line::at(st, slot, l);
     (x.cable.wired == 1) | ((k.ring.held == 0) & (k.issued == 0))
 }
 
@@ -76,8 +78,8 @@ fn fits(credit: u32, coming: u32, going: u32, held: u32) -> bool
 fn room_with(st: &[u32], slot: Slot, l: usize, m: Slot, k: usize, going: Load, coming: Load) -> bool
     ensures { result ≡ room_with (view st.now) slot.0 l m.0 k going coming }
 {
-    let x = link::at(st, slot, l);
-    let far = port::at(st, m, k);
+    let x = Link::at(st, slot, l);
+    let far = Port::at(st, m, k);
     fits(
         x.flow.credit,
         coming.credit,
@@ -112,8 +114,8 @@ fn count_with(
 ) -> bool
     ensures { result ≡ count_with (view st.now) slot.0 l m.0 k going coming }
 {
-    let x = line::at(st, slot, l);
-    let far = link::at(st, m, k);
+    let x = Line::at(st, slot, l);
+    let far = Link::at(st, m, k);
     let sum = far.flow.credit as u64 + going.credit as u64 + coming.tokens as u64;
     !(coming.hellos == 0) | (x.issued as u64 == sum)
 }

@@ -9,9 +9,10 @@ ghost use Rattle.cells.specs.World.{lined, lent};
 ghost use Rattle.line_clauses.specs.Lines.{walked_on, reached_from, reached, clear_of, nothing_comes, holds_over};
 
 use crate::loads::line_ready;
-use cells::line;
+use cells::line::Line;
 use cells::link::far_at;
 use cells::memories::Memories;
+use cells::record::Record;
 use clauses::contents::back;
 use grammar::stage::{Stage, next};
 use lines::load::is_token;
@@ -34,7 +35,7 @@ fn walked_on(m: &Memories, far: Slot, k: usize, s: Stage) -> Stage
     ensures { result ≡ walked_on (world_of m.now) far.0 k s }
 {
     if line_ready(m, far, k) {
-        let x = line::at(m.state, far, k);
+        let x = Line::at(m.state, far, k);
         return walk_line(m.lines, x.ring, far, k, s);
     }
     Stage::Bad
@@ -62,7 +63,7 @@ pub fn reached(m: &Memories, slot: Slot, p: usize) -> Stage
 fn is_clear(st: &[u32], lined: usize, slot: Slot, l: usize) -> bool
     ensures { result ≡ clear_of (view st.now) lined slot.0 l }
 {
-    let k = line::at(st, slot, l);
+    let k = Line::at(st, slot, l);
     (slot.0 < lined) & ((l < LINKS) & ((k.ring.head < CAPACITY) & (k.ring.held == 0)))
 }
 

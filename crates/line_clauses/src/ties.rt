@@ -7,9 +7,10 @@ ghost use Rattle.line_clauses.specs.Lines.{fed_over_to, fed_over, between, is_gr
 
 use crate::loads::load_on;
 use crate::reached::reached;
-use cells::link::far_at;
+use cells::line::Line;
+use cells::link::{Link, far_at};
 use cells::memories::Memories;
-use cells::{line, link};
+use cells::record::Record;
 use clauses::cables::far_enabled;
 use clauses::pairs::link_user;
 use clauses::ties::carried_for;
@@ -33,15 +34,15 @@ pub fn fed_over(m: &Memories, slot: Slot, l: usize) -> bool
 pub fn between(st: &[u32], slot: Slot, l: usize) -> bool
     ensures { result ≡ between (lined st.now []) slot.0 l }
 {
-    let k = line::at(st, slot, l);
-    let x = link::at(st, slot, l);
+    let k = Line::at(st, slot, l);
+    let x = Link::at(st, slot, l);
     (k.ring.held == 0) | ((x.setup.enabled == 1) & far_enabled(st, x.cable))
 }
 
 fn is_greeted(st: &[u32], f: Option<(Slot, usize)>) -> bool
     ensures { result ≡ on_far f false (is_greeted (lined st.now [])) }
 {
-    f.is_some_and(|(m, k)| link::at(st, m, k).flow.greeted == 1)
+    f.is_some_and(|(m, k)| Link::at(st, m, k).flow.greeted == 1)
 }
 
 // A credit is on a line only towards a greeted end.
@@ -64,7 +65,7 @@ pub fn hello_last(m: &Memories, slot: Slot, l: usize) -> bool
     ensures { result ≡ hello_last (world_of m.now) slot.0 l }
 {
     let on = load_on(m, slot, l);
-    let x = link::at(m.state, slot, l);
+    let x = Link::at(m.state, slot, l);
     let back = no_credit(m, far_at(m.state, slot, l));
     (on.hellos == 0) | ((x.flow.credit == 0) & ((on.behind == 0) & back))
 }

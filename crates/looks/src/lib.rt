@@ -1,6 +1,6 @@
 // Looks: read-only, for any state and any memory, without the Sound test. A place that is not there has
 // its answer: an all-zero record, or nothing. The records themselves are looked at by crate cells
-// (`node::count`, `node::at`, `link::at`, `port::at`, `tile::at`, `end::at`, `unit::at`, `line::at`), and whether the
+// (`node::count`, `Node::at`, `Link::at`, `Port::at`, `Tile::at`, `End::at`, `Unit::at`, `Line::at`), and whether the
 // network is quiet by crate sound (`is_quiet`).
 #![tactic(auto)]
 
@@ -10,7 +10,11 @@ ghost use Rattle.cells.specs.View.{view};
 ghost use Rattle.cells.specs.World.{world, lined};
 ghost use Rattle.looks.specs.Looks.{direction, held_at, port_token, line_token, end_token};
 
-use cells::{end, line, node, port};
+use cells::end::End;
+use cells::line::Line;
+use cells::node::Node;
+use cells::port::Port;
+use cells::record::Record;
 use lines::CAPACITY;
 use names::Slot;
 use names::size::{END_BUFFER, LINKS, PORTS};
@@ -20,7 +24,7 @@ use ports::{Counters, Queues};
 pub fn direction_of(st: &[u32], slot: Slot, bit: u32) -> u32
     ensures { result ≡ direction (view st.now) slot.0 bit }
 {
-    let k = node::at(st, slot);
+    let k = Node::at(st, slot, 0);
     let d = k.directions;
     d.entry(bit)
 }
@@ -61,7 +65,7 @@ fn held_at<const MANY: usize, const N: u32>(
 pub fn port_token(st: &[u32], mem: &[u16], slot: Slot, p: usize, i: u32) -> Option<u32>
     ensures { result ≡ port_token (world st.now mem.now) slot.0 p i }
 {
-    let k = port::at(st, slot, p);
+    let k = Port::at(st, slot, p);
     held_at::<PORTS, { Counters::CAPACITY }>(k.counters, mem, slot, p, i)
 }
 
@@ -69,7 +73,7 @@ pub fn port_token(st: &[u32], mem: &[u16], slot: Slot, p: usize, i: u32) -> Opti
 pub fn line_token(st: &[u32], ls: &[u16], slot: Slot, l: usize, i: u32) -> Option<u32>
     ensures { result ≡ line_token (lined st.now ls.now) slot.0 l i }
 {
-    let k = line::at(st, slot, l);
+    let k = Line::at(st, slot, l);
     held_at::<LINKS, CAPACITY>(k.ring, ls, slot, l, i)
 }
 
@@ -78,7 +82,7 @@ pub fn line_token(st: &[u32], ls: &[u16], slot: Slot, l: usize, i: u32) -> Optio
 pub fn end_token(st: &[u32], slot: Slot, c: usize, i: usize) -> Option<u32>
     ensures { result ≡ end_token (view st.now) slot.0 c i }
 {
-    let k = end::at(st, slot, c);
+    let k = End::at(st, slot, c);
     if i >= END_BUFFER {
         return None;
     }

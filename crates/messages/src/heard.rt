@@ -7,8 +7,9 @@ ghost use Rattle.messages.specs.Heard.{hears_word, listens, token, two_data, two
 ghost use Rattle.messages.specs.Heard.{order_of, message_of};
 
 use crate::register::{Register, is_known, register_of};
+use cells::record::Record;
 use cells::unit;
-use cells::unit::Hearing;
+use cells::unit::{Hearing, Unit};
 use names::size::UNIT_BUFFER;
 use names::{NodeNumber, Slot};
 use tokens::header::{Target, is_channel};
@@ -50,7 +51,7 @@ pub fn listen(st: &mut [u32], slot: Slot, word: u16)
     requires { slot.0 < (view st.old).nodes }
     ensures { view st.new ≡ listens (view st.old) slot.0 word }
 {
-    let k = unit::at(st, slot);
+    let k = Unit::at(st, slot, 0);
     unit::put_hearing(st, slot, hears_word(k.hearing, word));
 }
 

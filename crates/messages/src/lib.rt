@@ -21,7 +21,8 @@ use crate::register::read;
 use crate::reply::{Reply, send};
 use crate::write::write;
 use answers::Answer;
-use cells::unit;
+use cells::record::Record;
+use cells::unit::Unit;
 use names::Slot;
 
 // A write that was accepted is acknowledged.
@@ -59,7 +60,7 @@ pub fn end_message(st: &mut [u32], mem: &mut [u16], ls: &mut [u16], slot: Slot, 
     ensures { out (Ok result) (lent st.new mem.new ls.new)
         ≡ ended (lent st.old mem.old ls.old) slot.0 word }
 {
-    let k = unit::at(st, slot);
+    let k = Unit::at(st, slot, 0);
     let m = message_of(k.hearing, word);
     obey(st, mem, ls, slot, m)
 }

@@ -6,7 +6,9 @@ ghost use Rattle.cells.specs.View.{view};
 ghost use Rattle.messages.specs.declared.register.Register.TheVariants.{Width};
 ghost use Rattle.messages.specs.Register.{link_in, register_of, is_known, read_of};
 
-use cells::{link, node};
+use cells::link::Link;
+use cells::node::Node;
+use cells::record::Record;
 use names::Slot;
 
 #[derive(Clone, Copy)]
@@ -72,7 +74,7 @@ pub fn is_known(r: Register) -> bool
 fn read_width(st: &[u32], slot: Slot) -> u32
     ensures { result ≡ read_of (view st.now) slot.0 Width }
 {
-    let k = node::at(st, slot);
+    let k = Node::at(st, slot, 0);
     if k.width == 1 {
         return 1;
     }
@@ -87,23 +89,23 @@ pub fn read(st: &[u32], slot: Slot, r: Register) -> u32
         Register::Unknown => 0,
         Register::Width => read_width(st, slot),
         Register::Number => {
-            let k = node::at(st, slot);
+            let k = Node::at(st, slot, 0);
             k.number
         }
         Register::LowDirections => {
-            let k = node::at(st, slot);
+            let k = Node::at(st, slot, 0);
             k.directions.first
         }
         Register::HighDirections => {
-            let k = node::at(st, slot);
+            let k = Node::at(st, slot, 0);
             k.directions.second
         }
         Register::Route(l) => {
-            let k = link::at(st, slot, l);
+            let k = Link::at(st, slot, l);
             k.setup.direction % 16 * 0x0100 + k.setup.network % 4 * 0x0010
         }
         Register::State(l) => {
-            let k = link::at(st, slot, l);
+            let k = Link::at(st, slot, l);
             k.setup.enabled % 2 * 0x8000_0000
         }
     }

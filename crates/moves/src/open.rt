@@ -7,7 +7,9 @@ ghost use Rattle.moves.specs.Moves.{opens_out, opens_channel, serves, opens_unit
 ghost use Rattle.moves.specs.Moves.{closes_channel, serves_nobody, closes_unit, closes_dropped};
 
 use acts::circuit::{claim, set_hop, set_tile_user, set_user, shut};
+use cells::record::Record;
 use cells::unit;
+use cells::unit::Unit;
 use circuits::{Hop, Peer, of_peer};
 use names::Slot;
 use tokens::word::closes;
@@ -36,7 +38,7 @@ fn serve(st: &mut [u32], slot: Slot, p: usize)
     requires { (slot.0 < (view st.old).nodes) × (p < ports) }
     ensures { view st.new ≡ serves (view st.old) slot.0 p }
 {
-    let k = unit::at(st, slot);
+    let k = Unit::at(st, slot, 0);
     let mut x = k.hearing;
     x.heard = 0;
     unit::put_serves(st, slot, of_peer(Peer::Port(p as u32)));

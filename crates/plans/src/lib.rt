@@ -17,7 +17,11 @@ use crate::read::{
 };
 use acts::circuit::channel_claimed;
 use acts::{channel_full, number_at, width_at, word_at};
-use cells::{link, node, port, unit};
+use cells::link::Link;
+use cells::node::Node;
+use cells::port::Port;
+use cells::record::Record;
+use cells::unit::Unit;
 use circuits::{Cause, Hop, hop_of};
 use names::Slot;
 use names::size::REPLY_PORT;
@@ -79,8 +83,8 @@ fn channel_plan(st: &[u32], slot: Slot, c: usize) -> Plan
 fn unit_plan(st: &[u32], slot: Slot) -> Plan
     ensures { result ≡ unit_plan (view st.now) slot.0 }
 {
-    let k = unit::at(st, slot);
-    let reply = port::at(st, slot, REPLY_PORT);
+    let k = Unit::at(st, slot, 0);
+    let reply = Port::at(st, slot, REPLY_PORT);
     let busy = !(k.serves.kind == 0) | !(reply.counters.held == 0);
     if busy {
         return Plan::Wait;
@@ -103,7 +107,7 @@ fn by_way(st: &[u32], slot: Slot, p: usize, g: Target, way: Option<u32>) -> Plan
     match way {
         None => here_plan(st, slot, g),
         Some(b) => {
-            let k = node::at(st, slot);
+            let k = Node::at(st, slot, 0);
             let d = k.directions;
             route_plan(st, slot, d.entry(b), network_at(st, slot, p))
         }
@@ -124,7 +128,7 @@ fn header_plan(st: &[u32], mem: &[u16], slot: Slot, p: usize) -> Plan
     ensures { result ≡ header_plan (world st.now mem.now) slot.0 p }
 {
     let width = marked_width(word_at(st, mem, slot, p, 0));
-    let k = port::at(st, slot, p);
+    let k = Port::at(st, slot, p);
     if k.counters.held < size_of(width) {
         return Plan::Wait;
     }
@@ -138,7 +142,7 @@ fn header_plan(st: &[u32], mem: &[u16], slot: Slot, p: usize) -> Plan
 fn out_plan(st: &[u32], slot: Slot, l: usize) -> Plan
     ensures { result ≡ out_plan (view st.now) slot.0 l }
 {
-    let k = link::at(st, slot, l);
+    let k = Link::at(st, slot, l);
     if k.flow.credit == 0 {
         return Plan::Wait;
     }
@@ -177,7 +181,7 @@ pub fn plan_of(st: &[u32], mem: &[u16], slot: Slot, p: usize) -> Plan
     requires { Reads (world st.now mem.now) slot.0 p 0 }
     ensures { result ≡ step_plan (world st.now mem.now) slot.0 p }
 {
-    let k = port::at(st, slot, p);
+    let k = Port::at(st, slot, p);
     if k.counters.held == 0 {
         return Plan::Idle;
     }

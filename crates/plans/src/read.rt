@@ -11,7 +11,10 @@ ghost use Rattle.plans.specs.Plan.{marked_width, size_of, target_at, network_at}
 ghost use Rattle.plans.specs.Plan.{number_in, candidate, free_candidate, tile_free, lowest_tile};
 
 use acts::word_at;
-use cells::{link, port, tile};
+use cells::link::Link;
+use cells::port::Port;
+use cells::record::Record;
+use cells::tile::Tile;
 use names::size::{LINKS, REPLY_PORT, TILE_LINKS};
 use names::{NodeNumber, Slot};
 use tokens::header::{Target, Width, read_one, read_three};
@@ -65,13 +68,13 @@ pub fn network_at(st: &[u32], slot: Slot, p: usize) -> u32
     ensures { result ≡ network_at (view st.now) slot.0 p }
 {
     if p < LINKS {
-        let k = link::at(st, slot, p);
+        let k = Link::at(st, slot, p);
         return k.setup.network;
     }
     if p == REPLY_PORT {
         return 0;
     }
-    let k = port::at(st, slot, p);
+    let k = Port::at(st, slot, p);
     k.network
 }
 
@@ -80,7 +83,7 @@ fn suits(st: &[u32], slot: Slot, d: u32, v: u32, free: bool, l: usize) -> bool
     ensures { result ≡ pick free
         (free_candidate (view st.now) slot.0 d v l) (candidate (view st.now) slot.0 d v l) }
 {
-    let k = link::at(st, slot, l);
+    let k = Link::at(st, slot, l);
     let candidate = (k.setup.enabled == 1) & ((k.setup.direction == d) & (k.setup.network == v));
     if free {
         return candidate & (k.user.kind == 0);
@@ -99,7 +102,7 @@ pub fn lowest_link(st: &[u32], slot: Slot, d: u32, v: u32, free: bool) -> Option
 fn tile_free(st: &[u32], slot: Slot, t: usize) -> bool
     ensures { result ≡ tile_free (view st.now) slot.0 t }
 {
-    let k = tile::at(st, slot, t);
+    let k = Tile::at(st, slot, t);
     k.user.kind == 0
 }
 

@@ -12,7 +12,10 @@ ghost use Rattle.settings.specs.Needs.{Settable, Settled};
 
 use crate::Setting;
 use answers::Answer;
-use cells::{link, node};
+use cells::link;
+use cells::link::Link;
+use cells::node::Node;
+use cells::record::Record;
 use names::{NodeNumber, Slot};
 use travel::line::{disable, hello};
 
@@ -20,18 +23,18 @@ fn set_number(st: &mut [u32], slot: Slot, number: NodeNumber)
     requires { slot.0 < (view st.old).nodes }
     ensures { view st.new ≡ with_node (view st.old) slot.0 (numbered_as ((view st.old).own slot.0 0) number.0) }
 {
-    let mut k = node::at(st, slot);
+    let mut k = Node::at(st, slot, 0);
     k.number = number.0 as u32;
-    node::put(st, slot, k);
+    Node::put(st, slot, 0, k);
 }
 
 fn set_width(st: &mut [u32], slot: Slot, v: u32)
     requires { slot.0 < (view st.old).nodes }
     ensures { view st.new ≡ with_node (view st.old) slot.0 (width_as ((view st.old).own slot.0 0) v) }
 {
-    let mut k = node::at(st, slot);
+    let mut k = Node::at(st, slot, 0);
     k.width = v;
-    node::put(st, slot, k);
+    Node::put(st, slot, 0, k);
 }
 
 fn set_direction(st: &mut [u32], slot: Slot, bit: u32, v: u32)
@@ -39,17 +42,17 @@ fn set_direction(st: &mut [u32], slot: Slot, bit: u32, v: u32)
     ensures { view st.new ≡ with_node (view st.old) slot.0
         (directions_as ((view st.old).own slot.0 0) (with_entry ((view st.old).own slot.0 0).directions bit v)) }
 {
-    let mut k = node::at(st, slot);
+    let mut k = Node::at(st, slot, 0);
     let d = k.directions;
     k.directions = d.with_entry(bit, v);
-    node::put(st, slot, k);
+    Node::put(st, slot, 0, k);
 }
 
 fn set_link_direction(st: &mut [u32], slot: Slot, l: usize, v: u32)
     requires { (slot.0 < (view st.old).nodes) × (l < links) }
     ensures { view st.new ≡ with_setup (view st.old) slot.0 l (directed_to ((view st.old).links.setups slot.0 l) v) }
 {
-    let k = link::at(st, slot, l);
+    let k = Link::at(st, slot, l);
     let mut x = k.setup;
     x.direction = v;
     link::put_setup(st, slot, l, x);
@@ -59,7 +62,7 @@ fn set_network(st: &mut [u32], slot: Slot, l: usize, v: u32)
     requires { (slot.0 < (view st.old).nodes) × (l < links) }
     ensures { view st.new ≡ with_setup (view st.old) slot.0 l (network_as ((view st.old).links.setups slot.0 l) v) }
 {
-    let k = link::at(st, slot, l);
+    let k = Link::at(st, slot, l);
     let mut x = k.setup;
     x.network = v;
     link::put_setup(st, slot, l, x);
@@ -74,7 +77,7 @@ fn set_enable(st: &mut [u32], slot: Slot, l: usize, v: u32)
         disable(st, slot, l);
         return;
     }
-    let k = link::at(st, slot, l);
+    let k = Link::at(st, slot, l);
     let mut x = k.setup;
     x.enabled = 1;
     link::put_setup(st, slot, l, x);

@@ -9,8 +9,11 @@ ghost use Rattle.settings.specs.Set.{disables_busy, hello_busy, set_busy, set_ro
 ghost use Rattle.settings.specs.Needs.{Settable, Settled};
 
 use crate::Setting;
-use cells::link::far_at;
-use cells::{line, link, node, port};
+use cells::line::Line;
+use cells::link::{Link, far_at};
+use cells::node;
+use cells::port::Port;
+use cells::record::Record;
 use names::no::No;
 use names::size::{BITS, DIRECTIONS, LINKS, NETWORKS};
 use names::{Slot, is_number};
@@ -50,8 +53,8 @@ fn in_range(x: Setting) -> bool
 fn end_in_use(st: &[u32], slot: Slot, l: usize) -> bool
     ensures { result ≡ end_in_use (view st.now) slot.0 l }
 {
-    let p = port::at(st, slot, l);
-    let k = link::at(st, slot, l);
+    let p = Port::at(st, slot, l);
+    let k = Link::at(st, slot, l);
     !((p.leg.circuit.kind == 0) & (p.counters.held == 0)) | !(k.user.kind == 0)
 }
 
@@ -72,7 +75,7 @@ fn in_use(st: &[u32], slot: Slot, l: usize) -> bool
 fn changes_network(st: &[u32], slot: Slot, l: usize, v: u32) -> bool
     ensures { result ≡ changes_network (view st.now) slot.0 l v }
 {
-    let k = link::at(st, slot, l);
+    let k = Link::at(st, slot, l);
     (k.setup.enabled == 1) & !(k.setup.network == v)
 }
 
@@ -80,7 +83,7 @@ fn changes_network(st: &[u32], slot: Slot, l: usize, v: u32) -> bool
 fn in_transit(st: &[u32], slot: Slot, l: usize) -> bool
     ensures { result ≡ in_transit (lined st.now []) slot.0 l }
 {
-    let k = line::at(st, slot, l);
+    let k = Line::at(st, slot, l);
     !(k.ring.held == 0)
 }
 
@@ -113,7 +116,7 @@ pub fn cable_signalled(st: &[u32], ls: &[u16], slot: Slot, l: usize) -> bool
 fn disables_busy(st: &[u32], slot: Slot, l: usize, v: u32) -> bool
     ensures { result ≡ disables_busy (lined st.now []) slot.0 l v }
 {
-    let k = link::at(st, slot, l);
+    let k = Link::at(st, slot, l);
     (v == 0) & ((k.setup.enabled == 1) & (in_use(st, slot, l) | cable_in_transit(st, slot, l)))
 }
 
@@ -123,7 +126,7 @@ fn hello_busy(st: &[u32], ls: &[u16], slot: Slot, l: usize) -> bool
         × FarLine (lined st.now ls.now) (far_of ((view st.now).links.cables slot.0 l)) }
     ensures { result ≡ hello_busy (lined st.now ls.now) slot.0 l }
 {
-    let k = link::at(st, slot, l);
+    let k = Link::at(st, slot, l);
     !(k.setup.enabled == 1) | cable_signalled(st, ls, slot, l)
 }
 

@@ -7,7 +7,8 @@ ghost use Rattle.cells.specs.View.{view};
 ghost use Rattle.settings.specs.Wire.{link_at, end_wired, wire_rows, cable_to, wired, wire};
 
 use answers::Answer;
-use cells::link::Cable;
+use cells::link::{Cable, Link};
+use cells::record::Record;
 use cells::{link, node};
 use names::Slot;
 use names::no::No;
@@ -22,7 +23,7 @@ pub fn link_at(st: &[u32], slot: Slot, l: usize) -> bool
 fn end_wired(st: &[u32], slot: Slot, l: usize) -> bool
     ensures { result ≡ end_wired (view st.now) slot.0 l }
 {
-    let k = link::at(st, slot, l);
+    let k = Link::at(st, slot, l);
     k.cable.wired == 1
 }
 

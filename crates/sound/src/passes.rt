@@ -7,9 +7,16 @@ ghost use Rattle.names.specs.Size.{links, ports, tile_links, ends};
 ghost use Rattle.cells.specs.World.{lent};
 ghost use Rattle.sound.specs.Clauses.{circuits, sound_clauses, asked};
 
+use cells::end::End;
 use cells::layout::LINE_WORDS;
+use cells::line::Line;
+use cells::link::Link;
 use cells::memories::Memories;
-use cells::{end, line, link, node, port, tile, unit};
+use cells::node::Node;
+use cells::port::Port;
+use cells::record::Record;
+use cells::tile::Tile;
+use cells::unit::Unit;
 use clauses::cables::{cable, credited, greeted};
 use clauses::contents::{contents, heard_tokens, held_tokens};
 use clauses::counts::{
@@ -24,8 +31,8 @@ pub fn of_node(m: &Memories, slot: Slot, i: usize) -> bool
     ensures { result ≡ asked sound_clauses 1 (world_of m.now) slot.0 i }
 {
     let served = agrees(m.state, slot, Role::UnitPort, i) & silent(m.state, slot);
-    let unit = unit_counts(unit::at(m.state, slot)) & (heard_tokens(m.state, slot) & served);
-    node_counts(node::at(m.state, slot)) & unit
+    let unit = unit_counts(Unit::at(m.state, slot, 0)) & (heard_tokens(m.state, slot) & served);
+    node_counts(Node::at(m.state, slot, 0)) & unit
 }
 
 pub fn of_link(m: &Memories, slot: Slot, l: usize) -> bool
@@ -33,8 +40,8 @@ pub fn of_link(m: &Memories, slot: Slot, l: usize) -> bool
 {
     let named = agrees(m.state, slot, Role::LinkPort, l) & lines_at(m, slot, l);
     let cabled = greeted(m.state, slot, l) & (cable(m.state, slot, l) & named);
-    let lined = line_counts(line::at(m.state, slot, l)) & (credited(m.state, slot, l) & cabled);
-    link_counts(link::at(m.state, slot, l)) & lined
+    let lined = line_counts(Line::at(m.state, slot, l)) & (credited(m.state, slot, l) & cabled);
+    link_counts(Link::at(m.state, slot, l)) & lined
 }
 
 // What a port names names it back.
@@ -49,7 +56,7 @@ fn port_circuits(m: &Memories, slot: Slot, p: usize) -> bool
 pub fn of_port(m: &Memories, slot: Slot, p: usize) -> bool
     ensures { result ≡ asked sound_clauses ports (world_of m.now) slot.0 p }
 {
-    let k = port::at(m.state, slot, p);
+    let k = Port::at(m.state, slot, p);
     let counts = port_counts(k, p);
     let held = if nothing_comes(m.state, m.lines.len() / LINE_WORDS, slot, p) {
         contents(m, slot, p)
@@ -66,7 +73,7 @@ pub fn of_port(m: &Memories, slot: Slot, p: usize) -> bool
 pub fn of_tile(m: &Memories, slot: Slot, t: usize) -> bool
     ensures { result ≡ asked sound_clauses tile_links (world_of m.now) slot.0 t }
 {
-    tile_counts(tile::at(m.state, slot, t)) & agrees(m.state, slot, Role::TilePort, t)
+    tile_counts(Tile::at(m.state, slot, t)) & agrees(m.state, slot, Role::TilePort, t)
 }
 
 // What a channel-end names names it back, and an open one is aimed.
@@ -82,7 +89,7 @@ fn end_circuits(m: &Memories, slot: Slot, c: usize) -> bool
 pub fn of_end(m: &Memories, slot: Slot, c: usize) -> bool
     ensures { result ≡ asked sound_clauses ends (world_of m.now) slot.0 c }
 {
-    let k = end::at(m.state, slot, c);
+    let k = End::at(m.state, slot, c);
     let counts = end_counts(k);
     let held = held_tokens(m.state, slot, c);
     let alone = (k.sending.kind == 0) & (k.claim.kind == 0);

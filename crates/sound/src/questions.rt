@@ -6,8 +6,12 @@ ghost use Rattle.cells.specs.View.{view};
 ghost use Rattle.cells.specs.World.{lent};
 ghost use Rattle.sound.specs.Questions.{Answers, tied, quiet_port, quiet_end, quiet_line};
 
+use cells::end::End;
+use cells::line::Line;
 use cells::memories::Memories;
-use cells::{end, line, node, port};
+use cells::node;
+use cells::port::Port;
+use cells::record::Record;
 use clauses::ties::{idle, unfed, unsent};
 use line_clauses::ties::{between, fed_over, hello_last, towards};
 use names::Slot;
@@ -25,21 +29,21 @@ pub(crate) fn tied(m: &Memories, slot: Slot, l: usize) -> bool
 pub(crate) fn quiet_port(st: &[u32], slot: Slot, p: usize) -> bool
     ensures { result ≡ quiet_port (view st.now) slot.0 p }
 {
-    let k = port::at(st, slot, p);
+    let k = Port::at(st, slot, p);
     (k.counters.held == 0) & (k.leg.circuit.kind == 0)
 }
 
 pub(crate) fn quiet_end(st: &[u32], slot: Slot, c: usize) -> bool
     ensures { result ≡ quiet_end (view st.now) slot.0 c }
 {
-    let k = end::at(st, slot, c);
+    let k = End::at(st, slot, c);
     (k.buffer.held == 0) & ((k.claim.kind == 0) & (k.sending.kind == 0))
 }
 
 pub(crate) fn quiet_line(st: &[u32], slot: Slot, l: usize) -> bool
     ensures { result ≡ quiet_line (view st.now) slot.0 l }
 {
-    let k = line::at(st, slot, l);
+    let k = Line::at(st, slot, l);
     k.ring.held == 0
 }
 

@@ -4,8 +4,15 @@ ghost use Rattle.cells.specs.Memories.{world_of};
 ghost use Rattle.cells.specs.World.{lent};
 ghost use Rattle.sound.specs.Tests.{holds_at, places};
 
+use cells::end::End;
+use cells::line::Line;
+use cells::link::Link;
 use cells::memories::Memories;
-use cells::{end, line, link, node, port, tile, unit};
+use cells::node::Node;
+use cells::port::Port;
+use cells::record::Record;
+use cells::tile::Tile;
+use cells::unit::Unit;
 use clauses::cables::{cable, credited, greeted};
 use clauses::contents::{heard_tokens, held_tokens};
 use clauses::counts::{
@@ -68,12 +75,12 @@ pub fn holds_at(m: &Memories, t: Test, slot: Slot, i: usize) -> bool
     ensures { result ≡ holds_at t (world_of m.now) slot.0 i }
 {
     match t {
-        Test::Nodes => node_counts(node::at(m.state, slot)),
-        Test::Links => link_counts(link::at(m.state, slot, i)),
-        Test::Ports => port_counts(port::at(m.state, slot, i), i),
-        Test::Tiles => tile_counts(tile::at(m.state, slot, i)),
-        Test::Ends => end_counts(end::at(m.state, slot, i)),
-        Test::Units => unit_counts(unit::at(m.state, slot)),
+        Test::Nodes => node_counts(Node::at(m.state, slot, 0)),
+        Test::Links => link_counts(Link::at(m.state, slot, i)),
+        Test::Ports => port_counts(Port::at(m.state, slot, i), i),
+        Test::Tiles => tile_counts(Tile::at(m.state, slot, i)),
+        Test::Ends => end_counts(End::at(m.state, slot, i)),
+        Test::Units => unit_counts(Unit::at(m.state, slot, 0)),
         Test::Credited => credited(m.state, slot, i),
         Test::Greeted => greeted(m.state, slot, i),
         Test::Room => room_over(m, slot, i),
@@ -84,7 +91,7 @@ pub fn holds_at(m: &Memories, t: Test, slot: Slot, i: usize) -> bool
         Test::OpenEnd => open_end(m.state, slot, i),
         Test::Silent => silent(m.state, slot),
         Test::Heard => heard_tokens(m.state, slot),
-        Test::Lines => line_counts(line::at(m.state, slot, i)),
+        Test::Lines => line_counts(Line::at(m.state, slot, i)),
         Test::Few => few_on(m, slot, i),
         Test::Counted => counted(m, slot, i),
         Test::Unlined => unlined(m.state, slot, i),

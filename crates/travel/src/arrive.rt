@@ -11,7 +11,9 @@ ghost use Rattle.travel.specs.Needs.{Arrives, StepsTo, LineSteps};
 use crate::grant::consider;
 use crate::line::{less_one, take};
 use acts::push;
-use cells::link::far_at;
+use cells::line::Line;
+use cells::link::{Link, far_at};
+use cells::record::Record;
 use cells::{line, link};
 use lines::load::{credit_of, is_hello};
 use names::Slot;
@@ -21,7 +23,7 @@ fn receive(st: &mut [u32], slot: Slot, k: usize)
     requires { (slot.0 < (view st.old).nodes) × (k < links) }
     ensures { view st.new ≡ received (view st.old) slot.0 k }
 {
-    let x = line::at(st, slot, k);
+    let x = Line::at(st, slot, k);
     line::put_issued(st, slot, k, less_one(x.issued));
 }
 
@@ -40,7 +42,7 @@ fn credit_in(st: &mut [u32], slot: Slot, k: usize, g: u32)
     requires { (slot.0 < (view st.old).nodes) × (k < links) × (((view st.old).links.flows slot.0 k).credit + g < 2 ^ 32) }
     ensures { view st.new ≡ credit_in (view st.old) slot.0 k g }
 {
-    let x = link::at(st, slot, k);
+    let x = Link::at(st, slot, k);
     let mut f = x.flow;
     f.credit = f.credit + g;
     link::put_flow(st, slot, k, f);
@@ -51,7 +53,7 @@ fn hello_in(st: &mut [u32], a: Slot, l: usize, b: Slot, k: usize)
     requires { (a.0 < (view st.old).nodes) × (l < links) × (b.0 < (view st.old).nodes) × (k < links) }
     ensures { view st.new ≡ hello_in (view st.old) a.0 l b.0 k }
 {
-    let x = link::at(st, a, l);
+    let x = Link::at(st, a, l);
     let mut f = x.flow;
     f.greeted = 1;
     link::put_flow(st, a, l, f);
@@ -102,7 +104,7 @@ fn step_to(
         × (lent st.new mem.new ls.new
         ≡ left_by (lent st.old mem.old ls.old) a.0 l (At b k)) }
 {
-    let x = line::at(st, a, l);
+    let x = Line::at(st, a, l);
     if x.ring.held == 0 {
         return None;
     }

@@ -7,8 +7,11 @@ ghost use Rattle.travel.specs.Travel.{may_grant, by_count, grant_due, issues, gr
 ghost use Rattle.travel.specs.Needs.{FarLine, LineThere, Grants};
 
 use crate::line::{load_from, put};
-use cells::link::far_at;
-use cells::{line, link, port};
+use cells::line;
+use cells::line::Line;
+use cells::link::{Link, far_at};
+use cells::port::Port;
+use cells::record::Record;
 use credits::grant;
 use lines::CAPACITY;
 use lines::load::word_of;
@@ -19,7 +22,7 @@ fn may_grant(st: &[u32], ls: &[u16], slot: Slot, l: usize) -> bool
     requires { LineThere (lined st.now ls.now) slot.0 l }
     ensures { result ≡ may_grant (lined st.now ls.now) slot.0 l }
 {
-    let k = link::at(st, slot, l);
+    let k = Link::at(st, slot, l);
     if k.flow.greeted != 1 {
         return false;
     }
@@ -31,11 +34,11 @@ fn may_grant(st: &[u32], ls: &[u16], slot: Slot, l: usize) -> bool
 fn by_count(st: &[u32], slot: Slot, k: usize) -> u32
     ensures { result ≡ by_count (lined st.now []) slot.0 k }
 {
-    let x = line::at(st, slot, k);
+    let x = Line::at(st, slot, k);
     if x.ring.held >= CAPACITY {
         return 0;
     }
-    let p = port::at(st, slot, k);
+    let p = Port::at(st, slot, k);
     grant(x.issued, p.counters.held)
 }
 
@@ -61,7 +64,7 @@ fn issue(st: &mut [u32], ls: &mut [u16], slot: Slot, k: usize, g: u32)
         × ((view st.old).lines.issued slot.0 k + g < 2 ^ 32) }
     ensures { lined st.new ls.new ≡ issues (lined st.old ls.old) slot.0 k g }
 {
-    let x = line::at(st, slot, k);
+    let x = Line::at(st, slot, k);
     line::put_issued(st, slot, k, x.issued + g);
     put(st, ls, slot, k, word_of(g));
 }

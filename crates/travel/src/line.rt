@@ -9,7 +9,9 @@ ghost use Rattle.travel.specs.Travel.{load_from, put_on, first_on, taken_off, cr
 ghost use Rattle.travel.specs.Travel.{zeroed, far_zeroed, disabled};
 ghost use Rattle.travel.specs.Needs.{LineThere, Leads, Cabled};
 
-use cells::link::{Flow, far_of};
+use cells::line::Line;
+use cells::link::{Flow, Link, far_of};
+use cells::record::Record;
 use cells::{line, link};
 use clauses::cables::far_enabled;
 use lines::load::{HELLO, Load, load_at};
@@ -21,7 +23,7 @@ pub fn load_from(st: &[u32], ls: &[u16], slot: Slot, l: usize) -> Load
     requires { LineThere (lined st.now ls.now) slot.0 l }
     ensures { result ≡ load_from (lined st.now ls.now) slot.0 l }
 {
-    let k = line::at(st, slot, l);
+    let k = Line::at(st, slot, l);
     load_at(k.ring, ls, slot, l)
 }
 
@@ -31,7 +33,7 @@ pub fn put(st: &mut [u32], ls: &mut [u16], slot: Slot, l: usize, word: u16)
     requires { LineThere (lined st.old ls.old) slot.0 l × (((view st.old).lines.rings slot.0 l).held < line_capacity) }
     ensures { lined st.new ls.new ≡ put_on (lined st.old ls.old) slot.0 l word }
 {
-    let k = line::at(st, slot, l);
+    let k = Line::at(st, slot, l);
     let after = put_on(k.ring, ls, slot, l, word);
     line::put_ring(st, slot, l, after);
 }
@@ -43,7 +45,7 @@ pub fn take(st: &mut [u32], ls: &mut [u16], slot: Slot, l: usize) -> u16
     ensures { (result ≡ first_on (lined st.old ls.old) slot.0 l)
         × (lined st.new ls.new ≡ taken_off (lined st.old ls.old) slot.0 l) }
 {
-    let k = line::at(st, slot, l);
+    let k = Line::at(st, slot, l);
     let taken = take_off(k.ring, ls, slot, l);
     line::put_ring(st, slot, l, taken.counters);
     taken.token
@@ -54,7 +56,7 @@ fn lose_credit(st: &mut [u32], slot: Slot, l: usize)
     requires { (slot.0 < (view st.old).nodes) × (l < links) }
     ensures { view st.new ≡ credit_lost (view st.old) slot.0 l }
 {
-    let k = link::at(st, slot, l);
+    let k = Link::at(st, slot, l);
     let mut f = k.flow;
     f.credit = 0;
     link::put_flow(st, slot, l, f);
@@ -68,7 +70,7 @@ pub fn hello(st: &mut [u32], ls: &mut [u16], slot: Slot, l: usize)
         → ((view st.old).lines.rings slot.0 l).held < line_capacity) }
     ensures { lined st.new ls.new ≡ says_hello (lined st.old ls.old) slot.0 l }
 {
-    let k = link::at(st, slot, l);
+    let k = Link::at(st, slot, l);
     let heard = far_enabled(st, k.cable);
     lose_credit(st, slot, l);
     if heard {
@@ -91,7 +93,7 @@ fn pay(st: &mut [u32], slot: Slot, l: usize)
     requires { (slot.0 < (view st.old).nodes) × (l < links) }
     ensures { view st.new ≡ paid_one (view st.old) slot.0 l }
 {
-    let k = link::at(st, slot, l);
+    let k = Link::at(st, slot, l);
     let mut f = k.flow;
     f.credit = less_one(f.credit);
     link::put_flow(st, slot, l, f);
@@ -137,7 +139,7 @@ pub fn disable(st: &mut [u32], slot: Slot, l: usize)
     requires { (slot.0 < (view st.old).nodes) × (l < links) × Cabled (view st.old) slot.0 l }
     ensures { view st.new ≡ disabled (view st.old) slot.0 l }
 {
-    let k = link::at(st, slot, l);
+    let k = Link::at(st, slot, l);
     let mut x = k.setup;
     x.enabled = 0;
     zero(st, slot, l);

@@ -1,7 +1,0 @@
--- `cells::link::write` meets its contract: every word is stored, and each circuit in its own words. Assumes nothing.
-use Rattle.laws.proofs.Row.{listed}
-use Rattle.cells.specs.Layout.{link}
-use Rattle.cells.proofs.link.write.Goals as goal
-
-pub returns : goal.returns
-returns c = rw (c.write.ensures, listed link.size c.args.w.now 0 c.requires)
