@@ -16,5 +16,5 @@ returns g c =
     let kind = g.R.Record in
     let k = kind.entry (view c.args.st.now) c.args.slot c.args.i in
     let fits : length c.args.out.now ≡ length (kind.to_words k) =
-        c.if-out-KIND.false ∙ ap (λ m. m.size) c.KIND.ensures ∙ sym (kind.laws.sized k) in
+    c.if-out-KIND.false ∙ ap (λ m. m.size) c.KIND.ensures ∙ sym (kind.laws.sized k) in
     shows_record (kind.to_words k) c.args.out.now c.write.new.w fits (c.write.ensures.words ∙ ap kind.to_words c.at.ensures)
