@@ -1,8 +1,10 @@
 // The fast link (002, 4.3): four symbols a sequence, values by wires 0 to 3, the escape by wire 4.
-ghost use Rattle.std.specs.Prelude.{◌≡◌, true, false, ◌++◌, ◌<◌, eqb, length};
+ghost use Rattle.std.specs.Prelude.{◌≡◌, ◌++◌, ◌<◌, eqb, get_or, length};
+ghost use Rattle.laws.specs.Pick.{pick};
+ghost use Rattle.tokens.specs.Word.{control_word};
 ghost use Rattle.probe.specs.Fast.{link_value, special, control_form, end_forms, pause_forms};
 ghost use Rattle.probe.specs.Fast.{return_forms, least_of, returned, control_one, fast, fast_width};
-ghost use Rattle.probe.specs.Fast.{control_said, row_says, symbols_say};
+ghost use Rattle.probe.specs.Fast.{link_level, control_said, symbols_say};
 ghost use Rattle.probe.specs.Wires.{after};
 ghost use Rattle.probe.specs.Needs.{place_in, lowest_two, alone};
 ghost use Rattle.std.proofs.Common.{lit<};
@@ -166,23 +168,10 @@ fn control_said(c: u8) -> Said
     Said::Token(of_control(c))
 }
 
-// Escape, escape, ..
-fn two_escapes(c: u8, d: u8) -> Said
-    ensures { result ≡ row_says true true (eqb c 4) (eqb d 4) 4 4 c d }
-{
-    if c == ESCAPE {
-        return Said::Nothing;
-    }
-    if d == ESCAPE {
-        return Said::Nothing;
-    }
-    Said::Token(word::END)
-}
-
-// Escape, value, escape, ..
+// Escape v escape v.
 fn link_said(b: u8, d: u8) -> Said
     requires { b < 4 }
-    ensures { result ≡ row_says true false true (eqb d 4) 4 b 4 d }
+    ensures { result ≡ pick (eqb b d) (Said.Token (control_word (get_or link_level b 0))) Said.Nothing }
 {
     if b != d {
         return Said::Nothing;
@@ -191,67 +180,24 @@ fn link_said(b: u8, d: u8) -> Said
     Said::Token(of_control(LINK_LEVEL[i]))
 }
 
-// Escape, ..
-fn escape_first(b: u8, c: u8, d: u8) -> Said
-    requires { (b < 5) × (c < 5) × (d < 5) }
-    ensures { result ≡ row_says true (eqb b 4) (eqb c 4) (eqb d 4) 4 b c d }
-{
-    if b == ESCAPE {
-        return two_escapes(c, d);
-    }
-    if c == ESCAPE {
-        return link_said(b, d);
-    }
-    if d == ESCAPE {
-        return Said::Return;
-    }
-    control_said(0xC0 + b * 16 + c * 4 + d)
-}
-
-// Value, escape, ..
-fn escape_second(a: u8, c: u8, d: u8) -> Said
-    requires { (a < 4) × (c < 5) × (d < 5) }
-    ensures { result ≡ row_says false true (eqb c 4) (eqb d 4) a 4 c d }
-{
-    if c == ESCAPE {
-        return Said::Nothing;
-    }
-    if d == ESCAPE {
-        return Said::Nothing;
-    }
-    control_said(0x80 + a * 16 + c * 4 + d)
-}
-
-// Value, value, ..
-#[tactic(auto, using(crate::proofs::Fasts::four_is))]
-fn two_values(a: u8, b: u8, c: u8, d: u8) -> Said
-    requires { (a < 4) × (b < 4) × (c < 5) × (d < 5) }
-    ensures { result ≡ row_says false false (eqb c 4) (eqb d 4) a b c d }
-{
-    if c == ESCAPE {
-        if d == ESCAPE {
-            return Said::Token(word::PAUSE);
-        }
-        return control_said(0x40 + a * 16 + b * 4 + d);
-    }
-    if d == ESCAPE {
-        return control_said(0x00 + a * 16 + b * 4 + c);
-    }
-    Said::Token((a * 64 + b * 16 + c * 4 + d) as u16)
-}
-
+// What four symbols say, by which of them are escapes.
 #[tactic(auto, unfolding(crate::specs::Fast::symbols_say))]
 fn symbols_say(a: u8, b: u8, c: u8, d: u8) -> Said
     requires { (a < 5) × (b < 5) × (c < 5) × (d < 5) }
     ensures { result ≡ symbols_say a b c d }
 {
-    if a == ESCAPE {
-        return escape_first(b, c, d);
+    match (a == ESCAPE, b == ESCAPE, c == ESCAPE, d == ESCAPE) {
+        (false, false, false, false) => Said::Token((a * 64 + b * 16 + c * 4 + d) as u16),
+        (true, false, false, false) => control_said(0xC0 + b * 16 + c * 4 + d),
+        (false, true, false, false) => control_said(0x80 + a * 16 + c * 4 + d),
+        (false, false, true, false) => control_said(0x40 + a * 16 + b * 4 + d),
+        (false, false, false, true) => control_said(0x00 + a * 16 + b * 4 + c),
+        (true, true, false, false) => Said::Token(word::END),
+        (false, false, true, true) => Said::Token(word::PAUSE),
+        (true, false, false, true) => Said::Return,
+        (true, false, true, false) => link_said(b, d),
+        _ => Said::Nothing,
     }
-    if b == ESCAPE {
-        return escape_second(a, c, d);
-    }
-    two_values(a, b, c, d)
 }
 
 pub struct Fast;
