@@ -9,7 +9,7 @@ ghost use Rattle.travel.specs.Travel.{came_by, left_by, line_came, line_stepped}
 ghost use Rattle.travel.specs.Needs.{Arrives, StepsTo, LineSteps};
 
 use crate::grant::consider;
-use crate::line::{less_one, take};
+use crate::line::take;
 use acts::push;
 use cells::line::Line;
 use cells::link::{Link, far_at};
@@ -24,7 +24,7 @@ fn receive(st: &mut [u32], slot: Slot, k: usize)
     ensures { view st.new ≡ received (view st.old) slot.0 k }
 {
     let x = Line::at(st, slot, k);
-    line::put_issued(st, slot, k, less_one(x.issued));
+    line::put_issued(st, slot, k, x.issued.saturating_sub(1));
 }
 
 // A token comes to a port.

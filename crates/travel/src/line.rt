@@ -78,16 +78,6 @@ pub fn hello(st: &mut [u32], ls: &mut [u16], slot: Slot, l: usize)
     }
 }
 
-// One less, and no less than none.
-pub fn less_one(n: u32) -> u32
-    ensures { result ≡ n - 1 }
-{
-    if n == 0 {
-        return 0;
-    }
-    n - 1
-}
-
 // "Each token moved over a link, header included, costs one credit."
 fn pay(st: &mut [u32], slot: Slot, l: usize)
     requires { (slot.0 < (view st.old).nodes) × (l < links) }
@@ -95,7 +85,7 @@ fn pay(st: &mut [u32], slot: Slot, l: usize)
 {
     let k = Link::at(st, slot, l);
     let mut f = k.flow;
-    f.credit = less_one(f.credit);
+    f.credit = f.credit.saturating_sub(1);
     link::put_flow(st, slot, l, f);
 }
 
