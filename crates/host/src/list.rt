@@ -25,11 +25,8 @@ pub extern "C" fn tarvelgyo_steps(
         return answer_number(Err(No::NoSuch));
     }
     let mut sure = false;
-    let mut i = 0;
-    while i < list.len() {
-        let x = list[i];
+    for (i, x) in list.iter().enumerate() {
         sure = step_into(st, mem, ls, results, i, x.slot, x.port, sure);
-        i = i + 1;
     }
     answer_number(Ok(Answer::Done))
 }

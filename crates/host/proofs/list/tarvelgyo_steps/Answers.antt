@@ -17,11 +17,10 @@ loop-i-preserved c =
     let l = c.loop-i in
     let made = c.step_into-sure.ensures in
     record {
-      within = omega arith;
       known = made.0;
       so_far =
           rw made.1
-          (sym (one_turn a.list.now a.st.now a.mem.now a.ls.now a.results.now (left (lent l.st l.mem l.ls) l.results) l.i c.loop-i-test.true)
+          (sym (one_turn a.list.now a.st.now a.mem.now a.ls.now a.results.now (left (lent l.st l.mem l.ls) l.results) l.i (omega arith))
           ∙ l.invariant.so_far);
     }
 
@@ -37,7 +36,7 @@ returns c =
       mem = l.mem;
       ls = l.ls;
       results = l.results;
-      within = l.invariant.within;
+      within = omega arith;
       known = l.invariant.known;
       so_far = l.invariant.so_far;
       st_len = omega arith;
