@@ -38,12 +38,13 @@ no_token Nothing h = refl
 module _ (F : Form) (xs : List ℕ) where
   -- what is left of the capture before the i-th sequence, and the width of a sequence
   pub record Left (i k : ℕ) (rest : List ℕ) : Type 0 where
+    pub wide : 0 < k
     pub size : k ≡ F.width
     pub inside : i * F.width ≤ length xs
     pub behind : rest ≡ drop (i * F.width) xs
 
-  pub left_all : (k : ℕ) (rest : List ℕ) → k ≡ F.width → rest ≡ xs → Left 0 k rest
-  left_all k rest e d = record { size = e; inside = rw zero-mul (omega arith); behind = rw zero-mul d }
+  pub left_all : (k : ℕ) (rest : List ℕ) → 0 < k → k ≡ F.width → rest ≡ xs → Left 0 k rest
+  left_all k rest w e d = record { wide = w; size = e; inside = rw zero-mul (omega arith); behind = rw zero-mul d }
 
   module _ (i k : ℕ) (rest : List ℕ) (l : Left i k rest) where
     -- one whole sequence more
@@ -63,6 +64,7 @@ module _ (F : Form) (xs : List ℕ) where
           let both : length (drop (i * F.width) xs) ≡ length q + length more = ap length parts ∙ length-append q more in
           let cut : length (drop (i * F.width) xs) ≡ length xs - i * F.width = length-drop (i * F.width) xs in
           record {
+            wide = l.wide;
             size = l.size;
             inside = rw (add-one, suc-mul) (omega (arith, l.inside, long));
             behind =
@@ -70,9 +72,12 @@ module _ (F : Form) (xs : List ℕ) where
                 (sym (drop_at q more F.width long) ∙ ap (drop F.width) (sym parts) ∙ drop-drop F.width (i * F.width) xs);
           }
 
-    pub is_whole : 0 < F.width → length rest < k → i ≡ whole F xs
+    wide : 0 < F.width
+    wide = rw l.size at l.wide
+
+    pub is_whole : length rest < k → i ≡ whole F xs
     unfolding whole
-    is_whole wide short =
+    is_whole short =
         let few : i ≤ length xs / F.width = (le-div_iff_mul-le wide).1 l.inside in
         let left : length rest ≡ length xs - i * F.width = ap length l.behind ∙ length-drop (i * F.width) xs in
         ⊎_elim
@@ -82,9 +87,9 @@ module _ (F : Form) (xs : List ℕ) where
         absurd (omega (arith, l.size, l.inside)))
         (order (length xs / F.width) (suc i))
 
-    pub in_whole : (q more : List ℕ) → 0 < F.width → rest ≡ q ++ more → length q ≡ k → i < whole F xs
+    pub in_whole : (q more : List ℕ) → rest ≡ q ++ more → length q ≡ k → i < whole F xs
     unfolding whole
-    in_whole q more wide e d =
+    in_whole q more e d =
         (le-div_iff_mul-le wide).1 (rw (← add-one) (left_more q more e d).inside)
 
   pub gathered_none : gathered F xs 0 ≡ []
@@ -138,10 +143,10 @@ module _ (F : Form) (xs : List ℕ) where
       next_is : gathered F xs (i + 1) ≡ gathered F xs i ++ (w ∷ [])
       next_is = rw (gathered_next, ← (is_said i k rest u.left q more e d), ← said)
 
-      pub has_room : 0 < F.width → length (tokens F xs) ≤ length l → (at < length b) × (at < length l)
-      has_room wide room =
+      pub has_room : length (tokens F xs) ≤ length l → (at < length b) × (at < length l)
+      has_room room =
           let few : length (gathered F xs (i + 1)) ≤ length (tokens F xs) =
-          gathered_grows (whole F xs) (i + 1) (rw add-one (in_whole i k rest u.left q more wide e d)) in
+          gathered_grows (whole F xs) (i + 1) (rw add-one (in_whole i k rest u.left q more e d)) in
           let one : length (gathered F xs (i + 1)) ≡ length (gathered F xs i) + 1 = rw next_is (length-append _ _) in
           let same : length b ≡ length l = ap length u.laid ∙ filled_long (gathered F xs i) l (omega arith) in
           (omega (arith, u.count), omega (arith, u.count))

@@ -9,7 +9,7 @@ loop-i-init g c =
     let items = c.enumerate-i-items.ensures in
     let chunks = c.chunks_exact.ensures in
     rw (c.into_iter-i-iterator.ensures.into_iter_gives, items.source, items.count) (record {
-      left = left_all g.L.Link.form c.args.capture.now _ _ (chunks.size ∙ c.WIDTH-width.ensures ∙ g.met.L.Link.width_is) chunks.rest;
+      left = left_all g.L.Link.form c.args.capture.now _ _ (rw (chunks.size, c.WIDTH-width.ensures) g.met.L.Link.wide) (chunks.size ∙ c.WIDTH-width.ensures ∙ g.met.L.Link.width_is) chunks.rest;
       count = rw gathered_none;
       sound = λ j h. absurd (omega arith);
     })
@@ -41,23 +41,20 @@ returns-in-Nothing g c =
     let steps = c.in-Some.ensures.steps in
     let left = c.loop-i.invariant.left in
     let here = is_said F c.args.capture.now _ _ _ left _ _ steps.0.1.0 steps.0.1.1 in
-    let wide = rw g.met.L.Link.width_is at g.met.L.Link.wide in
     rw (steps.1, c.WIDTH-width.ensures, g.met.L.Link.width_is)
     (judged_bad F c.args.capture.now _ c.loop-i.invariant.sound
-    (in_whole F c.args.capture.now _ _ _ left _ _ wide steps.0.1.0 steps.0.1.1) (sym here ∙ sym c.says.ensures ∙ c.in-Nothing.is))
+    (in_whole F c.args.capture.now _ _ _ left _ _ steps.0.1.0 steps.0.1.1) (sym here ∙ sym c.says.ensures ∙ c.in-Nothing.is))
 
 pub returns-then-capture-width-ne0 : goal.returns-then-capture-width-ne0
 returns-then-capture-width-ne0 g c =
     let F = g.L.Link.form in
-    let wide = rw g.met.L.Link.width_is at g.met.L.Link.wide in
-    let all = is_whole F c.args.capture.now _ _ _ c.loop-i.invariant.left wide c.in-None.ensures.steps.0.1.0 in
+    let all = is_whole F c.args.capture.now _ _ _ c.loop-i.invariant.left c.in-None.ensures.steps.0.1.0 in
     judged_cut F c.args.capture.now _ c.loop-i.invariant.sound all
     (rw (c.WIDTH-width.ensures, g.met.L.Link.width_is) at c.if-capture-width-ne0.true)
 
 pub returns : goal.returns
 returns g c =
     let F = g.L.Link.form in
-    let wide = rw g.met.L.Link.width_is at g.met.L.Link.wide in
-    let all = is_whole F c.args.capture.now _ _ _ c.loop-i.invariant.left wide c.in-None.ensures.steps.0.1.0 in
+    let all = is_whole F c.args.capture.now _ _ _ c.loop-i.invariant.left c.in-None.ensures.steps.0.1.0 in
     judged_whole F c.args.capture.now _ c.loop-i.invariant.sound all _ c.loop-i.invariant.count
     (rw (c.WIDTH-width.ensures, g.met.L.Link.width_is) at c.if-capture-width-ne0.false)
