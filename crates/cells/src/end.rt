@@ -113,7 +113,7 @@ pub fn put_aim(st: &mut [u32], slot: Slot, c: usize, x: Aim)
     requires { (slot.0 < (view st.old).nodes) × (c < ends) }
     ensures { view st.new ≡ with_aim (view st.old) slot.0 c x }
 {
-    End::change(st, slot, c, |k: &mut End| k.aim = x);
+    End::change(st, slot, c, move |k: &mut End| k.aim = x);
 }
 
 // Where its circuit goes, alone.
@@ -122,7 +122,7 @@ pub fn put_sending(st: &mut [u32], slot: Slot, c: usize, x: Circuit)
     requires { (slot.0 < (view st.old).nodes) × (c < ends) }
     ensures { view st.new ≡ with_sending (view st.old) slot.0 c x }
 {
-    End::change(st, slot, c, |k: &mut End| k.sending = x);
+    End::change(st, slot, c, move |k: &mut End| k.sending = x);
 }
 
 // Its claim alone.
@@ -131,7 +131,7 @@ pub fn put_claim(st: &mut [u32], slot: Slot, c: usize, x: Circuit)
     requires { (slot.0 < (view st.old).nodes) × (c < ends) }
     ensures { view st.new ≡ with_claim (view st.old) slot.0 c x }
 {
-    End::change(st, slot, c, |k: &mut End| k.claim = x);
+    End::change(st, slot, c, move |k: &mut End| k.claim = x);
 }
 
 // What it holds, alone.
@@ -140,5 +140,5 @@ pub fn put_buffer(st: &mut [u32], slot: Slot, c: usize, x: Buffer)
     requires { (slot.0 < (view st.old).nodes) × (c < ends) }
     ensures { view st.new ≡ with_buffer (view st.old) slot.0 c x }
 {
-    End::change(st, slot, c, |k: &mut End| k.buffer = x);
+    End::change(st, slot, c, move |k: &mut End| k.buffer = x);
 }

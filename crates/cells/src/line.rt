@@ -66,7 +66,7 @@ pub fn put_ring(st: &mut [u32], slot: Slot, l: usize, x: Counters)
     requires { (slot.0 < (view st.old).nodes) × (l < links) }
     ensures { view st.new ≡ with_ring (view st.old) slot.0 l x }
 {
-    Line::change(st, slot, l, |k: &mut Line| k.ring = x);
+    Line::change(st, slot, l, move |k: &mut Line| k.ring = x);
 }
 
 // The count of what is issued, alone.
@@ -75,5 +75,5 @@ pub fn put_issued(st: &mut [u32], slot: Slot, l: usize, x: u32)
     requires { (slot.0 < (view st.old).nodes) × (l < links) }
     ensures { view st.new ≡ with_issued (view st.old) slot.0 l x }
 {
-    Line::change(st, slot, l, |k: &mut Line| k.issued = x);
+    Line::change(st, slot, l, move |k: &mut Line| k.issued = x);
 }

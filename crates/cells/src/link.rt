@@ -141,7 +141,7 @@ pub fn put_cable(st: &mut [u32], slot: Slot, l: usize, x: Cable)
     requires { (slot.0 < (view st.old).nodes) × (l < links) }
     ensures { view st.new ≡ with_cable (view st.old) slot.0 l x }
 {
-    Link::change(st, slot, l, |k: &mut Link| k.cable = x);
+    Link::change(st, slot, l, move |k: &mut Link| k.cable = x);
 }
 
 // Its settings alone.
@@ -150,7 +150,7 @@ pub fn put_setup(st: &mut [u32], slot: Slot, l: usize, x: Setup)
     requires { (slot.0 < (view st.old).nodes) × (l < links) }
     ensures { view st.new ≡ with_setup (view st.old) slot.0 l x }
 {
-    Link::change(st, slot, l, |k: &mut Link| k.setup = x);
+    Link::change(st, slot, l, move |k: &mut Link| k.setup = x);
 }
 
 // Its greeting and credit alone.
@@ -159,7 +159,7 @@ pub fn put_flow(st: &mut [u32], slot: Slot, l: usize, x: Flow)
     requires { (slot.0 < (view st.old).nodes) × (l < links) }
     ensures { view st.new ≡ with_flow (view st.old) slot.0 l x }
 {
-    Link::change(st, slot, l, |k: &mut Link| k.flow = x);
+    Link::change(st, slot, l, move |k: &mut Link| k.flow = x);
 }
 
 // Its user alone.
@@ -168,5 +168,5 @@ pub fn put_user(st: &mut [u32], slot: Slot, l: usize, x: Circuit)
     requires { (slot.0 < (view st.old).nodes) × (l < links) }
     ensures { view st.new ≡ with_user (view st.old) slot.0 l x }
 {
-    Link::change(st, slot, l, |k: &mut Link| k.user = x);
+    Link::change(st, slot, l, move |k: &mut Link| k.user = x);
 }

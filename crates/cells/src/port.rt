@@ -93,7 +93,7 @@ pub fn put_counters(st: &mut [u32], slot: Slot, p: usize, x: Counters)
     requires { (slot.0 < (view st.old).nodes) × (p < ports) }
     ensures { view st.new ≡ with_counters (view st.old) slot.0 p x }
 {
-    Port::change(st, slot, p, |k: &mut Port| k.counters = x);
+    Port::change(st, slot, p, move |k: &mut Port| k.counters = x);
 }
 
 // Its circuit alone.
@@ -102,7 +102,7 @@ pub fn put_leg(st: &mut [u32], slot: Slot, p: usize, x: Leg)
     requires { (slot.0 < (view st.old).nodes) × (p < ports) }
     ensures { view st.new ≡ with_leg (view st.old) slot.0 p x }
 {
-    Port::change(st, slot, p, |k: &mut Port| k.leg = x);
+    Port::change(st, slot, p, move |k: &mut Port| k.leg = x);
 }
 
 // Its circuit's network alone.
@@ -111,7 +111,7 @@ pub fn put_network(st: &mut [u32], slot: Slot, p: usize, x: u32)
     requires { (slot.0 < (view st.old).nodes) × (p < ports) }
     ensures { view st.new ≡ with_network (view st.old) slot.0 p x }
 {
-    Port::change(st, slot, p, |k: &mut Port| k.network = x);
+    Port::change(st, slot, p, move |k: &mut Port| k.network = x);
 }
 
 // Its sender alone.
@@ -120,5 +120,5 @@ pub fn put_sender(st: &mut [u32], slot: Slot, p: usize, x: Circuit)
     requires { (slot.0 < (view st.old).nodes) × (p < ports) }
     ensures { view st.new ≡ with_sender (view st.old) slot.0 p x }
 {
-    Port::change(st, slot, p, |k: &mut Port| k.sender = x);
+    Port::change(st, slot, p, move |k: &mut Port| k.sender = x);
 }

@@ -28,7 +28,7 @@ pub trait Record: Copy {
     // Words read are the entry, and words written change it alone.
     ghost laws: { RecordLaws KIND of_words to_words entry with };
 
-    // What stands where there is no such record.
+    // What stands where there is no such record. It is no `Default`: its parts of crates below have none.
     fn none() -> Self
         ensures { result ≡ of_words [] };
 

@@ -80,7 +80,7 @@ pub fn put_serves(st: &mut [u32], slot: Slot, x: Circuit)
     requires { slot.0 < (view st.old).nodes }
     ensures { view st.new ≡ with_serving (view st.old) slot.0 x }
 {
-    Unit::change(st, slot, 0, |k: &mut Unit| k.serves = x);
+    Unit::change(st, slot, 0, move |k: &mut Unit| k.serves = x);
 }
 
 // What it has heard, alone.
@@ -89,5 +89,5 @@ pub fn put_hearing(st: &mut [u32], slot: Slot, x: Hearing)
     requires { slot.0 < (view st.old).nodes }
     ensures { view st.new ≡ with_hearing (view st.old) slot.0 x }
 {
-    Unit::change(st, slot, 0, |k: &mut Unit| k.hearing = x);
+    Unit::change(st, slot, 0, move |k: &mut Unit| k.hearing = x);
 }
