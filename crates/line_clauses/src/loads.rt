@@ -100,7 +100,10 @@ fn room_to(m: &Memories, slot: Slot, l: usize, far: Slot, k: usize) -> bool
 pub fn room_over(m: &Memories, slot: Slot, l: usize) -> bool
     ensures { result ≡ room_over (world_of m.now) slot.0 l }
 {
-    far_at(m.state, slot, l).is_none_or(|(far, k)| room_to(m, slot, l, far, k))
+    match far_at(m.state, slot, l) {
+        Some((far, k)) => room_to(m, slot, l, far, k),
+        None => true,
+    }
 }
 
 fn count_with(
@@ -133,7 +136,10 @@ fn count_to(m: &Memories, slot: Slot, l: usize, far: Slot, k: usize) -> bool
 pub fn counted(m: &Memories, slot: Slot, l: usize) -> bool
     ensures { result ≡ counted (world_of m.now) slot.0 l }
 {
-    far_at(m.state, slot, l).is_none_or(|(far, k)| count_to(m, slot, l, far, k))
+    match far_at(m.state, slot, l) {
+        Some((far, k)) => count_to(m, slot, l, far, k),
+        None => true,
+    }
 }
 
 fn lines_to(m: &Memories, slot: Slot, l: usize, far: Slot, k: usize) -> bool

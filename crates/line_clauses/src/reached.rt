@@ -44,7 +44,10 @@ fn walked_on(m: &Memories, far: Slot, k: usize, s: Stage) -> Stage
 fn reached_from(m: &Memories, s: Stage, f: Option<(Slot, usize)>) -> Stage
     ensures { result ≡ reached_from (world_of m.now) s f }
 {
-    f.map_or(s, |(far, k)| walked_on(m, far, k, s))
+    match f {
+        Some((far, k)) => walked_on(m, far, k, s),
+        None => s,
+    }
 }
 
 // Where a port's tokens end once those on the line to it have come.

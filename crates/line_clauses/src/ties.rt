@@ -27,7 +27,10 @@ fn fed_over_to(m: &Memories, slot: Slot, l: usize, far: Slot, k: usize) -> bool
 pub fn fed_over(m: &Memories, slot: Slot, l: usize) -> bool
     ensures { result ≡ fed_over (world_of m.now) slot.0 l }
 {
-    far_at(m.state, slot, l).is_none_or(|(far, k)| fed_over_to(m, slot, l, far, k))
+    match far_at(m.state, slot, l) {
+        Some((far, k)) => fed_over_to(m, slot, l, far, k),
+        None => true,
+    }
 }
 
 // A line is in use only where both ends are enabled.
@@ -57,7 +60,10 @@ pub fn towards(m: &Memories, slot: Slot, l: usize) -> bool
 fn no_credit(m: &Memories, f: Option<(Slot, usize)>) -> bool
     ensures { result ≡ on_far f false (no_credit (world_of m.now)) }
 {
-    f.is_some_and(|(far, k)| load_on(m, far, k).credits == 0)
+    match f {
+        Some((far, k)) => load_on(m, far, k).credits == 0,
+        None => false,
+    }
 }
 
 // While a HELLO is on a line its sender's credit is 0, no credit is on the line back, and no token stands behind it.
