@@ -1,16 +1,17 @@
 // A blank network of two nodes, and what is changed in it.
-use cells::end::{Buffer, End};
+use cells::end::End;
 use cells::layout::{LINE_WORDS, STRIDE, TOKEN_WORDS};
 use cells::line::Line;
-use cells::link::Link;
+use cells::link::{Cable, Flow, Link};
+use cells::node;
 use cells::node::Node;
-use cells::port::Port;
+use cells::port::{Leg, Port};
 use cells::record::Record;
 use cells::tile::Tile;
-use cells::unit::{Hearing, Unit};
-use cells::{node, unit};
+use cells::unit::Unit;
+use circuits::Circuit;
 use names::Slot;
-use names::size::{ENDS, LINKS, NODES, PORTS, TILE_LINKS};
+use names::size::{LINKS, NODES, PORTS};
 use ports::Counters;
 
 pub const WORDS: usize = 2 * STRIDE;
@@ -19,142 +20,113 @@ pub const TOKENS: usize = 2 * TOKEN_WORDS;
 
 pub const LINES: usize = 2 * LINE_WORDS;
 
+// One record changed, where there is one.
+fn change<R: Record, F: FnOnce(&mut R)>(st: &mut [u32], n: usize, i: usize, edit: F)
+    requires { F.IsAlwaysCallable edit }
+{
+    if n < node::count(st) {
+        if i < R::KIND.many {
+            R::change(st, Slot(n), i, edit);
+        }
+    }
+}
+
 pub fn set_width(st: &mut [u32], n: usize, width: u32) {
-    if n < node::count(st) {
-        let mut k = Node::at(st, Slot(n), 0);
-        k.width = width;
-        Node::put(st, Slot(n), 0, k);
-    }
-}
-
-pub fn put_link(st: &mut [u32], n: usize, l: usize, k: Link) {
-    if n < node::count(st) {
-        if l < LINKS {
-            Link::put(st, Slot(n), l, k);
-        }
-    }
-}
-
-pub fn put_port(st: &mut [u32], n: usize, p: usize, k: Port) {
-    if n < node::count(st) {
-        if p < PORTS {
-            Port::put(st, Slot(n), p, k);
-        }
-    }
-}
-
-pub fn put_tile(st: &mut [u32], n: usize, t: usize, k: Tile) {
-    if n < node::count(st) {
-        if t < TILE_LINKS {
-            Tile::put(st, Slot(n), t, k);
-        }
-    }
-}
-
-pub fn put_end(st: &mut [u32], n: usize, c: usize, k: End) {
-    if n < node::count(st) {
-        if c < ENDS {
-            End::put(st, Slot(n), c, k);
-        }
-    }
+    change(st, n, 0, move |k: &mut Node| k.width = width);
 }
 
 // How much is on a line, and what its link has issued.
 fn set_line(st: &mut [u32], n: usize, l: usize, held: u32, issued: u32) {
-    if n < node::count(st) {
-        if l < LINKS {
-            let ring = Counters { head: 0, held };
-            Line::put(st, Slot(n), l, Line { ring, issued });
-        }
-    }
+    let ring = Counters { head: 0, held };
+    change(st, n, l, move |k: &mut Line| *k = Line { ring, issued });
 }
 
 pub fn set_heard(st: &mut [u32], n: usize, heard: u32, token: u32) {
-    if n < node::count(st) {
-        let k = Unit::at(st, Slot(n), 0);
-        let mut t = k.hearing.tokens;
-        t[0] = token;
-        unit::put_hearing(st, Slot(n), Hearing { heard, tokens: t });
-    }
+    change(st, n, 0, move |k: &mut Unit| {
+        k.hearing.heard = heard;
+        k.hearing.tokens[0] = token;
+    });
 }
 
-pub fn set_serves(st: &mut [u32], n: usize, kind: u32, p: u32) {
-    if n < node::count(st) {
-        let mut k = Unit::at(st, Slot(n), 0);
-        k.serves.kind = kind;
-        k.serves.index = p;
-        Unit::put(st, Slot(n), 0, k);
-    }
+pub fn set_serves(st: &mut [u32], n: usize, kind: u32, index: u32) {
+    change(
+        st,
+        n,
+        0,
+        move |k: &mut Unit| k.serves = Circuit { kind, index },
+    );
 }
 
 // A link that is wired to link k of slot m.
 pub fn set_wired(st: &mut [u32], n: usize, l: usize, m: u32, k: u32) {
-    let mut x = Link::at(st, Slot(n), l);
-    x.cable.wired = 1;
-    x.cable.far_slot = m;
-    x.cable.far_link = k;
-    put_link(st, n, l, x);
+    let cable = Cable {
+        wired: 1,
+        far_slot: m,
+        far_link: k,
+    };
+    change(st, n, l, move |x: &mut Link| x.cable = cable);
 }
 
 pub fn set_credit(st: &mut [u32], n: usize, l: usize, enabled: u32, greeted: u32, credit: u32) {
-    let mut x = Link::at(st, Slot(n), l);
-    x.setup.enabled = enabled;
-    x.flow.greeted = greeted;
-    x.flow.credit = credit;
-    put_link(st, n, l, x);
+    change(st, n, l, move |k: &mut Link| {
+        k.setup.enabled = enabled;
+        k.flow = Flow { greeted, credit };
+    });
 }
 
-pub fn set_user(st: &mut [u32], n: usize, l: usize, kind: u32, p: u32) {
-    let mut x = Link::at(st, Slot(n), l);
-    x.user.kind = kind;
-    x.user.index = p;
-    put_link(st, n, l, x);
+pub fn set_user(st: &mut [u32], n: usize, l: usize, kind: u32, index: u32) {
+    change(
+        st,
+        n,
+        l,
+        move |k: &mut Link| k.user = Circuit { kind, index },
+    );
 }
 
-pub fn set_tile_user(st: &mut [u32], n: usize, t: usize, kind: u32, p: u32) {
-    let mut x = Tile::at(st, Slot(n), t);
-    x.user.kind = kind;
-    x.user.index = p;
-    put_tile(st, n, t, x);
+pub fn set_tile_user(st: &mut [u32], n: usize, t: usize, kind: u32, index: u32) {
+    change(
+        st,
+        n,
+        t,
+        move |k: &mut Tile| k.user = Circuit { kind, index },
+    );
 }
 
 pub fn set_hop(st: &mut [u32], n: usize, p: usize, kind: u32, index: u32, tile: u32) {
-    let mut x = Port::at(st, Slot(n), p);
-    x.leg.circuit.kind = kind;
-    x.leg.circuit.index = index;
-    x.leg.tile = tile;
-    put_port(st, n, p, x);
+    let circuit = Circuit { kind, index };
+    change(st, n, p, move |k: &mut Port| k.leg = Leg { circuit, tile });
 }
 
-pub fn set_sender(st: &mut [u32], n: usize, p: usize, kind: u32, e: u32) {
-    let mut x = Port::at(st, Slot(n), p);
-    x.sender.kind = kind;
-    x.sender.index = e;
-    put_port(st, n, p, x);
+pub fn set_sender(st: &mut [u32], n: usize, p: usize, kind: u32, index: u32) {
+    change(
+        st,
+        n,
+        p,
+        move |k: &mut Port| k.sender = Circuit { kind, index },
+    );
 }
 
-pub fn set_claim(st: &mut [u32], n: usize, c: usize, kind: u32, p: u32) {
-    let mut x = End::at(st, Slot(n), c);
-    x.claim.kind = kind;
-    x.claim.index = p;
-    put_end(st, n, c, x);
+pub fn set_claim(st: &mut [u32], n: usize, c: usize, kind: u32, index: u32) {
+    change(
+        st,
+        n,
+        c,
+        move |k: &mut End| k.claim = Circuit { kind, index },
+    );
 }
 
-pub fn set_sending(st: &mut [u32], n: usize, c: usize, aim: u32, kind: u32, p: u32) {
-    let mut x = End::at(st, Slot(n), c);
-    x.aim.kind = aim;
-    x.sending.kind = kind;
-    x.sending.index = p;
-    put_end(st, n, c, x);
+pub fn set_sending(st: &mut [u32], n: usize, c: usize, aim: u32, kind: u32, index: u32) {
+    change(st, n, c, move |k: &mut End| {
+        k.aim.kind = aim;
+        k.sending = Circuit { kind, index };
+    });
 }
 
 pub fn set_held(st: &mut [u32], n: usize, c: usize, held: u32, token: u32) {
-    let mut x = End::at(st, Slot(n), c);
-    let mut t = x.buffer.tokens;
-    t[0] = token;
-    let held = Buffer { held, tokens: t };
-    x.buffer = held;
-    put_end(st, n, c, x);
+    change(st, n, c, move |k: &mut End| {
+        k.buffer.held = held;
+        k.buffer.tokens[0] = token;
+    });
 }
 
 // A word of the token memory, at a place of a port's stretch.
@@ -173,9 +145,7 @@ fn set_memory(mem: &mut [u16], n: usize, p: usize, place: usize, word: u16) {
 
 // A port of slot 1 that holds so many of these words.
 pub fn set_words(st: &mut [u32], mem: &mut [u16], p: usize, held: u32, a: u16, b: u16, c: u16) {
-    let mut x = Port::at(st, Slot(1), p);
-    x.counters.held = held;
-    put_port(st, 1, p, x);
+    change(st, 1, p, move |k: &mut Port| k.counters.held = held);
     set_memory(mem, 1, p, 0, a);
     set_memory(mem, 1, p, 1, b);
     set_memory(mem, 1, p, 2, c);
@@ -183,9 +153,7 @@ pub fn set_words(st: &mut [u32], mem: &mut [u16], p: usize, held: u32, a: u16, b
 
 // A port that holds one word, or none.
 pub fn set_word(st: &mut [u32], mem: &mut [u16], n: usize, p: usize, held: u32, word: u16) {
-    let mut x = Port::at(st, Slot(n), p);
-    x.counters.held = held;
-    put_port(st, n, p, x);
+    change(st, n, p, move |k: &mut Port| k.counters.held = held);
     set_memory(mem, n, p, 0, word);
 }
 
