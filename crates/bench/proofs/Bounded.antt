@@ -2,12 +2,9 @@
 -- eight. So every answer of a call has its place in 64 bits. Assumes nothing.
 use Prim.{Unit, tt}
 use Prim.Native.Nat.{ℕ, ◌<◌, ◌≤◌}
-use mathlib.Core.Path.{◌≡◌, refl}
 use mathlib.Core.Bool.{Bool, true, false, not, ◌||◌}
-use mathlib.Core.List.{List, [], ◌∷◌}
 use native.Mathlib.Omega.{arith}
 use lib.Dec.{eqb, ltb, lit≤}
-use borrow.Author.Tests.{eqb-false}
 use Rattle.laws.specs.Pick.{pick}
 use Rattle.laws.proofs.Order.{by_test}
 use Rattle.names.specs.Size.{links, tile_links, reply_port}
@@ -22,7 +19,7 @@ use Rattle.tokens.specs.declared.header.Target.TheVariants as Targets
 use Rattle.routing.specs.Way.{way_to, Way, ThisNode, OtherNode}
 use Rattle.routing.specs.Direction.{entry_of}
 use Rattle.answers.specs.Answer.{answer_value}
-use Rattle.answers.specs.Rows.{Row, refusal, checked}
+use Rattle.answers.specs.Rows.{checked}
 use Rattle.answers.specs.Answered.{No, Done, Granted, Token, Idle, Waiting, Moved, OpenedLink, OpenedChannel}
 use Rattle.answers.specs.Answered.{Answered, OpenedUnit, Refused, Dropped, Malformed, Unheard, Arrived}
 use Rattle.answers.proofs.Refusals.{by_check}

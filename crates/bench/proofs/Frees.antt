@@ -10,7 +10,6 @@ use Rattle.laws.specs.All.{first}
 use Rattle.laws.proofs.Order.{by_test, clash}
 use Rattle.laws.proofs.Table.{upd_same}
 use Rattle.names.specs.Size.{links, tile_links, reply_port, sink}
-use Rattle.names.specs.No.{passes}
 use Rattle.names.specs.declared.Slot.{Slot}
 use Rattle.circuits.specs.Circuit.{hop_of, of_peer}
 use Rattle.circuits.specs.declared.Cause.TheVariants.{Split, NoRoute}
@@ -23,7 +22,7 @@ use Rattle.tokens.specs.declared.header.Target.{Target}
 use Rattle.tokens.specs.declared.header.Target.TheVariants.{Channel, Unit}
 use Rattle.routing.specs.Direction.{entry_of}
 use Rattle.routing.specs.Way.{way_to, Way, ThisNode, OtherNode}
-use Rattle.answers.specs.Rows.{refusal, checked}
+use Rattle.answers.specs.Rows.{checked}
 use Rattle.answers.proofs.Refusals.{by_check}
 use Rattle.cells.specs.View.{Net}
 use Rattle.cells.specs.World.{World, hop}

@@ -10,7 +10,6 @@ use lib.ListN.{length}
 use borrow.Author.Tests.{eq-eqb, ne_eqb}
 use Rattle.laws.specs.All.{Each}
 use Rattle.laws.proofs.Order.{by_test}
-use Rattle.names.specs.No.{number}
 use Rattle.names.specs.declared.no.No.TheVariants.{Unsound, NoSuch}
 use Rattle.names.specs.Size.{nodes}
 use Rattle.answers.specs.Out.{out}

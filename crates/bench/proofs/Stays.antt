@@ -27,7 +27,7 @@ use Rattle.tokens.specs.Header.{header_of, words}
 use Rattle.tokens.specs.declared.header.Target.{Target}
 use Rattle.ports.specs.Queue.{capacity}
 use Rattle.answers.specs.Answer.{number_of}
-use Rattle.answers.specs.Rows.{refusal, Passes, checked}
+use Rattle.answers.specs.Rows.{Passes, checked}
 use Rattle.answers.proofs.Refusals.{by_check, clear}
 use Rattle.cells.specs.View.{Net, EndTables}
 use Rattle.cells.specs.World.{World, queue}

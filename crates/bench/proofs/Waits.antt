@@ -2,11 +2,9 @@
 use Prim.Native.Nat.{ℕ}
 use mathlib.Core.Path.{◌≡◌, refl, sym, ◌∙◌}
 use mathlib.Core.Bool.{Bool, true, false}
-use lib.Dec.{eqb}
 use Rattle.laws.proofs.Order.{by_test, clash}
-use Rattle.names.specs.No.{passes}
 use Rattle.names.specs.declared.Slot.{Slot}
-use Rattle.answers.specs.Rows.{refusal, checked}
+use Rattle.answers.specs.Rows.{checked}
 use Rattle.answers.specs.Answered.{Answered}
 use Rattle.answers.specs.Answered as A
 use Rattle.answers.proofs.Refusals.{by_check}

@@ -2,7 +2,6 @@
 -- Fresh) state that fails the list").
 use Prim.{Unit}
 use Rattle.std.specs.Prelude.{ℕ, ◌≡◌, List, [], ◌∷◌}
-use Rattle.names.specs.No.{number}
 use Rattle.names.specs.declared.no.No.TheVariants.{Unsound}
 use Rattle.answers.specs.Answered.{Answered, No}
 use Rattle.bench.specs.Calls.{Call, Begin, Wire, Set, Aim, Output, Input, Step, Line, Steps}

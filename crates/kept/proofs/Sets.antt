@@ -9,10 +9,9 @@ use borrow.Author.Tests.{eqb-true, ltb-true, not-false}
 use Rattle.laws.proofs.All.{also, either, as_is, below, equal}
 use Rattle.laws.proofs.Order.{by_test, clash}
 use Rattle.names.specs.Size.{links, directions, networks}
-use Rattle.names.specs.No.{passes}
-use Rattle.answers.specs.Rows.{Row, refusal, Passes, checked}
+use Rattle.answers.specs.Rows.{Row, Passes, checked}
 use Rattle.answers.specs.Out.{Out, attempt}
-use Rattle.answers.proofs.Refusals.{passed, by_check, all_clear}
+use Rattle.answers.proofs.Refusals.{by_check, all_clear}
 use Rattle.cells.specs.World.{World}
 use Rattle.clauses.specs.Cables.{enabled}
 use Rattle.settings.specs.Set.{link_there, in_range, set_busy, set_rows, set_made, set_call}

@@ -5,7 +5,6 @@ use mathlib.Core.Path.{◌≡◌, sym, ap, ◌∙◌}
 use mathlib.Core.List.{List, map}
 use lib.ListN.{length}
 use borrow.Author.Tests.{eq-eqb, ne_eqb}
-use Rattle.names.specs.No.{number}
 use Rattle.names.specs.declared.no.No.TheVariants.{NoSuch}
 use Rattle.answers.specs.Answer.{answer_number}
 use Rattle.answers.specs.Answered.{No, Done}

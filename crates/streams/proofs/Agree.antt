@@ -56,7 +56,7 @@ use Rattle.streams.proofs.Fronts.{reads}
 use Rattle.streams.proofs.Sends.{put_each}
 use Rattle.streams.proofs.Noted.{AimsNoted}
 use Rattle.streams.proofs.Calls.{reply_events, obey_events, step_events, line_events, output_events, made_events, events_of}
-use Rattle.streams.proofs.Calls.{done, is_list, no_event, is_event}
+use Rattle.streams.proofs.Calls.{is_list, no_event, is_event}
 
 -- tokens put one by one
 puts_noted : (ts : List ℕ) (e d : ℕ) (g : Ghost) → books_of (notes (put_each e d ts) g) ≡ put_all e d ts (books_of g)

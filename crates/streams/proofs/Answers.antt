@@ -53,7 +53,6 @@ use Rattle.plans.specs.Plan.{marked_width}
 use Rattle.plans.proofs.Held.{size_some}
 use Rattle.acts.specs.Acts.{word_at}
 use Rattle.streams.specs.Observer.{misread}
-use Rattle.streams.proofs.Calls.{done}
 use Rattle.streams.proofs.Misreads.{not_misread, is_misread, goes_on_lem}
 
 -- SPLIT

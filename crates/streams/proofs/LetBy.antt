@@ -11,7 +11,6 @@ use mathlib.Core.List.{List, []}
 use Rattle.laws.specs.Pick.{pick}
 use Rattle.laws.proofs.Order.{by_test, clash}
 use Rattle.names.specs.Size.{nodes}
-use Rattle.names.specs.No.{number}
 use Rattle.names.specs.declared.no.No.TheVariants.{Unsound}
 use Rattle.answers.specs.Out.{Out, out}
 use Rattle.answers.specs.Answered.{Answered, No, Idle}

@@ -6,7 +6,7 @@ use mathlib.Core.Path.{◌≡◌, refl, sym, ap, ◌∙◌}
 use mathlib.Core.Bool.{true, false}
 use mathlib.Core.List.{List, [], ◌∷◌, ◌++◌}
 use Rattle.laws.specs.All.{Each}
-use Rattle.laws.proofs.Order.{by_test, never}
+use Rattle.laws.proofs.Order.{never}
 use Rattle.names.specs.Size.{ends}
 use Rattle.circuits.specs.declared.Peer.TheVariants as Peers
 use Rattle.names.specs.declared.no.No.{No as Why}

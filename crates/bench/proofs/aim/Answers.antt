@@ -1,5 +1,5 @@
 -- `bench::aim` meets its contract. Assumes nothing.
-use Rattle.std.proofs.Common.{refl, sym, ◌∙◌}
+use Rattle.std.proofs.Common.{refl}
 use Rattle.answers.specs.Out.{out}
 use Rattle.answers.specs.Answered.{Done}
 use Rattle.cells.specs.View.{view}

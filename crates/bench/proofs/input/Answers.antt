@@ -1,5 +1,5 @@
 -- `bench::input` meets its contract. Assumes nothing.
-use Rattle.std.proofs.Common.{refl, sym, ◌∙◌}
+use Rattle.std.proofs.Common.{refl}
 use Rattle.answers.specs.Out.{out}
 use Rattle.answers.specs.Answered.{Token}
 use Rattle.cells.specs.View.{view}

@@ -1,5 +1,5 @@
 -- `bench::output` meets its contract. Assumes nothing.
-use Rattle.std.proofs.Common.{refl, sym, ap, ◌∙◌}
+use Rattle.std.proofs.Common.{refl, ap, ◌∙◌}
 use Rattle.answers.specs.Out.{Out}
 use Rattle.cells.specs.View.{view}
 use Rattle.cells.specs.World.{World, world, lent}

@@ -1,5 +1,5 @@
 -- `bench::set` meets its contract. Assumes nothing.
-use Rattle.std.proofs.Common.{refl, sym, ◌∙◌}
+use Rattle.std.proofs.Common.{refl}
 use Rattle.cells.specs.World.{lined, lent}
 use Rattle.settings.specs.Set.{set_rows, set_call}
 use Rattle.settings.proofs.Lent.{settled_lent, called_lent}

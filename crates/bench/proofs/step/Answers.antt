@@ -1,5 +1,5 @@
 -- `bench::step` meets its contract. Assumes nothing.
-use Rattle.std.proofs.Common.{refl, sym, ◌∙◌}
+use Rattle.std.proofs.Common.{refl}
 use Rattle.cells.specs.View.{view}
 use Rattle.cells.specs.World.{lent}
 use Rattle.switch.specs.Step.{step_rows, step}
