@@ -13,6 +13,7 @@ pub record Row : Type 0 where
 abbrev pub refused_if : Bool → Why → Row
 refused_if b k = record { when = b; no = k }
 
+-- what the rows say: they let pass, or the first whose test holds refuses
 abbrev pub checked : List Row → Result Unit Why
 checked [] = Ok tt
 checked (r ∷ rs) = pick r.when (Err r.no) (checked rs)
