@@ -3,21 +3,29 @@
 ghost use Rattle.std.specs.Prelude.{◌≡◌};
 ghost use Rattle.probe.specs.Serial.{serial};
 ghost use Rattle.probe.specs.Fast.{fast};
+ghost use Rattle.probe.specs.Answer.{answer_number, answer_value};
 ghost use Rattle.probe.specs.Calls.{writing, reading};
 ghost use Rattle.host.specs.Crossed.{probing, probed};
 
-use probe::answer::{bears, number};
+use probe::answer::{Refusal, bears, number};
 use probe::form::Mode;
 use probe::{read, write};
+
+// The number of an answer; what it bears goes to the caller's word.
+fn answered(answer: Result<usize, Refusal>, value: &mut usize) -> u8
+    ensures number { result ≡ answer_number answer }
+    ensures value { value.new ≡ answer_value answer }
+{
+    *value = bears(answer);
+    number(answer)
+}
 
 // Tokens, oldest first, as transitions on two wires.
 #[unsafe(no_mangle)]
 pub extern "C" fn tarvelgyo_write_serial(tokens: &[u16], out: &mut [u8], value: &mut usize) -> u8
     ensures { probing result value.new out.new ≡ probed (writing serial tokens.now out.old) }
 {
-    let answer = write(Mode::Serial, tokens, out);
-    *value = bears(answer);
-    number(answer)
+    answered(write(Mode::Serial, tokens, out), value)
 }
 
 // .. on five wires.
@@ -25,9 +33,7 @@ pub extern "C" fn tarvelgyo_write_serial(tokens: &[u16], out: &mut [u8], value: 
 pub extern "C" fn tarvelgyo_write_fast(tokens: &[u16], out: &mut [u8], value: &mut usize) -> u8
     ensures { probing result value.new out.new ≡ probed (writing fast tokens.now out.old) }
 {
-    let answer = write(Mode::Fast, tokens, out);
-    *value = bears(answer);
-    number(answer)
+    answered(write(Mode::Fast, tokens, out), value)
 }
 
 // Transitions on two wires as tokens, without header marks.
@@ -35,9 +41,7 @@ pub extern "C" fn tarvelgyo_write_fast(tokens: &[u16], out: &mut [u8], value: &m
 pub extern "C" fn tarvelgyo_read_serial(capture: &[u8], out: &mut [u16], value: &mut usize) -> u8
     ensures { probing result value.new out.new ≡ probed (reading serial capture.now out.old) }
 {
-    let answer = read(Mode::Serial, capture, out);
-    *value = bears(answer);
-    number(answer)
+    answered(read(Mode::Serial, capture, out), value)
 }
 
 // .. on five wires.
@@ -45,7 +49,5 @@ pub extern "C" fn tarvelgyo_read_serial(capture: &[u8], out: &mut [u16], value: 
 pub extern "C" fn tarvelgyo_read_fast(capture: &[u8], out: &mut [u16], value: &mut usize) -> u8
     ensures { probing result value.new out.new ≡ probed (reading fast capture.now out.old) }
 {
-    let answer = read(Mode::Fast, capture, out);
-    *value = bears(answer);
-    number(answer)
+    answered(read(Mode::Fast, capture, out), value)
 }
