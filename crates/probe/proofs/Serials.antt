@@ -57,19 +57,21 @@ module _ (q : List ℕ) where
       no_bit l = rw (all_miss (λ j. ltb (get_or q j 0) 2) 10 i h (le-ltb (get_or q i 0) 2 (omega arith)))
 
   -- the end of the loop
-  pub ten : (i bits sum : ℕ) → Sofar i bits sum → 10 ≤ i → Sofar 10 bits sum
-  ten i bits sum s l = let e : i ≡ 10 = omega (arith, s.inside) in rw e at s
+  module _ (i bits sum : ℕ) (sofar : Sofar i bits sum) (l : 10 ≤ i) where
+    ten : Sofar 10 bits sum
+    ten = let e : i ≡ 10 = omega (arith, sofar.inside) in rw e at sofar
 
-  module _ (bits sum : ℕ) (s : Sofar 10 bits sum) where
     pub odd : sum % 2 ≡ 1 → Nothing ≡ serial_says q
     unfolding serial_says
     odd e =
+        let s = ten in
         let n : ones 10 q % 2 ≡ 1 = rw (← s.parity) e in
         rw (s.binary, ne_eqb (ones 10 q % 2) 0 (λ z. omega arith))
 
     pub even : (sum % 2 ≡ 1 → ⊥) → Token (bits / 4 + bits / 2 % 2 * 256) ≡ serial_says q
     unfolding serial_says number
     even e =
+        let s = ten in
         let n : ones 10 q % 2 ≡ 0 = rw (← s.parity) (omega arith) in
         let c : get_or q 8 0 < 2 = ltb-true (get_or q 8 0) 2 (at 10 (λ j. ltb (get_or q j 0) 2) s.binary 8 (omega arith)) in
         let p : get_or q 9 0 < 2 = ltb-true (get_or q 9 0) 2 (at 10 (λ j. ltb (get_or q j 0) 2) s.binary 9 (omega arith)) in
