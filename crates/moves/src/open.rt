@@ -34,15 +34,13 @@ pub fn open_channel(st: &mut [u32], slot: Slot, p: usize, c: usize, t: usize)
 }
 
 // The control unit serves a port, and has heard nothing of its message.
+#[tactic(auto, using(laws::proofs::Table::upd_own))]
 fn serve(st: &mut [u32], slot: Slot, p: usize)
     requires { (slot.0 < (view st.old).nodes) × (p < ports) }
     ensures { view st.new ≡ serves (view st.old) slot.0 p }
 {
-    let k = Unit::at(st, slot, 0);
-    let mut x = k.hearing;
-    x.heard = 0;
     unit::put_serves(st, slot, of_peer(Peer::Port(p as u32)));
-    unit::put_hearing(st, slot, x);
+    Unit::change(st, slot, 0, |k: &mut Unit| k.hearing.heard = 0);
 }
 
 // To the control unit.

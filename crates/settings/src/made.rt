@@ -12,7 +12,6 @@ ghost use Rattle.settings.specs.Needs.{Settable, Settled};
 
 use crate::Setting;
 use answers::Answer;
-use cells::link;
 use cells::link::Link;
 use cells::node::Node;
 use cells::record::Record;
@@ -23,18 +22,14 @@ fn set_number(st: &mut [u32], slot: Slot, number: NodeNumber)
     requires { slot.0 < (view st.old).nodes }
     ensures { view st.new ≡ with_node (view st.old) slot.0 (numbered_as ((view st.old).own slot.0 0) number.0) }
 {
-    let mut k = Node::at(st, slot, 0);
-    k.number = number.0 as u32;
-    Node::put(st, slot, 0, k);
+    Node::change(st, slot, 0, move |k: &mut Node| k.number = number.0 as u32);
 }
 
 fn set_width(st: &mut [u32], slot: Slot, v: u32)
     requires { slot.0 < (view st.old).nodes }
     ensures { view st.new ≡ with_node (view st.old) slot.0 (width_as ((view st.old).own slot.0 0) v) }
 {
-    let mut k = Node::at(st, slot, 0);
-    k.width = v;
-    Node::put(st, slot, 0, k);
+    Node::change(st, slot, 0, move |k: &mut Node| k.width = v);
 }
 
 fn set_direction(st: &mut [u32], slot: Slot, bit: u32, v: u32)
@@ -42,33 +37,29 @@ fn set_direction(st: &mut [u32], slot: Slot, bit: u32, v: u32)
     ensures { view st.new ≡ with_node (view st.old) slot.0
         (directions_as ((view st.old).own slot.0 0) (with_entry ((view st.old).own slot.0 0).directions bit v)) }
 {
-    let mut k = Node::at(st, slot, 0);
-    let d = k.directions;
-    k.directions = d.with_entry(bit, v);
-    Node::put(st, slot, 0, k);
+    let k = Node::at(st, slot, 0);
+    let directions = k.directions.with_entry(bit, v);
+    Node::change(st, slot, 0, move |k: &mut Node| k.directions = directions);
 }
 
+#[tactic(auto, using(laws::proofs::Table::upd_own))]
 fn set_link_direction(st: &mut [u32], slot: Slot, l: usize, v: u32)
     requires { (slot.0 < (view st.old).nodes) × (l < links) }
     ensures { view st.new ≡ with_setup (view st.old) slot.0 l (directed_to ((view st.old).links.setups slot.0 l) v) }
 {
-    let k = Link::at(st, slot, l);
-    let mut x = k.setup;
-    x.direction = v;
-    link::put_setup(st, slot, l, x);
+    Link::change(st, slot, l, move |k: &mut Link| k.setup.direction = v);
 }
 
+#[tactic(auto, using(laws::proofs::Table::upd_own))]
 fn set_network(st: &mut [u32], slot: Slot, l: usize, v: u32)
     requires { (slot.0 < (view st.old).nodes) × (l < links) }
     ensures { view st.new ≡ with_setup (view st.old) slot.0 l (network_as ((view st.old).links.setups slot.0 l) v) }
 {
-    let k = Link::at(st, slot, l);
-    let mut x = k.setup;
-    x.network = v;
-    link::put_setup(st, slot, l, x);
+    Link::change(st, slot, l, move |k: &mut Link| k.setup.network = v);
 }
 
 // Enabling greets nobody and gives no credit.
+#[tactic(auto, using(laws::proofs::Table::upd_own))]
 fn set_enable(st: &mut [u32], slot: Slot, l: usize, v: u32)
     requires { (slot.0 < (view st.old).nodes) × (l < links) × Cabled (view st.old) slot.0 l }
     ensures { view st.new ≡ enabled_or (view st.old) slot.0 l v }
@@ -77,10 +68,7 @@ fn set_enable(st: &mut [u32], slot: Slot, l: usize, v: u32)
         disable(st, slot, l);
         return;
     }
-    let k = Link::at(st, slot, l);
-    let mut x = k.setup;
-    x.enabled = 1;
-    link::put_setup(st, slot, l, x);
+    Link::change(st, slot, l, |k: &mut Link| k.setup.enabled = 1);
 }
 
 // The Set itself, for a node and a link that are there, of which HELLO finds room on its line.

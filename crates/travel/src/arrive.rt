@@ -38,25 +38,23 @@ fn token_in(st: &mut [u32], mem: &mut [u16], slot: Slot, k: usize, word: u16)
 }
 
 // A credit comes to a link.
+#[tactic(auto, using(laws::proofs::Table::upd_own))]
 fn credit_in(st: &mut [u32], slot: Slot, k: usize, g: u32)
     requires { (slot.0 < (view st.old).nodes) × (k < links) × (((view st.old).links.flows slot.0 k).credit + g < 2 ^ 32) }
     ensures { view st.new ≡ credit_in (view st.old) slot.0 k g }
 {
     let x = Link::at(st, slot, k);
-    let mut f = x.flow;
-    f.credit = f.credit + g;
-    link::put_flow(st, slot, k, f);
+    let credit = x.flow.credit + g;
+    Link::change(st, slot, k, move |x: &mut Link| x.flow.credit = credit);
 }
 
 // The HELLO of link l of slot a comes to link k of slot b.
+#[tactic(auto, using(laws::proofs::Table::upd_own))]
 fn hello_in(st: &mut [u32], a: Slot, l: usize, b: Slot, k: usize)
     requires { (a.0 < (view st.old).nodes) × (l < links) × (b.0 < (view st.old).nodes) × (k < links) }
     ensures { view st.new ≡ hello_in (view st.old) a.0 l b.0 k }
 {
-    let x = Link::at(st, a, l);
-    let mut f = x.flow;
-    f.greeted = 1;
-    link::put_flow(st, a, l, f);
+    Link::change(st, a, l, |x: &mut Link| x.flow.greeted = 1);
     line::put_issued(st, b, k, 0);
 }
 

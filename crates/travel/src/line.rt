@@ -52,14 +52,12 @@ pub fn take(st: &mut [u32], ls: &mut [u16], slot: Slot, l: usize) -> u16
 }
 
 // A link's own credit is 0 from the moment that its HELLO is sent.
+#[tactic(auto, using(laws::proofs::Table::upd_own))]
 fn lose_credit(st: &mut [u32], slot: Slot, l: usize)
     requires { (slot.0 < (view st.old).nodes) × (l < links) }
     ensures { view st.new ≡ credit_lost (view st.old) slot.0 l }
 {
-    let k = Link::at(st, slot, l);
-    let mut f = k.flow;
-    f.credit = 0;
-    link::put_flow(st, slot, l, f);
+    Link::change(st, slot, l, |k: &mut Link| k.flow.credit = 0);
 }
 
 // HELLO on an enabled link: lost where the far end is absent or disabled, and only where it is not does the line need room.
@@ -79,14 +77,14 @@ pub fn hello(st: &mut [u32], ls: &mut [u16], slot: Slot, l: usize)
 }
 
 // "Each token moved over a link, header included, costs one credit."
+#[tactic(auto, using(laws::proofs::Table::upd_own))]
 fn pay(st: &mut [u32], slot: Slot, l: usize)
     requires { (slot.0 < (view st.old).nodes) × (l < links) }
     ensures { view st.new ≡ paid_one (view st.old) slot.0 l }
 {
-    let k = Link::at(st, slot, l);
-    let mut f = k.flow;
-    f.credit = f.credit.saturating_sub(1);
-    link::put_flow(st, slot, l, f);
+    Link::change(st, slot, l, |k: &mut Link| {
+        k.flow.credit = k.flow.credit.saturating_sub(1);
+    });
 }
 
 // A token is sent over a link.
