@@ -1,5 +1,5 @@
 -- What a call on a channel-end that is not refused has. Assumes nothing.
-use Prim.{Unit as Nothing, tt}
+use Prim.{tt}
 use Prim.Native.Nat.{ℕ, ◌<◌}
 use mathlib.Core.Path.{◌≡◌}
 use mathlib.Core.Bool.{true}
@@ -10,19 +10,15 @@ use Rattle.laws.proofs.All.{also, below, as_is}
 use Rattle.names.specs.Size.{ends, networks}
 use Rattle.names.specs.Number.{is_number}
 use Rattle.names.proofs.Ranges.{number_fits}
-use Rattle.std.specs.Prelude.{Result, Ok, Err, IsErr}
-use Rattle.std.specs.Result.{IsErrAnd}
-use Rattle.names.specs.declared.no.No.{No as Why}
+use Rattle.std.specs.Prelude.{Ok}
 use Rattle.tokens.specs.Shape.{legal_channel}
 use Rattle.answers.specs.Rows.{checked}
-use Rattle.answers.specs.Out.{out}
-use Rattle.answers.specs.Answered.{Answered, Done, Token}
-use Rattle.answers.proofs.Refusals.{all_clear, hands_on}
+use Rattle.answers.proofs.Refusals.{all_clear}
 use Rattle.cells.specs.View.{Net}
 use Rattle.ends.specs.Ends.{end_at}
-use Rattle.ends.specs.Aim.{goal_ranged, aim_rows, aim_made, aim}
+use Rattle.ends.specs.Aim.{goal_ranged, aim_rows}
 use Rattle.ends.specs.Needs.{GoalFits}
-use Rattle.ends.specs.Input.{input_rows, input_value, input_made, input}
+use Rattle.ends.specs.Input.{input_rows}
 use Rattle.ends.specs.declared.aim.Goal.{Goal}
 use Rattle.ends.specs.declared.aim.Goal.TheVariants.{Channel, Unit}
 use Rattle.ends.specs.declared.Wanted.{Wanted}
@@ -53,15 +49,3 @@ some_held s n c k e =
   where
     above : (h : ℕ) → (h ≡ 0 → ⊥) → 0 < h
     above h ne = omega arith
-
--- Refused, as the rows say
-module _ (s : Net) (n c : ℕ) (r : Result Nothing Why) (a : Answered) (k : Why) where
-  pub aim_refuses : (g : Goal) (v : ℕ) → r ≡ checked (aim_rows s n c g v) → IsErr a × IsErrAnd a (λ j. j ≡ k) → r ≡ Err k
-      → out a s ≡ aim s n c g v
-  unfolding aim
-  aim_refuses g v e = hands_on (aim_rows s n c g v) s (out Done (aim_made s n c g v)) r e a k
-
-  pub input_refuses : (x : Wanted) → r ≡ checked (input_rows s n c x) → IsErr a × IsErrAnd a (λ j. j ≡ k) → r ≡ Err k
-      → out a s ≡ input s n c x
-  unfolding input
-  input_refuses x e = hands_on (input_rows s n c x) s (out (Token (input_value s n c)) (input_made s n c)) r e a k
