@@ -27,7 +27,7 @@ pub struct Aim {
     pub network: u32,
 }
 
-// What it holds.
+// What it holds: a count and an array, since both are words of the record.
 #[derive(Clone, Copy)]
 pub struct Buffer {
     pub held: u32,

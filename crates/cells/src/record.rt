@@ -9,6 +9,8 @@ ghost use Rattle.cells.specs.declared.layout.Kind.{Kind};
 use crate::layout::{Kind, begins, words};
 use names::Slot;
 
+// A field is the word that stands there, whatever it is, and so no bool, enum or Option: the view leaves no word free (`whole_state`), and
+// what a word may be is a clause of Sound.
 pub trait Record: Copy {
     // How many a node has, and where they lie.
     const KIND: Kind;

@@ -16,7 +16,7 @@ const TOKENS: usize = 1;
 
 pub const OWN: usize = TOKENS + UNIT_BUFFER as usize;
 
-// What it has heard of a message, as far as it keeps it.
+// What it has heard of a message, as far as it keeps it: a count and an array, since both are words of the record.
 #[derive(Clone, Copy)]
 pub struct Hearing {
     pub heard: u32,

@@ -114,6 +114,8 @@ pub fn hop_at(st: &[u32], slot: Slot, p: usize) -> Hop
     hop_of(k.leg.circuit, k.leg.tile)
 }
 
+// One field of one record each: over a closure there would be as many lines.
+
 // The port whose circuit leaves by a link.
 pub fn link_user(st: &[u32], slot: Slot, i: usize) -> Peer
     ensures { result ≡ peer_of ((view st.now).links.users slot.0 i) }

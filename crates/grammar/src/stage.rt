@@ -8,7 +8,7 @@ ghost use Rattle.grammar.specs.declared.stage.Stage.TheVariants.{Bad, Fresh, Bod
 
 #[derive(Clone, Copy, PartialEq, Eq)]
 pub enum Stage {
-    // a rule was broken
+    // a rule was broken: a stage as the others, of which `next` answers too, and so no Option
     Bad,
     // between circuits: nothing comes next, or a header
     Fresh,

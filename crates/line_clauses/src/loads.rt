@@ -1,4 +1,5 @@
-// How much is on lines, and what Sound asks of it.
+// How much is on lines, and what Sound asks of it. A far end is matched, here and in ties: with `is_none_or` over a closure that holds all
+// memories the proof did not close.
 ghost use Rattle.std.specs.Prelude.{◌≡◌, [], ◌+◌, leb};
 ghost use Rattle.cells.specs.Memories.{world_of};
 ghost use Rattle.ports.specs.Queue.{capacity};

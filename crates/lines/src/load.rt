@@ -45,7 +45,7 @@ pub fn is_hello(word: u16) -> bool
     word == HELLO
 }
 
-// The credit that a word brings, 0 where it is none.
+// The credit that a word brings, 0 where it is none: it is added up as it is, and so no Option.
 #[tactic(auto, unfolding(crate::specs::Load::credit_of))]
 pub fn credit_of(word: u16) -> u32
     ensures { result ≡ credit_of word }
@@ -92,7 +92,8 @@ fn before(word: u16, k: Load) -> Load
     }
 }
 
-// How much is on the line that starts at a link: from its near end to its far end, so that what is behind a HELLO is known when it comes.
+// How much is on the line that starts at a link: from its near end to its far end, so that what is behind a HELLO is known when it comes. A loop and no
+// fold, since `before` asks for how much has come so far.
 #[tactic(auto, using(crate::proofs::Loads::in_front_none, crate::proofs::Loads::within_more))]
 pub fn load_at(c: Counters, lines: &[u16], slot: Slot, l: usize) -> Load
     requires { LineFair c × (line_place slot.0 l + line_capacity ≤ length lines.now) }

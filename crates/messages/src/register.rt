@@ -13,7 +13,7 @@ use names::Slot;
 
 #[derive(Clone, Copy)]
 pub enum Register {
-    // an address without one
+    // an address without one; `read` and `write` answer of it too, and so no Option
     Unknown,
     // short headers
     Width,

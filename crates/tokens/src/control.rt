@@ -27,6 +27,7 @@ pub enum Class {
     Hardware,
 }
 
+// By the papers' ranges; no From, since the one rule that asks names the definition.
 pub fn class_of(v: u8) -> Class
     ensures { result ≡ class_of v }
 {

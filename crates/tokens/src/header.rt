@@ -25,7 +25,7 @@ pub enum Target {
     Unit(NodeNumber),
 }
 
-// A header's words as they go into a port; none where one byte can't carry the target.
+// A header's words as they go into a port; none where one byte can't carry the target, which callers put there too, and so no Option.
 #[derive(Clone, Copy)]
 pub enum Header {
     Narrow,
