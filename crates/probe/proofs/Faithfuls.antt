@@ -23,6 +23,7 @@ use Rattle.probe.specs.declared.form.Mode.{Mode}
 use Rattle.probe.specs.declared.form.Mode.TheVariants.{Serial, Fast}
 use Rattle.probe.specs.declared.sequence.Said.{Said}
 use Rattle.probe.specs.declared.sequence.Said.TheVariants.{Token, Return, Nothing}
+use Rattle.probe.proofs.Reading.{wide}
 use Rattle.probe.proofs.Tables.{at}
 
 -- what a sequence says, as tests
@@ -70,7 +71,7 @@ pub serial_faithful : Faithful serial
 unfolding serial
 serial_faithful =
     record {
-      wide = omega arith;
+      wide = wide Serial;
       tells = λ s t hs ht w. tested serial t (serial_one t) (at 512 (λ t. tells_test serial t (serial_one t)) serial_tested t ht);
     }
 
@@ -105,7 +106,7 @@ fast_tells s t hs ht w =
 
 pub fast_faithful : Faithful fast
 unfolding fast
-fast_faithful = record { wide = omega arith; tells = λ s t hs ht w. fast_tells s t hs ht (ltb-true t 508 w) }
+fast_faithful = record { wide = wide Fast; tells = λ s t hs ht w. fast_tells s t hs ht (ltb-true t 508 w) }
 
 pub faithful : (m : Mode) → Faithful (form_of m)
 faithful Serial = serial_faithful

@@ -6,15 +6,20 @@ use mathlib.Core.List.{List}
 use native.Mathlib.Nat.{pow-suc}
 use native.Mathlib.Numerals.{add-one}
 use native.Mathlib.Omega.{arith}
-use lib.Dec.{ltb}
+use lib.Dec.{ltb, leb}
 use lib.ListN.{get_or}
-use borrow.Author.Tests.{lt-ltb, le-ltb, ltb-true, eq-eqb, ne_eqb}
+use borrow.Author.Tests.{lt-ltb, le-ltb, ltb-true, eq-eqb, ne_eqb, leb-true}
 use Rattle.laws.specs.All.{all}
 use Rattle.laws.proofs.All.{all_none, all_more, all_miss}
 use Rattle.probe.specs.Digits.{number, ones}
 use Rattle.probe.specs.Serial.{serial_says}
 use Rattle.probe.specs.declared.sequence.Said.TheVariants.{Token, Nothing}
 use Rattle.probe.proofs.Tables.{at}
+
+-- a power of 2 below the tenth
+power : (i : ℕ) → i < 10 → 2 ^ i ≤ 512
+unfolding all
+power i h = leb-true (2 ^ i) 512 (at 10 (λ i. leb (2 ^ i) 512) refl i h)
 
 module _ (q : List ℕ) where
   -- the state of a loop before the i-th transition
@@ -39,6 +44,9 @@ module _ (q : List ℕ) where
       }
 
   module _ (i bits sum : ℕ) (s : Sofar i bits sum) where
+    pub few_bits : i < 10 → bits < 512
+    few_bits h = omega (arith, s.few, power i h)
+
     module _ (h : i < 10) where
       pub sofar_next : get_or q i 0 ≤ 1 → Sofar (i + 1) (bits * 2 + get_or q i 0) (sum + get_or q i 0)
       unfolding number ones
@@ -57,24 +65,26 @@ module _ (q : List ℕ) where
       no_bit l = rw (all_miss (λ j. ltb (get_or q j 0) 2) 10 i h (le-ltb (get_or q i 0) 2 (omega arith)))
 
   -- the end of the loop
-  module _ (i bits sum : ℕ) (sofar : Sofar i bits sum) (l : 10 ≤ i) where
-    ten : Sofar 10 bits sum
-    ten = let e : i ≡ 10 = omega (arith, sofar.inside) in rw e at sofar
+  pub ten : (i bits sum : ℕ) → Sofar i bits sum → 10 ≤ i → Sofar 10 bits sum
+  ten i bits sum s l = let e : i ≡ 10 = omega (arith, s.inside) in rw e at s
 
+  module _ (bits sum : ℕ) (s : Sofar 10 bits sum) where
     pub odd : sum % 2 ≡ 1 → Nothing ≡ serial_says q
     unfolding serial_says
     odd e =
-        let s = ten in
         let n : ones 10 q % 2 ≡ 1 = rw (← s.parity) e in
         rw (s.binary, ne_eqb (ones 10 q % 2) 0 (λ z. omega arith))
 
     pub even : (sum % 2 ≡ 1 → ⊥) → Token (bits / 4 + bits / 2 % 2 * 256) ≡ serial_says q
     unfolding serial_says number
     even e =
-        let s = ten in
         let n : ones 10 q % 2 ≡ 0 = rw (← s.parity) (omega arith) in
         let c : get_or q 8 0 < 2 = ltb-true (get_or q 8 0) 2 (at 10 (λ j. ltb (get_or q j 0) 2) s.binary 8 (omega arith)) in
         let p : get_or q 9 0 < 2 = ltb-true (get_or q 9 0) 2 (at 10 (λ j. ltb (get_or q j 0) 2) s.binary 9 (omega arith)) in
         let split : bits ≡ (number 2 8 q * 2 + get_or q 8 0) * 2 + get_or q 9 0 = s.value in
         let told : bits / 4 + bits / 2 % 2 * 256 ≡ number 2 8 q + 256 * get_or q 8 0 = omega arith in
         rw (s.binary, eq-eqb (ones 10 q % 2) 0 n) (ap Token told)
+
+  -- an odd number of ones at the end of the loop
+  pub odd_end : (i bits sum : ℕ) → Sofar i bits sum → 10 ≤ i → sum % 2 ≡ 1 → Nothing ≡ serial_says q
+  odd_end i bits sum s l e = odd bits sum (ten i bits sum s l) e

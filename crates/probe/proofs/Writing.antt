@@ -2,27 +2,32 @@
 use Prim.Native.Nat.{ℕ, suc, ◌+◌, ◌-◌, ◌<◌, ◌≤◌}
 use mathlib.Core.Path.{◌≡◌, refl, sym, ap, ◌∙◌}
 use mathlib.Core.Bool.{Bool, cond, true, false, not}
-use mathlib.Core.List.{List, [], ◌++◌}
+use mathlib.Core.List.{List, [], ◌++◌, append_assoc}
 use native.Mathlib.Numerals.{add-one}
 use native.Mathlib.Omega.{arith}
 use lib.Dec.{ltb, leb}
-use lib.ListN.{length, get_or, length-append}
+use lib.ListN.{length, get_or, take, length-append}
+use lib.Seq.{paste, length-take-le}
 use borrow.Author.Tests.{le-leb, lt-leb, lt-ltb, le-ltb, leb-true, leb-false}
-use borrow.Rule.Slice.PartMut.{put_mid}
 use Rattle.std.specs.Prelude.{Some, None, Ok, Err}
 use Rattle.std.specs.List.{position, position_or_len}
 use Rattle.std.proofs.lemmas.List.Recursion.{is_position_or_len}
 use Rattle.laws.specs.Pick.{pick}
-use Rattle.laws.specs.All.{first}
+use Rattle.laws.specs.All.{NoneBelow, first}
+use Rattle.laws.proofs.All.{first_here, first_none}
 use Rattle.laws.proofs.Order.{by_test, never}
 use Rattle.probe.specs.Wires.{low, after}
 use Rattle.probe.specs.Form.{Form, unmarked, writable, written, transitions, first_unwritable}
 use Rattle.probe.specs.Calls.{out, filled, delivered, writing}
-use Rattle.probe.specs.Needs.{unwritable, measured}
+use Rattle.probe.specs.Needs.{Lies, unwritable, measured, laid_in}
 use Rattle.probe.specs.declared.answer.Refusal.TheVariants.{Bad, NoSuch}
-use Rattle.probe.proofs.Levels.{after_small, after_append}
+use Rattle.probe.specs.declared.sequence.Sequence.{Sequence}
+use Rattle.probe.proofs.Levels.{after_small, after_append, after_none}
 use Rattle.probe.proofs.Places.{placed, unplaced}
-use Rattle.probe.proofs.Lays.{lay_part, grows}
+use Rattle.probe.proofs.Lays.{lay_behind, grows}
+
+pub paste_laid : (d s : List ℕ) (at n : ℕ) → n ≤ length s → paste d at s n ≡ laid_in d at (take n s)
+paste_laid d s at n h = rw (append_assoc, length-take-le n s h)
 
 -- a choice of ours is std's
 picked : {A : Type 0} (b : Bool) (x y : A) → pick b x y ≡ cond b x y
@@ -66,21 +71,22 @@ module _ (F : Form) (ts : List ℕ) where
     pub count : n ≡ length (written F ts i)
 
   pub upto_none : Upto 0 0 0
-  unfolding after
-  upto_none = record { inside = omega arith; levels = rw written_none; count = rw written_none }
+  upto_none = record { inside = omega arith; levels = rw (written_none, after_none low); count = rw written_none }
 
   pub upto_small : {i wires n : ℕ} → Upto i wires n → wires < 32
   upto_small {i} u = rw u.levels (after_small (written F ts i) low (omega arith))
 
-  module _ (i wires n : ℕ) (u : Upto i wires n) (q : List ℕ) (l : q ≡ F.one wires (unmarked (get_or ts i 0))) where
+  module _ (i wires n : ℕ) (u : Upto i wires n) (q : Sequence) (l : Lies q (F.one wires (unmarked (get_or ts i 0)))) where
     -- the sequence is what is written of the i-th token
-    pub is_next : q ≡ next_of i
-    is_next = l ∙ ap (λ (s : ℕ). F.one s (unmarked (get_or ts i 0))) u.levels
+    pub is_next : take q.len q.symbols ≡ next_of i
+    is_next = l.laid ∙ ap (λ (s : ℕ). F.one s (unmarked (get_or ts i 0))) u.levels
 
-    pub longer : n + length q ≡ length (written F ts (i + 1))
-    longer = rw (written_next, length-append, u.count, is_next)
+    pub longer : n + q.len ≡ length (written F ts (i + 1))
+    longer =
+        let k : length (next_of i) ≡ q.len = ap length (sym is_next) ∙ length-take-le q.len q.symbols l.room.long in
+        rw (written_next, length-append, u.count, k)
 
-    pub upto_next : (w : ℕ) → i < length ts → w ≡ after wires q → Upto (i + 1) w (n + length q)
+    pub upto_next : (w : ℕ) → i < length ts → w ≡ after wires (take q.len q.symbols) → Upto (i + 1) w (n + q.len)
     upto_next w h e =
         record {
           inside = omega arith;
@@ -89,28 +95,45 @@ module _ (F : Form) (ts : List ℕ) where
         }
 
     -- a buffer with the transitions so far in front takes them
-    pub put_next : (b d : List ℕ) (k : ℕ)
-        → k ≡ length q
-        → b ≡ filled (written F ts i) d
-        → put_mid n (n + k - n) b q ≡ filled (written F ts (i + 1)) d
-    put_next b d k e g = rw (written_next, ← is_next) (lay_part (written F ts i) q d b n k u.count e g)
+    pub put_next : (b d : List ℕ) → b ≡ filled (written F ts i) d → paste b n q.symbols q.len ≡ filled (written F ts (i + 1)) d
+    put_next b d e =
+        paste_laid b q.symbols n q.len l.room.long
+        ∙ rw (e, u.count, is_next, written_next) (lay_behind (written F ts i) (next_of i) d)
 
-    pub too_long : (most : ℕ) → n ≤ most → i < length ts → most - n < length q → None ≡ measured (length (transitions F ts)) most
+    pub too_long : (most : ℕ) → n ≤ most → i < length ts → most - n < q.len → None ≡ measured (length (transitions F ts)) most
     too_long most few h over =
         rw (lt-leb (length (transitions F ts)) most (omega (arith, longer, written_grows (length ts) (i + 1) (omega arith))))
 
+  pub all_measured : (i wires n most : ℕ) → Upto i wires n → length ts ≤ i → n ≤ most → Some n ≡ measured (length (transitions F ts)) most
+  all_measured i wires n most u h few =
+      let q : i ≡ length ts = omega (arith, u.inside) in
+      let k : n ≡ length (transitions F ts) = rw q at u.count in
+      rw (← k, le-leb n most few)
+
+  -- The first word that has no form
+  module _ (i : ℕ) (none : NoneBelow (λ j. not (writable F (get_or ts j 0))) i) where
+    pub unwritable_here : i < length ts → not (writable F (get_or ts i 0)) ≡ true → i ≡ first_unwritable F ts
+    unfolding first_unwritable
+    unwritable_here h e = sym (first_here (λ j. not (writable F (get_or ts j 0))) (length ts) i h none e)
+
+    pub unwritable_none : i ≤ length ts → length ts ≤ i → i ≡ first_unwritable F ts
+    unfolding first_unwritable
+    unwritable_none h l =
+        let q : i ≡ length ts = omega arith in
+        q ∙ sym (first_none (λ j. not (writable F (get_or ts j 0))) (length ts) (rw q at none))
+
 -- The call: what was measured, and what is answered
 module _ (m most : ℕ) where
-  pub measured_fits : (n : ℕ) → Some n ≡ measured m most → (n ≡ m) × (m ≤ most)
+  pub measured_fits : (n : ℕ) → measured m most ≡ Some n → (n ≡ m) × (m ≤ most)
   measured_fits n h =
       by_test (leb m most)
-      (λ e. let q : Some n ≡ Some m = rw e at h in ((cc), leb-true m most e))
-      (λ e. let q : Some n ≡ None = rw e at h in never (cc))
+      (λ e. let q : Some m ≡ Some n = rw e at h in ((cc), leb-true m most e))
+      (λ e. let q : None ≡ Some n = rw e at h in never (cc))
 
-  pub measured_over : None ≡ measured m most → most < m
+  pub measured_over : measured m most ≡ None → most < m
   measured_over h =
       by_test (leb m most)
-      (λ e. let q : None ≡ Some m = rw e at h in never (cc))
+      (λ e. let q : Some m ≡ None = rw e at h in never (cc))
       (λ e. leb-false m most e)
 
 pub delivered_short : (ys b : List ℕ) → length b < length ys → out (Err NoSuch) b ≡ delivered ys b
@@ -121,13 +144,21 @@ pub delivered_whole : (ys b : List ℕ) (n : ℕ) → n ≡ length ys → length
 unfolding delivered
 delivered_whole ys b n e h = rw (le-leb (length ys) (length b) h, e)
 
-module _ (F : Form) (ts b : List ℕ) where
-  pub wrote_bad : (p : ℕ) → Some p ≡ unwritable F ts → out (Err (Bad p)) b ≡ writing F ts b
+module _ (F : Form) (ts b : List ℕ) (p : ℕ) (e : p ≡ first_unwritable F ts) where
+  pub wrote_bad : p < length ts → out (Err (Bad p)) b ≡ writing F ts b
   unfolding writing
-  wrote_bad p e =
-      let w = placed (first_unwritable F ts) (length ts) p e in
-      rw (w.0, lt-ltb (first_unwritable F ts) (length ts) w.1)
+  wrote_bad h = rw (← e, lt-ltb p (length ts) h)
 
-  pub wrote : None ≡ unwritable F ts → delivered (transitions F ts) b ≡ writing F ts b
+  pub wrote : length ts ≤ p → delivered (transitions F ts) b ≡ writing F ts b
   unfolding writing
-  wrote e = rw (le-ltb (first_unwritable F ts) (length ts) (unplaced (first_unwritable F ts) (length ts) e))
+  wrote h = rw (← e, le-ltb p (length ts) h)
+
+-- .. as the code finds the first word that has no form
+module _ (F : Form) (ts b : List ℕ) where
+  pub wrote_found : (p : ℕ) → Some p ≡ unwritable F ts → out (Err (Bad p)) b ≡ writing F ts b
+  wrote_found p e =
+      let w = placed (first_unwritable F ts) (length ts) p e in
+      wrote_bad F ts b p w.0 (rw w.0 w.1)
+
+  pub wrote_none : None ≡ unwritable F ts → delivered (transitions F ts) b ≡ writing F ts b
+  wrote_none e = wrote F ts b (first_unwritable F ts) refl (unplaced (first_unwritable F ts) (length ts) e)

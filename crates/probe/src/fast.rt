@@ -6,19 +6,18 @@ ghost use Rattle.probe.specs.Fast.{link_value, special, control_form, end_forms,
 ghost use Rattle.probe.specs.Fast.{return_forms, least_of, returned, control_one, fast, fast_width};
 ghost use Rattle.probe.specs.Fast.{link_level, control_said, symbols_say};
 ghost use Rattle.probe.specs.Wires.{after};
-ghost use Rattle.probe.specs.Needs.{place_in, lowest_two, alone};
+ghost use Rattle.probe.specs.Needs.{Lies, place_in, lowest_two, alone};
 ghost use Rattle.std.proofs.Common.{lit<};
 
 use crate::form::Link;
 use crate::sequence::{Said, Sequence};
 use crate::wires::after;
-use arrayvec::ArrayVec;
 use tokens::control::{END, PAUSE};
 use tokens::word;
 use tokens::word::{of_control, value};
 
 // The word of RTNZ0, the first return that has a control token's form.
-const FIRST_RETURN: u16 = 0x01FC;
+pub const FIRST_RETURN: u16 = 0x01FC;
 
 const ESCAPE: u8 = 4;
 
@@ -51,9 +50,24 @@ fn special(c: u8) -> bool
 }
 
 fn single(four: [u8; 4]) -> Sequence
-    ensures { result.items ≡ four }
+    ensures { Lies result four }
 {
-    ArrayVec::try_from(&four[..]).unwrap()
+    let [a, b, c, d] = four;
+    Sequence {
+        symbols: [a, b, c, d, 0, 0, 0, 0, 0, 0],
+        len: 4,
+    }
+}
+
+fn double(four: [u8; 4], more: [u8; 4]) -> Sequence
+    ensures { Lies result (four ++ more) }
+{
+    let [a, b, c, d] = four;
+    let [e, f, g, h] = more;
+    Sequence {
+        symbols: [a, b, c, d, e, f, g, h, 0, 0],
+        len: 8,
+    }
 }
 
 // The two data wires that END, PAUSE or NOPD changes, to leave as few high as can be.
@@ -79,7 +93,7 @@ fn alone(wires: u8) -> Option<u8>
 }
 
 // RTNZ or NOPD, whichever brings more wires low.
-#[tactic(auto, using(crate::proofs::Closings::alone_least, crate::proofs::Closings::two_least))]
+#[tactic(auto, using(crate::proofs::Closings::alone_found, crate::proofs::Closings::none_alone))]
 fn returning(wires: u8) -> [u8; 4]
     requires { wires < 32 }
     ensures { result ≡ least_of wires return_forms }
@@ -110,17 +124,16 @@ fn pausing(wires: u8) -> [u8; 4]
 }
 
 // END or PAUSE, and the return that the wires need behind it.
-#[tactic(auto, using(crate::proofs::Levels::after_small, crate::proofs::Closings::returned_some))]
+#[tactic(auto, using(crate::proofs::Levels::after_small, crate::proofs::Closings::returned_none, crate::proofs::Closings::returned_some))]
 fn closed(wires: u8, four: [u8; 4]) -> Sequence
     requires { wires < 32 }
-    ensures { result.items ≡ four ++ returned (after wires four) }
+    ensures { Lies result (four ++ returned (after wires four)) }
 {
-    let mut sequence = single(four);
     let left = after(wires, &four);
-    if left != 0 {
-        sequence.try_extend_from_slice(&returning(left)).unwrap();
+    if left == 0 {
+        return single(four);
     }
-    sequence
+    double(four, returning(left))
 }
 
 // A control token by a single escape, whose place tells the two top bits.
@@ -140,7 +153,7 @@ fn escaped(c: u8) -> [u8; 4]
 
 fn control_one(wires: u8, c: u8) -> Sequence
     requires { wires < 32 }
-    ensures { result.items ≡ control_one wires c }
+    ensures { Lies result (control_one wires c) }
 {
     if c == END {
         return closed(wires, ending(wires));
@@ -229,7 +242,7 @@ impl Link for Fast {
     }
 
     // What four transitions say.
-    #[tactic(auto, using(crate::proofs::Fasts::four_said), unfolding(crate::specs::Fast::fast))]
+    #[tactic(auto, using(crate::proofs::Fasts::wires_said), unfolding(crate::specs::Fast::fast))]
     fn says(symbols: &[u8]) -> Said {
         let &[a, b, c, d] = symbols else {
             unreachable!()

@@ -1,6 +1,7 @@
 // What the serial and the fast link share: each is a form of the physical layer, and writing and reading go over any form.
 ghost use Rattle.std.specs.Prelude.{◌≡◌, ℕ, ◌<◌, length};
 ghost use Rattle.probe.specs.Form.{Form};
+ghost use Rattle.probe.specs.Needs.{Lies};
 
 use crate::sequence::{Said, Sequence};
 
@@ -26,7 +27,7 @@ pub trait Link {
     // A token written from the wires' state.
     fn one(wires: u8, token: u16) -> Sequence
         requires { wires < 32 }
-        ensures { result.items ≡ form.one wires token };
+        ensures { Lies result (form.one wires token) };
 
     // What a sequence says.
     fn says(symbols: &[u8]) -> Said

@@ -5,7 +5,6 @@ ghost use Rattle.probe.specs.Serial.{serial, serial_width};
 
 use crate::form::Link;
 use crate::sequence::{Said, Sequence};
-use arrayvec::ArrayVec;
 use tokens::word::value;
 
 pub struct Serial;
@@ -40,7 +39,10 @@ impl Link for Serial {
         let h = v % 2;
         let control = (token / 256 % 2) as u8;
         let ones = a + b + c + d + e + f + g + h + control;
-        ArrayVec::from([a, b, c, d, e, f, g, h, control, ones % 2])
+        Sequence {
+            symbols: [a, b, c, d, e, f, g, h, control, ones % 2],
+            len: Self::WIDTH,
+        }
     }
 
     // What ten transitions say.

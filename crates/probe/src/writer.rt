@@ -34,11 +34,11 @@ pub fn measure<L: Link>(tokens: &[u16], most: usize) -> Option<usize>
     let mut count: usize = 0;
     for word in tokens {
         let sequence = L::one(wires, *word % LOWEST_MARK);
-        if most - count < sequence.len() {
+        if most - count < sequence.len {
             return None;
         }
-        count += sequence.len();
-        wires = after(wires, &sequence);
+        count += sequence.len;
+        wires = after(wires, &sequence.symbols[..sequence.len]);
     }
     Some(count)
 }
@@ -52,15 +52,16 @@ pub fn fill<L: Link>(tokens: &[u16], buffer: &mut [u8])
     let mut at: usize = 0;
     for word in tokens {
         let sequence = L::one(wires, *word % LOWEST_MARK);
-        let end = at + sequence.len();
-        buffer[at..end].copy_from_slice(&sequence);
-        wires = after(wires, &sequence);
+        let symbols = &sequence.symbols[..sequence.len];
+        let end = at + sequence.len;
+        buffer[at..end].copy_from_slice(symbols);
+        wires = after(wires, symbols);
         at = end;
     }
 }
 
 // Tokens, oldest first, as transitions from all wires low.
-#[tactic(auto, using(crate::proofs::Writing::wrote_bad))]
+#[tactic(auto, using(crate::proofs::Writing::wrote_found))]
 pub(crate) fn write<L: Link>(tokens: &[u16], buffer: &mut [u8]) -> Result<usize, Refusal>
     ensures { out result buffer.new ≡ writing L.form tokens.now buffer.old }
 {

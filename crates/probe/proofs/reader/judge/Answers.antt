@@ -1,7 +1,8 @@
 -- `probe::reader::judge` meets its contract: what the i-th sequence says is counted, and it has a meaning. Assumes nothing.
-use Rattle.std.proofs.Common.{arith, refl, sym, ◌∙◌, add-zero}
+use Rattle.std.proofs.Common.{arith, refl, sym, ap, ◌∙◌, add-zero}
 use Rattle.std.specs.Iterator.Adapters.{enumerate_count}
-use Rattle.probe.proofs.Reading.{left_all, is_said, in_whole, is_whole, gathered_none, gathered_few, judging_more, judged_bad, judged_cut, judged_whole}
+use Rattle.probe.specs.Form.{meaningless}
+use Rattle.probe.proofs.Reading.{left_all, said_here, in_whole, all_read, gathered_none, gathered_few, judging_more, judged_bad, judged_cut, judged_whole}
 use Rattle.probe.proofs.reader.judge.Goals as goal
 
 pub loop-i-init : goal.loop-i-init
@@ -40,21 +41,21 @@ returns-in-Nothing g c =
     let F = g.L.Link.form in
     let steps = c.in-Some.ensures.steps in
     let left = c.loop-i.invariant.left in
-    let here = is_said F c.args.capture.now _ _ _ left _ _ steps.0.1.0 steps.0.1.1 in
+    let here = said_here F c.args.capture.now _ _ _ left _ _ steps.0.1.0 steps.0.1.1 in
     rw (steps.1, c.WIDTH-width.ensures, g.met.L.Link.width_is)
     (judged_bad F c.args.capture.now _ c.loop-i.invariant.sound
-    (in_whole F c.args.capture.now _ _ _ left _ _ steps.0.1.0 steps.0.1.1) (sym here ∙ sym c.says.ensures ∙ c.in-Nothing.is))
+    (in_whole F c.args.capture.now _ _ _ left _ _ steps.0.1.0 steps.0.1.1) (ap meaningless (sym here ∙ sym c.says.ensures ∙ c.in-Nothing.is)))
 
 pub returns-then-capture-width-ne0 : goal.returns-then-capture-width-ne0
 returns-then-capture-width-ne0 g c =
     let F = g.L.Link.form in
-    let all = is_whole F c.args.capture.now _ _ _ c.loop-i.invariant.left c.in-None.ensures.steps.0.1.0 in
+    let all = all_read F c.args.capture.now _ _ _ c.loop-i.invariant.left c.in-None.ensures.steps.0.1.0 in
     judged_cut F c.args.capture.now _ c.loop-i.invariant.sound all
     (rw (c.WIDTH-width.ensures, g.met.L.Link.width_is) at c.if-capture-width-ne0.true)
 
 pub returns : goal.returns
 returns g c =
     let F = g.L.Link.form in
-    let all = is_whole F c.args.capture.now _ _ _ c.loop-i.invariant.left c.in-None.ensures.steps.0.1.0 in
+    let all = all_read F c.args.capture.now _ _ _ c.loop-i.invariant.left c.in-None.ensures.steps.0.1.0 in
     judged_whole F c.args.capture.now _ c.loop-i.invariant.sound all _ c.loop-i.invariant.count
     (rw (c.WIDTH-width.ensures, g.met.L.Link.width_is) at c.if-capture-width-ne0.false)

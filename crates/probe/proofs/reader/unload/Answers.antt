@@ -1,6 +1,6 @@
 -- `probe::reader::unload` meets its contract: the buffer has room for what the i-th sequence says. Assumes nothing.
 use Rattle.std.proofs.Common.{◌≡◌, ◌+◌, [], ◌∷◌, ◌++◌, length, length-append, sym, ◌∙◌}
-use Rattle.probe.proofs.Reading.{left_all, is_whole, gathered_none, no_token, has_room, unloading_token, unloading_none}
+use Rattle.probe.proofs.Reading.{left_all, all_read, gathered_none, no_token, has_room, unloading_token, unloading_none}
 use Rattle.probe.proofs.reader.unload.Goals as goal
 
 pub loop-symbols-init : goal.loop-symbols-init
@@ -27,7 +27,7 @@ loop-symbols-preserved-in-Token g c =
     has_room g.L.Link.form c.args.capture.now _ _ _ _ _ _ _ _ c.loop-symbols.invariant steps.1.0 steps.1.1 c.in-Token.word said c.requires in
     rw (more, steps.0)
     (unloading_token g.L.Link.form c.args.capture.now _ _ _ _ _ _ _ _ c.loop-symbols.invariant steps.1.0 steps.1.1 c.in-Token.word said
-    room.1)
+    room.0)
 
 pub loop-symbols-preserved : goal.loop-symbols-preserved
 loop-symbols-preserved g c =
@@ -40,5 +40,5 @@ loop-symbols-preserved g c =
 pub returns : goal.returns
 returns g c =
     let u = c.loop-symbols.invariant in
-    let all = is_whole g.L.Link.form c.args.capture.now _ _ _ u.left c.in-None.ensures.steps.1.0 in
+    let all = all_read g.L.Link.form c.args.capture.now _ _ _ u.left c.in-None.ensures.steps.1.0 in
     rw (← all) u.laid

@@ -1,5 +1,6 @@
 -- `probe::writer::fill` meets its contract: the buffer has room for what comes next. Assumes nothing.
-use Rattle.std.proofs.Common.{◌+◌, ◌≤◌, length, arith}
+use Rattle.std.proofs.Common.{◌+◌, ◌≤◌, length, arith, ◌∙◌}
+use Rattle.probe.proofs.Lays.{lay_part}
 use Rattle.probe.proofs.Writing.{upto_none, upto_small, upto_next, written_none, written_grows, longer, put_next}
 use Rattle.probe.proofs.writer.fill.Goals as goal
 
@@ -15,19 +16,17 @@ slice_bounds-copy_from_slice-end g c =
     let l = c.loop-word in
     let long = longer F c.args.tokens.now l.word-index l.wires l.at l.invariant.0 _ c.one-sequence.ensures in
     let grows = written_grows F c.args.tokens.now (length c.args.tokens.now) (l.word-index + 1) (omega arith) in
-    let inside : l.at + c.len.result ≤ length l.buffer = omega (arith, long, grows, c.requires, l.auto.buffer, c.len.ensures.value) in
+    let inside : l.at + c.one-sequence.result.len ≤ length l.buffer = omega (arith, long, grows, c.requires, l.auto.buffer) in
     inside
 
 pub loop-word-preserved : goal.loop-word-preserved
 loop-word-preserved g c =
     let F = g.L.Link.form in
     let l = c.loop-word in
-    let wires = rw c.deref-in-loop-word.ensures.0 at c.after-wires.ensures in
-    let next =
-    upto_next F c.args.tokens.now l.word-index l.wires l.at l.invariant.0 _ c.one-sequence.ensures c.after-wires.result (omega arith)
-    wires in (
-      rw c.len.ensures.value next,
-      rw (c.copy_from_slice.ensures.after, c.deref.ensures.0)
-          (put_next F c.args.tokens.now l.word-index l.wires l.at l.invariant.0 _ c.one-sequence.ensures l.buffer c.args.buffer.now
-          c.len.result c.len.ensures.value l.invariant.1),
+    let q = c.one-sequence in (
+      upto_next F c.args.tokens.now l.word-index l.wires l.at l.invariant.0 _ q.ensures c.after-wires.result (omega arith)
+          c.after-wires.ensures,
+      rw c.copy_from_slice.ensures.after
+          (lay_part l.buffer q.result.symbols l.at q.result.len
+          ∙ put_next F c.args.tokens.now l.word-index l.wires l.at l.invariant.0 _ q.ensures l.buffer c.args.buffer.now l.invariant.1),
     )

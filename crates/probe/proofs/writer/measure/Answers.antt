@@ -13,14 +13,12 @@ pub returns-then-most-count : goal.returns-then-most-count
 returns-then-most-count g c =
     let l = c.loop-word in
     too_long g.L.Link.form c.args.tokens.now l.word-index l.wires l.count l.invariant.0 _ c.one-sequence.ensures c.args.most
-    l.invariant.1 (omega arith) (omega (arith, c.len.ensures.value))
+    l.invariant.1 (omega arith) c.if-most-count.true
 
 pub loop-word-preserved : goal.loop-word-preserved
 loop-word-preserved g c =
-    let l = c.loop-word in
-    let wires = rw c.deref.ensures.0 at c.after-wires.ensures in (
-      rw c.len-count.ensures.value
-          (upto_next g.L.Link.form c.args.tokens.now l.word-index l.wires l.count l.invariant.0 _ c.one-sequence.ensures
-          c.after-wires.result (omega arith) wires),
-      omega (arith, l.invariant.1, c.len.ensures.value, c.len-count.ensures.value),
+    let l = c.loop-word in (
+      upto_next g.L.Link.form c.args.tokens.now l.word-index l.wires l.count l.invariant.0 _ c.one-sequence.ensures
+          c.after-wires.result (omega arith) c.after-wires.ensures,
+      omega (arith, l.invariant.1, c.if-most-count.false),
     )
