@@ -71,6 +71,10 @@ module _ (xs ys : List ℕ) (e : view xs ≡ view ys) where
         let hq : q < k.many = (div-lt_iff_lt-mul some).1 (omega arith) in
         in_row_lem k.size (begins k n q) j i (omega (arith, split)) small (row_same q hq)
 
+  -- the words of every line
+  line_rows_lem : (n i : ℕ) → n < nodes_in xs → i < line.many → row line.size (begins line n i) xs ≡ row line.size (begins line n i) ys
+  line_rows_lem n i hn hi = row_same line_laws (λ r h. rw (listed line.size r 0 h)) (lit≤ tt) n hn i hi
+
   -- a word of a whole node: r is its place among the node's words
   module _ (i n r : ℕ) (at : i ≡ n * stride + r) (hn : n < nodes_in xs) (hr : r < stride) where
     from_unit_lem : unit.from ≤ r → get_or xs i 0 ≡ get_or ys i 0
@@ -101,19 +105,15 @@ module _ (xs ys : List ℕ) (e : view xs ≡ view ys) where
         from_tile_lem
         (order r tile.from)
 
-    from_link_lem : link.from ≤ r → get_or xs i 0 ≡ get_or ys i 0
-    from_link_lem h =
-        ⊎_elim
-        (in_kind link_laws (λ r h. rw (listed link.size r 0 h)) (lit≤ tt) n hn i r at h)
-        from_port_lem
-        (order r port.from)
-
-    in_node : get_or xs i 0 ≡ get_or ys i 0
-    in_node =
+    from_node_lem : r < port.from → get_or xs i 0 ≡ get_or ys i 0
+    from_node_lem g =
         ⊎_elim
         (in_kind node_laws (λ r h. rw (listed node.size r 0 h)) (lit≤ tt) n hn i r at (omega arith))
-        from_link_lem
+        (λ h. in_kind link_laws (λ r h. rw (listed link.size r 0 h)) (lit≤ tt) n hn i r at h g)
         (order r link.from)
+
+    in_node : get_or xs i 0 ≡ get_or ys i 0
+    in_node = ⊎_elim from_node_lem from_port_lem (order r port.from)
 
   pub whole_state : xs ≡ ys
   whole_state =

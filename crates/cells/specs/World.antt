@@ -1,6 +1,7 @@
 -- What the definitions above take and give: the state as tables, the token memory, and the memory of lines (document 02, Ask 4). A contract
--- speaks of the memories that its function is lent: of `world st mem` where no line is touched, of `lined st ls` where no port is, else of
--- `lent st mem ls`. A memory that is not lent is none; definitions that do not touch it pass it through.
+-- speaks of the memories that its function is lent: of `world st mem` where no line is touched, of `lined st ls` where no port is, of
+-- `lent st mem ls` where both are; where all are lent as one, of `world_of m`, which is that. A memory that is not lent is none; definitions that
+-- do not touch it pass it through.
 use Rattle.std.specs.Prelude.{ℕ, ◌*◌, Bool, true, false, ◌&&◌, List, [], ◌∷◌, eqb, leb, length, Option, Some, None}
 use Rattle.laws.specs.Pick.{pick}
 use Rattle.names.specs.Size.{nodes, links, ports}

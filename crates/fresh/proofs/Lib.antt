@@ -1,4 +1,5 @@
 -- Laws of the starts.
+pub mod Clearing
 pub mod Settled
 pub mod Links
 pub mod Passed

@@ -2,7 +2,7 @@
 // stood there.
 #![tactic(auto)]
 
-ghost use Rattle.std.specs.Prelude.{◌≡◌, true, [], ◌+◌, ◌*◌, ◌<◌};
+ghost use Rattle.std.specs.Prelude.{◌≡◌, true, [], ◌+◌, ◌*◌, ◌<◌, length, replicate};
 ghost use Rattle.names.specs.Size.{links};
 ghost use Rattle.answers.specs.Rows.{checked};
 ghost use Rattle.answers.specs.Out.{out};
@@ -37,6 +37,13 @@ pub enum Start {
 
 // Link E, the first that the boot ROM enables.
 const FIRST_BOOT_LINK: usize = 4;
+
+// "every token word 0", in ports and on lines
+fn clear_tokens(mem: &mut [u16])
+    ensures { mem.new ≡ replicate (length mem.old) 0 }
+{
+    mem.fill(0);
+}
 
 // "number 0, width three, directions 0"
 fn settings() -> Node
@@ -150,8 +157,7 @@ pub fn begin(
 {
     check_start(st, mem, ls, nodes)?;
     start_state(st, which);
-    // "every token word 0", in ports and on lines
-    mem.fill(0);
-    ls.fill(0);
+    clear_tokens(mem);
+    clear_tokens(ls);
     Ok(Answer::Done)
 }

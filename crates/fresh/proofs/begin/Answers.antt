@@ -13,5 +13,5 @@ start_state-requires c =
 
 pub returns : goal.returns
 returns c =
-    start_goes_on _ _ _ c.check_start.ensures _ _ _ _ c.in_ok-check_start.was c.start_state.ensures
-    (c.fill.ensures.after (λ y e. e)) (c.fill-2.ensures.after (λ y e. e))
+    start_goes_on _ _ _ c.check_start.ensures _ _ _ _ c.in_ok-check_start.was c.start_state.ensures c.clear_tokens.ensures
+    c.clear_tokens-2.ensures
