@@ -13,7 +13,7 @@ use cells::port::Port;
 use cells::record::Record;
 use cells::unit::Unit;
 use circuits::hop_of;
-use grammar::port::{Stages, stages_of};
+use grammar::port::{Stages, stages_in};
 use grammar::stage::Stage;
 use names::Slot;
 use names::size::PORTS;
@@ -30,14 +30,14 @@ fn ready(m: &Memories, slot: Slot, p: usize) -> bool
 }
 
 // Where a port's tokens begin and end, to one who walks over them.
-#[tactic(auto, using(crate::proofs::Readies::fair, crate::proofs::Readies::reaches, crate::proofs::Readies::read_off))]
+#[tactic(auto, using(crate::proofs::Readies::fair, crate::proofs::Readies::reaches, crate::proofs::Readies::read_held))]
 fn stages(m: &Memories, slot: Slot, p: usize) -> Stages
     ensures { result ≡ stages (world_of m.now) slot.0 p }
 {
     if ready(m, slot, p) {
         let k = Port::at(m.state, slot, p);
         let words = Ports::words(k.counters, m.tokens, slot, p);
-        return stages_of(hop_of(k.leg.circuit, k.leg.tile), &words);
+        return stages_in(hop_of(k.leg.circuit, k.leg.tile), &words);
     }
     Stages {
         front: Stage::Bad,

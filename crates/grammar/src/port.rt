@@ -1,11 +1,13 @@
 // The walk over what a port holds. Callers have its counters from a state whose counts are within
 // their limits.
-ghost use Rattle.std.specs.Prelude.{◌≡◌};
+ghost use Rattle.std.specs.Prelude.{◌≡◌, length};
+ghost use Rattle.ports.specs.Queue.{capacity, Fair, contents};
 ghost use Rattle.grammar.specs.Walk.{walk, threes, begins_one, lead, front_of, stages_of};
 
 use crate::stage::{Stage, due, next, of_one, of_three};
 use circuits::Hop;
-use ports::PortWords;
+use ports::words::Words;
+use ports::{Counters, PortWords};
 
 fn walk(words: &PortWords, s: Stage) -> Stage
     ensures { result ≡ walk s words.now }
@@ -55,7 +57,7 @@ pub struct Stages {
     pub back: Stage,
 }
 
-pub fn stages_of(h: Hop, words: &PortWords) -> Stages
+pub fn stages_in(h: Hop, words: &PortWords) -> Stages
     ensures { result ≡ stages_of h words.now }
 {
     let at = front(h, words);
@@ -63,4 +65,12 @@ pub fn stages_of(h: Hop, words: &PortWords) -> Stages
         front: at,
         back: walk(words, at),
     }
+}
+
+// The same, of a port's own stretch of the token memory, which the caller has cut.
+pub fn stages_of(h: Hop, stretch: &[u16], c: Counters) -> Stages
+    requires { Fair c × (length stretch.now ≡ capacity) }
+    ensures { result ≡ stages_of h (contents c stretch.now) }
+{
+    stages_in(h, &Words::new(c, stretch))
 }

@@ -2,3 +2,4 @@
 pub mod Shows
 pub mod Crosses
 pub mod Told
+pub mod Probes

@@ -1,15 +1,17 @@
 -- How much is on a line: what so many things can come to, and the things one after another from the near end. Assumes nothing.
-use Prim.Native.Nat.{ℕ, ◌+◌, ◌≤◌}
-use mathlib.Core.Path.{◌≡◌, refl, ap}
+use Prim.Native.Nat.{ℕ, ◌+◌, ◌-◌, ◌%◌, ◌<◌, ◌≤◌}
+use mathlib.Core.Path.{◌≡◌, ◌∙◌, refl, ap}
 use mathlib.Core.List.{List, [], ◌∷◌, ◌++◌}
+use native.Mathlib.Nat.{mod-lt}
 use native.Mathlib.Omega.{arith}
 use lib.Dec.{eqb}
 use lib.ListN.{length}
 use Rattle.laws.proofs.Order.{by_test}
-use Rattle.ports.specs.Ring.{stretch}
+use Rattle.laws.proofs.Row.{row_at}
+use Rattle.ports.specs.Ring.{ring, stretch}
 use Rattle.ports.specs.declared.Counters.{Counters}
-use Rattle.ports.proofs.Rings.{ring_long}
-use Rattle.lines.specs.Line.{line_capacity, LineFair, on_line}
+use Rattle.ports.proofs.Rings.{ring_long, ring_start, ring_next, ring_done}
+use Rattle.lines.specs.Line.{line_capacity, LineFair, on_line, word_on}
 use Rattle.lines.specs.Load.{credit_word, is_hello, credit_of, before, no_load, load_of, Within}
 use Rattle.lines.specs.declared.load.Load.{Load}
 
@@ -83,3 +85,30 @@ in_front_last (y ∷ q) x k = ap (before y) (in_front_last q x k)
 -- it is no more than a line holds
 pub on_line_long : (c : Counters) (m : List ℕ) (a : ℕ) → LineFair c → length (on_line c m a) ≤ line_capacity
 on_line_long c m a f = rw (ring_long line_capacity (stretch line_capacity m a) c.head c.held) f.held_in
+
+-- And gone over by place, the first to arrive at 0
+module _ (m : List ℕ) (a : ℕ) (c : Counters) where
+  -- from its i-th on
+  abbrev pub rest_of : ℕ → List ℕ
+  rest_of i = ring line_capacity (stretch line_capacity m a) (c.head + i) (c.held - i)
+
+  pub rest_all : rest_of 0 ≡ on_line c m a
+  rest_all = ring_start line_capacity (stretch line_capacity m a) c.head c.held
+
+  pub rest_next : (i : ℕ) → i < c.held → rest_of i ≡ word_on c m a i ∷ rest_of (i + 1)
+  rest_next i h =
+      let at = row_at line_capacity a ((c.head + i) % line_capacity) m 0 (mod-lt (c.head + i) (omega arith)) in
+      ring_next line_capacity (stretch line_capacity m a) c.head c.held i h ∙ rw at
+
+  pub rest_done : (i : ℕ) → c.held ≤ i → rest_of i ≡ []
+  rest_done = ring_done line_capacity (stretch line_capacity m a) c.head c.held
+
+  -- the load, from the near end: nothing at first; at each turn one thing more in front of the rest
+  pub load_none : load_of (rest_of c.held) ≡ no_load
+  load_none = ap load_of (rest_done c.held (omega arith))
+
+  pub load_turn : (i j : ℕ) → i ≡ j + 1 → i ≤ c.held → load_of (rest_of j) ≡ before (word_on c m a j) (load_of (rest_of i))
+  load_turn i j e h = ap load_of (rest_next j (omega arith)) ∙ rw e
+
+  pub load_all : load_of (rest_of 0) ≡ load_of (on_line c m a)
+  load_all = ap load_of rest_all

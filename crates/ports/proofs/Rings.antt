@@ -112,7 +112,7 @@ module _ (cap : ℕ) where
       λ i q z. further cap (1 + i) (omega arith) (omega (arith, f.held_in)) b f.head_in (sum i ∙ z) in
       held_first p s f l ∙ ap (λ (x : List ℕ). first_word p s ∷ x) (sym (ring_other s b 0 ((b + 1) % cap) n past))
 
-  -- The ring from its i-th on: all of it at first, and then one word less
+  -- The ring from its i-th on: all of it at first, then one word less, and none at last
   module _ (s : List ℕ) (h n : ℕ) where
     pub ring_start : ring cap s (h + 0) (n - 0) ≡ ring cap s h n
     ring_start = let p : h + 0 ≡ h = omega arith in let q : n - 0 ≡ n = omega arith in rw (p, q)
@@ -123,3 +123,7 @@ module _ (cap : ℕ) where
         let p : n - i ≡ suc (n - (i + 1)) = omega arith in
         let q : suc (h + i) ≡ h + (i + 1) = omega arith in
         rw (p, q)
+
+    pub ring_done : (i : ℕ) → n ≤ i → ring cap s (h + i) (n - i) ≡ []
+    unfolding ring
+    ring_done i l = let p : n - i ≡ 0 = omega arith in rw p

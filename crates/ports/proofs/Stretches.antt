@@ -29,7 +29,7 @@ module _ (cap : ℕ) (p : Counters) (m : List ℕ) (a : ℕ) where
       (take_removes cap p (stretch cap m a) f l)
 
   -- a store among the s words from b on, which lie apart from the stretch
-  elsewhere : (b s j v : ℕ) → j < s → Apart b (b + s) a cap → held cap p (set m (b + j) v) a ≡ held cap p m a
+  pub elsewhere : (b s j v : ℕ) → j < s → Apart b (b + s) a cap → held cap p (set m (b + j) v) a ≡ held cap p m a
   elsewhere b s j v h o = rw (row_kept (same_set m b (b + s) (b + j) v (omega arith) (omega arith)) a cap o)
 
 -- Two queues of a memory have two stretches, which do not meet
@@ -42,7 +42,7 @@ module _ (many n i n' i' : ℕ) (l : i < many) (l' : i' < many) where
             (⊎_elim (λ h. omega (arith, next n n' many h)) (λ h. omega (arith, next n' n many (omega arith))) (order n n'))
       ]
 
-  places_apart : (cap : ℕ) → Off n i n' i' → Apart (place many cap n i) (place many cap n i + cap) (place many cap n' i') cap
+  pub places_apart : (cap : ℕ) → Off n i n' i' → Apart (place many cap n i) (place many cap n i + cap) (place many cap n' i') cap
   places_apart cap o =
       let x : ℕ = n * many + i in
       let y : ℕ = n' * many + i' in
