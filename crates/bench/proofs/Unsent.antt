@@ -23,8 +23,9 @@ use Rattle.clauses.specs.Ties.{unfed, unsent, idle}
 use Rattle.line_clauses.specs.Lines.{fed_over, between, towards, hello_last}
 use Rattle.settings.specs.declared.Setting.TheVariants.{Hello}
 use Rattle.sound.specs.Tests.{holds}
-use Rattle.sound.specs.Questions.{Sends, Replied, everywhere}
+use Rattle.sound.specs.Questions.{everywhere}
 use Rattle.sound.specs.Sound.{sound, tight}
+use Rattle.sound.specs.declared.questions.Question.TheVariants.{Sends, Replied}
 use Rattle.kept.proofs.Computes.{computes}
 use Rattle.bench.specs.Calls.{Call, Wire, Set, Step, Line, apply}
 use Rattle.bench.specs.Runs.{run}

@@ -390,6 +390,10 @@ pub unit_words : (ws : List ℕ) (n : ℕ) → length ((view ws).units.hearings 
 unfolding view
 unit_words ws n = refl
 
+pub filled_within : (size held : ℕ) → filled size held ≤ size
+filled_within size held =
+    by_test (ltb held size) (λ e. let l = ltb-true held size e in rw e (omega arith)) (λ e. rw e (omega arith))
+
 -- where no more are held than there is room for, each that is held counts
 pub filled_all : (size held i : ℕ) → held ≤ size → i < held → i < filled size held
 filled_all size held i a b =

@@ -14,8 +14,8 @@ use Rattle.circuits.specs.Circuit.{hop_of}
 use Rattle.circuits.specs.declared.Hop.{Hop}
 use Rattle.circuits.specs.declared.Hop.TheVariants as Hops
 use Rattle.ports.specs.Ring.{ring}
-use Rattle.ports.specs.Queue.{capacity, Fair}
-use Rattle.ports.specs.Memory.{place, held}
+use Rattle.ports.specs.Queue.{capacity, Fair, contents}
+use Rattle.ports.specs.Memory.{place, stretch, held}
 use Rattle.grammar.specs.Stage.{is_bad}
 use Rattle.grammar.specs.Walk.{back_of, stages_of}
 use Rattle.grammar.specs.declared.port.Stages.{Stages}
@@ -54,13 +54,22 @@ module _ (w : World) (n p : ℕ) where
     fair = let z = is_ready e in record { head_in = z.head; held_in = z.held }
 
     -- what is read off the port's record and what it holds
-    pub read_off : {k : Port} {h : Hop} {q : List ℕ} {r : Stages}
+    pub read_held : {k : Port} {h : Hop} {q : List ℕ} {r : Stages}
         → k ≡ whole_port w.net n p
         → h ≡ hop_of k.leg.circuit k.leg.tile
         → q ≡ held k.counters w.memory (place n p)
         → r ≡ stages_of h q
         → r ≡ stages w n p
-    read_off ek eh eq er = rw (er, eq, eh, ek, e)
+    read_held ek eh eq er = rw (er, eq, eh, ek, e)
+
+    -- .. and off its stretch
+    pub read_off : {k : Port} {h : Hop} {s : List ℕ} {r : Stages}
+        → k ≡ whole_port w.net n p
+        → h ≡ hop_of k.leg.circuit k.leg.tile
+        → s ≡ stretch w.memory (place n p)
+        → r ≡ stages_of h (contents k.counters s)
+        → r ≡ stages w n p
+    read_off ek eh es er = rw (er, es, eh, ek, e)
 
 -- a port that holds nothing holds nothing wrong
 nothing_wrong : (h : Hop) → is_bad (back_of h []) ≡ false

@@ -50,11 +50,12 @@ use Rattle.travel.specs.Travel.{load_from}
 use Rattle.travel.specs.Accounts.{Side, Clean, end_at}
 use Rattle.travel.proofs.Loads.{line_none}
 use Rattle.sound.specs.Tests.{holds_at, places}
-use Rattle.sound.specs.Questions.{Question, answer_at, places_of, everywhere}
-use Rattle.sound.specs.Questions as Questions
+use Rattle.sound.specs.Questions.{answer_at, places_of, everywhere}
 use Rattle.sound.specs.Sound.{sound, tight}
 use Rattle.sound.specs.declared.tests.Test.{Test}
 use Rattle.sound.specs.declared.tests.Test.TheVariants as Tests
+use Rattle.sound.specs.declared.questions.Question.{Question}
+use Rattle.sound.specs.declared.questions.Question.TheVariants as Questions
 use Rattle.sound.proofs.Sounds.{sound_shaped, sound_says, sound_from}
 use Rattle.sound.proofs.Facts.{node_facts, link_facts, tile_facts, end_facts, unit_facts, credit_facts, greeting_facts, room_facts}
 use Rattle.sound.proofs.Facts.{cable_facts, reached_facts, held_facts, open_facts, pair_facts, silent_facts, line_facts, line_fair}

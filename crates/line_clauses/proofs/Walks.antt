@@ -1,4 +1,4 @@
--- The walk over the tokens on a line, and over none. Assumes nothing.
+-- The walk over the tokens on a line, thing by thing, and over none. Assumes nothing.
 use Prim.Native.Nat.{ℕ, ◌*◌, ◌/◌}
 use mathlib.Core.Path.{◌≡◌, refl, ap}
 use mathlib.Core.Bool.{true, not}
@@ -14,12 +14,16 @@ use Rattle.ports.specs.Ring.{ring, stretch}
 use Rattle.lines.specs.Line.{line_capacity, line_place}
 use Rattle.lines.specs.Load.{is_token, tokens_of}
 use Rattle.grammar.specs.Stage.{is_bad}
+use Rattle.grammar.specs.Walk.{walk}
 use Rattle.grammar.specs.declared.stage.Stage.{Stage}
 use Rattle.cells.specs.World.{World, far_of, line_from, Far, Nowhere, At}
 use Rattle.clauses.specs.Cables.{on_far}
 use Rattle.clauses.specs.Contents.{back, contents}
 use Rattle.line_clauses.specs.Lines.{clear_of, nothing_comes, walked_on, reached_from, reached, holds_over}
 use Rattle.line_clauses.proofs.Readies.{readies}
+
+pub walk_next : (s : Stage) (x : ℕ) (q : List ℕ) → walk (walk s (tokens_of (x ∷ []))) (tokens_of q) ≡ walk s (tokens_of (x ∷ q))
+walk_next s x q = by_test (is_token x) (λ e. rw e) (λ e. rw e)
 
 -- the tokens on a line are what the test for a token leaves
 pub tokens_left : (q : List ℕ) → filter is_token q ≡ tokens_of q

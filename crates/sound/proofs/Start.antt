@@ -27,11 +27,13 @@ use Rattle.clauses.specs.declared.pairs.Role.TheVariants.{PortLink, LinkPort, Po
 use Rattle.clauses.specs.declared.pairs.Role.TheVariants.{PortClaim, ClaimPort, EndClaim, ClaimEnd, EndPort, PortEnd}
 use Rattle.line_clauses.specs.Lines.{load_at, reached}
 use Rattle.sound.specs.Tests.{holds_at, places}
-use Rattle.sound.specs.Questions.{Question, Tied, Sends, Replied, QuietPort, QuietEnd, QuietLine, answer_at, places_of, everywhere}
+use Rattle.sound.specs.Questions.{answer_at, places_of, everywhere}
 use Rattle.sound.specs.Sound.{sound, tight, quiet}
 use Rattle.sound.specs.declared.tests.Test.{Test}
 use Rattle.sound.specs.declared.tests.Test.TheVariants.{Nodes, Links, Ports, Tiles, Ends, Units, Credited, Greeted, Room, Cable}
 use Rattle.sound.specs.declared.tests.Test.TheVariants.{Contents, Held, Agrees, OpenEnd, Silent, Heard, Lines, Few, Counted, Unlined}
+use Rattle.sound.specs.declared.questions.Question.{Question}
+use Rattle.sound.specs.declared.questions.Question.TheVariants.{Tied, Sends, Replied, QuietPort, QuietEnd, QuietLine}
 use Rattle.sound.proofs.Sounds.{sound_from}
 
 module _ (on : ℕ → ℕ → Bool) (n : ℕ) (some : 1 ≤ n) (few : n ≤ nodes) where

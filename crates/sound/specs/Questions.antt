@@ -9,27 +9,9 @@ use Rattle.clauses.specs.Ties.{unfed, unsent, idle, sends, replied}
 use Rattle.line_clauses.specs.Lines.{fed_over, between, towards, hello_last}
 use Rattle.sound.specs.Tests.{holds_at, places}
 use Rattle.sound.specs.Clauses.{sound_clauses, asked}
-use Rattle.sound.specs.declared.tests.Test.{Test}
-
-pub data Question : Type 0 where
-  -- one row of the Sound list, its number and its test
-  Row : ℕ → Test → Question
-  -- all that the Sound list asks of a node, link, port, tile link and channel-end
-  OfNode : Question
-  OfLink : Question
-  OfPort : Question
-  OfTile : Question
-  OfEnd : Question
-  -- the ties: those of a link, of a channel-end, of port 12
-  Tied : Question
-  Sends : Question
-  Replied : Question
-  -- no token and no circuit in a port
-  QuietPort : Question
-  -- no token, no claim and no open circuit at a channel-end
-  QuietEnd : Question
-  -- nothing on a line
-  QuietLine : Question
+use Rattle.sound.specs.declared.questions.Question.{Question}
+use Rattle.sound.specs.declared.questions.Question.TheVariants.{Row, OfNode, OfLink, OfPort, OfTile, OfEnd}
+use Rattle.sound.specs.declared.questions.Question.TheVariants.{Tied, Sends, Replied, QuietPort, QuietEnd, QuietLine}
 
 -- all that the ties ask of a link
 abbrev pub tied : World → ℕ → ℕ → Bool

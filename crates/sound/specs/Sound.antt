@@ -3,7 +3,8 @@ use Rattle.std.specs.Prelude.{ℕ, Bool, ◌&&◌}
 use Rattle.laws.specs.Pick.{pick}
 use Rattle.cells.specs.World.{World, shaped}
 use Rattle.sound.specs.Clauses.{sound_clauses, all_hold, ask_all}
-use Rattle.sound.specs.Questions.{Tied, Sends, Replied, QuietPort, QuietEnd, QuietLine, everywhere}
+use Rattle.sound.specs.Questions.{everywhere}
+use Rattle.sound.specs.declared.questions.Question.TheVariants.{Tied, Sends, Replied, QuietPort, QuietEnd, QuietLine}
 
 -- Sound (document 01): the memories have their lengths, and the list holds; what that says with no test in it is `sound_spelled` in
 -- sound/proofs/Spelled.antt

@@ -12,7 +12,7 @@ ghost use Rattle.sound.specs.Clauses.{clause, counts, cables, tokens, outputs, c
 ghost use Rattle.sound.specs.Sound.{unsound_clause, sound, tight, quiet};
 
 use crate::passes::{of_end, of_link, of_node, of_port, of_tile};
-use crate::questions::{everywhere, quiet_end, quiet_line, quiet_port, tied};
+use crate::questions::{at_every_place, quiet_end, quiet_line, quiet_port, tied};
 use crate::tests::{Test, holds_at, places};
 use cells::layout::shaped;
 use cells::memories::Memories;
@@ -29,7 +29,7 @@ fn ask(m: &Memories, after: u32, found: u32, number: u8, t: Test) -> u32
         return found;
     }
     let passes = (number as u32 <= after)
-        | everywhere(m.state, places(t), |slot, i| holds_at(m, t, slot, i));
+        | at_every_place(m.state, places(t), |slot, i| holds_at(m, t, slot, i));
     if passes {
         return 0;
     }
@@ -140,11 +140,11 @@ pub fn is_sound(m: &Memories) -> bool
     if !shaped(m) {
         return false;
     }
-    let ports = everywhere(m.state, PORTS, |slot, p| of_port(m, slot, p));
-    let tiles = everywhere(m.state, TILE_LINKS, |slot, t| of_tile(m, slot, t));
-    let ends = everywhere(m.state, ENDS, |slot, c| of_end(m, slot, c));
-    let nodes = everywhere(m.state, 1, |slot, i| of_node(m, slot, i));
-    let links = everywhere(m.state, LINKS, |slot, l| of_link(m, slot, l));
+    let ports = at_every_place(m.state, PORTS, |slot, p| of_port(m, slot, p));
+    let tiles = at_every_place(m.state, TILE_LINKS, |slot, t| of_tile(m, slot, t));
+    let ends = at_every_place(m.state, ENDS, |slot, c| of_end(m, slot, c));
+    let nodes = at_every_place(m.state, 1, |slot, i| of_node(m, slot, i));
+    let links = at_every_place(m.state, LINKS, |slot, l| of_link(m, slot, l));
     nodes & (links & (ports & (tiles & ends)))
 }
 
@@ -152,16 +152,16 @@ pub fn is_sound(m: &Memories) -> bool
 pub fn is_tight(m: &Memories) -> bool
     ensures { result ≡ tight (world_of m.now) }
 {
-    let sent = everywhere(m.state, ENDS, |slot, c| sends(m, slot, c));
-    let answered = everywhere(m.state, 1, |slot, _| replied(m, slot));
-    everywhere(m.state, LINKS, |slot, l| tied(m, slot, l)) & (sent & answered)
+    let sent = at_every_place(m.state, ENDS, |slot, c| sends(m, slot, c));
+    let answered = at_every_place(m.state, 1, |slot, _| replied(m, slot));
+    at_every_place(m.state, LINKS, |slot, l| tied(m, slot, l)) & (sent & answered)
 }
 
 // No token, no claim and no open circuit anywhere, and nothing on a line.
 pub fn is_quiet(m: &Memories) -> bool
     ensures { result ≡ quiet (world_of m.now) }
 {
-    let ends = everywhere(m.state, ENDS, |slot, c| quiet_end(m.state, slot, c));
-    let lines = everywhere(m.state, LINKS, |slot, l| quiet_line(m.state, slot, l));
-    everywhere(m.state, PORTS, |slot, p| quiet_port(m.state, slot, p)) & (ends & lines)
+    let ends = at_every_place(m.state, ENDS, |slot, c| quiet_end(m.state, slot, c));
+    let lines = at_every_place(m.state, LINKS, |slot, l| quiet_line(m.state, slot, l));
+    at_every_place(m.state, PORTS, |slot, p| quiet_port(m.state, slot, p)) & (ends & lines)
 }

@@ -30,7 +30,7 @@ pub returns-then-passes : goal.returns-then-passes
 unfolding holds
 returns-then-passes c =
     let a = c.args in
-    let asked = c.everywhere.ensures (holds_at a.t (world_of a.m.now)) (λ slot i r e. search rules) in
+    let asked = c.at_every_place.ensures (holds_at a.t (world_of a.m.now)) (λ slot i r e. search rules) in
     passed a.after a.found (clause a.number a.t) (world_of a.m.now) (eq-eqb a.found 0 c.if-not-found.false)
     (rw c.places.ensures at asked) c.if-passes.true
 
@@ -38,6 +38,6 @@ pub returns : goal.returns
 unfolding holds
 returns c =
     let a = c.args in
-    let asked = c.everywhere.ensures (holds_at a.t (world_of a.m.now)) (λ slot i r e. search rules) in
+    let asked = c.at_every_place.ensures (holds_at a.t (world_of a.m.now)) (λ slot i r e. search rules) in
     failed a.after a.found (clause a.number a.t) (world_of a.m.now) (eq-eqb a.found 0 c.if-not-found.false)
     (rw c.places.ensures at asked) c.if-passes.false

@@ -26,8 +26,8 @@ returns c =
     let a = c.args in
     let w = world_of a.m.now in
     answer w c.shaped.ensures c.if-not-shaped.false
-    (rw (c.everywhere-nodes.ensures (asked sound_clauses 1 w) (λ slot i r e. search rules))
-    (rw (c.everywhere-links.ensures (asked sound_clauses links w) (λ slot i r e. search rules))
-    (rw (c.everywhere-ports.ensures (asked sound_clauses ports w) (λ slot i r e. search rules))
-    (rw (c.everywhere-tiles.ensures (asked sound_clauses tile_links w) (λ slot i r e. search rules))
-    (rw (c.everywhere-ends.ensures (asked sound_clauses ends w) (λ slot i r e. search rules), and-true))))))
+    (rw (c.at_every_place-nodes.ensures (asked sound_clauses 1 w) (λ slot i r e. search rules))
+    (rw (c.at_every_place-links.ensures (asked sound_clauses links w) (λ slot i r e. search rules))
+    (rw (c.at_every_place-ports.ensures (asked sound_clauses ports w) (λ slot i r e. search rules))
+    (rw (c.at_every_place-tiles.ensures (asked sound_clauses tile_links w) (λ slot i r e. search rules))
+    (rw (c.at_every_place-ends.ensures (asked sound_clauses ends w) (λ slot i r e. search rules), and-true))))))
