@@ -27,13 +27,26 @@ module _ (ys zs l : List ℕ) where
       rw (take-append_seam ys (drop (length ys) l), drop-append-add ys (drop (length ys) l) (length zs), drop-drop, length-append, append_assoc)
 
 -- a copy of the first words of a list into a part of another
-pub lay_part : (l s : List ℕ) (at n : ℕ) → put_mid at (at + n - at) l (take n s) ≡ paste l at s n
-lay_part l s at n =
+pub part_pasted : (l s : List ℕ) (at n : ℕ) → put_mid at (at + n - at) l (take n s) ≡ paste l at s n
+part_pasted l s at n =
     ap (λ (r : List ℕ). take at l ++ (take n s ++ r)) (Post-is at (at + n) l (omega arith))
     ∙ sym (append_assoc (take at l) (take n s) (drop (at + n) l))
 
+-- a copy of a whole list behind a stretch that is laid in front
+pub lay_part : (ys zs l b : List ℕ) (at n : ℕ)
+    → at ≡ length ys
+    → n ≡ length zs
+    → b ≡ filled ys l
+    → put_mid at (at + n - at) b zs ≡ filled (ys ++ zs) l
+lay_part ys zs l b at n e d g =
+    ap (λ (r : List ℕ). take at b ++ (zs ++ r)) (Post-is at (at + n) b (omega arith)) ∙ rw (e, d, g) (lay_behind ys zs l)
+
 pub filled_long : (ys l : List ℕ) → length ys ≤ length l → length (filled ys l) ≡ length l
 filled_long ys l h = rw (length-append, length-drop) (omega arith)
+
+-- one word behind such a stretch
+pub laid_one : (ys l : List ℕ) (x : ℕ) → length ys < length l → set (filled ys l) (length ys) x ≡ filled (ys ++ (x ∷ [])) l
+laid_one ys l x h = lay_one (filled ys l) (length ys) x (rw (filled_long ys l (omega arith)) h) ∙ lay_behind ys (x ∷ []) l
 
 -- a list that each turn of a loop appends to is never longer before
 pub grows : (f g : ℕ → List ℕ) → ((n : ℕ) → f (suc n) ≡ f n ++ g n) → (m i : ℕ) → i ≤ m → length (f i) ≤ length (f m)

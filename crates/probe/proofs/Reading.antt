@@ -190,13 +190,18 @@ module _ (F : Form) (xs : List ℕ) where
           let same : length b ≡ length l = ap length u.laid ∙ filled_long (gathered F xs i) l (omega (arith, u.count, more_by_one)) in
           (omega (arith, more_by_one), omega (arith, more_by_one))
 
-      pub unloading_token : at < length b → Unloading (i + 1) k (at + 1) more (set b at w) l
-      unloading_token h =
+      -- one token more, where the buffer has room
+      pub unloading_word : at < length b → Unloading (i + 1) k (at + 1) more (set b at w) l
+      unloading_word h =
           record {
             left = left_more i k rest u.left q more e d;
             count = more_by_one;
             laid = lay_one b at w h ∙ lay_next i at (Token w) b l u.count here u.laid;
           }
+
+      -- .. where the buffer that was lent has room, which is as long
+      pub unloading_token : at < length l → Unloading (i + 1) k (at + 1) more (set b at w) l
+      unloading_token h = unloading_word (rw (u.laid, filled_long (gathered F xs i) l (omega (arith, u.count))) h)
 
     pub unloading_none : tokens_in (F.says q) ≡ [] → Unloading (i + 1) k at more b l
     unloading_none none =

@@ -88,3 +88,11 @@ module _ (q : List ℕ) where
   -- an odd number of ones at the end of the loop
   pub odd_end : (i bits sum : ℕ) → Sofar i bits sum → 10 ≤ i → sum % 2 ≡ 1 → Nothing ≡ serial_says q
   odd_end i bits sum s l e = odd bits sum (ten i bits sum s l) e
+
+  -- .. and an even one
+  pub even_end : (i bits sum : ℕ)
+      → Sofar i bits sum
+      → 10 ≤ i
+      → (sum % 2 ≡ 1 → ⊥)
+      → Token (bits / 4 + bits / 2 % 2 * 256) ≡ serial_says q
+  even_end i bits sum s l e = even bits sum (ten i bits sum s l) e

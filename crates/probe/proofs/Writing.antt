@@ -9,6 +9,7 @@ use lib.Dec.{ltb, leb}
 use lib.ListN.{length, get_or, take, length-append}
 use lib.Seq.{paste, length-take-le}
 use borrow.Author.Tests.{le-leb, lt-leb, lt-ltb, le-ltb, leb-true, leb-false}
+use borrow.Rule.Slice.PartMut.{put_mid}
 use Rattle.std.specs.Prelude.{Some, None, Ok, Err}
 use Rattle.std.specs.List.{position, position_or_len}
 use Rattle.std.proofs.lemmas.List.Recursion.{is_position_or_len}
@@ -24,7 +25,7 @@ use Rattle.probe.specs.declared.answer.Refusal.TheVariants.{Bad, NoSuch}
 use Rattle.probe.specs.declared.sequence.Sequence.{Sequence}
 use Rattle.probe.proofs.Levels.{after_small, after_append, after_none}
 use Rattle.probe.proofs.Places.{placed, unplaced}
-use Rattle.probe.proofs.Lays.{lay_behind, grows}
+use Rattle.probe.proofs.Lays.{lay_part, part_pasted, grows}
 
 pub paste_laid : (d s : List ℕ) (at n : ℕ) → n ≤ length s → paste d at s n ≡ laid_in d at (take n s)
 paste_laid d s at n h = rw (append_assoc, length-take-le n s h)
@@ -76,33 +77,57 @@ module _ (F : Form) (ts : List ℕ) where
   pub upto_small : {i wires n : ℕ} → Upto i wires n → wires < 32
   upto_small {i} u = rw u.levels (after_small (written F ts i) low (omega arith))
 
-  module _ (i wires n : ℕ) (u : Upto i wires n) (q : Sequence) (l : Lies q (F.one wires (unmarked (get_or ts i 0)))) where
-    -- the sequence is what is written of the i-th token
-    pub is_next : take q.len q.symbols ≡ next_of i
-    is_next = l.laid ∙ ap (λ (s : ℕ). F.one s (unmarked (get_or ts i 0))) u.levels
+  -- one token more, whose transitions are a list
+  module _ (i wires n : ℕ) (u : Upto i wires n) (q : List ℕ) (l : q ≡ F.one wires (unmarked (get_or ts i 0))) where
+    -- these are what is written of the i-th token
+    pub next_is : q ≡ next_of i
+    next_is = l ∙ ap (λ (s : ℕ). F.one s (unmarked (get_or ts i 0))) u.levels
 
-    pub longer : n + q.len ≡ length (written F ts (i + 1))
-    longer =
-        let k : length (next_of i) ≡ q.len = ap length (sym is_next) ∙ length-take-le q.len q.symbols l.room.long in
-        rw (written_next, length-append, u.count, k)
+    pub longer_by : n + length q ≡ length (written F ts (i + 1))
+    longer_by = rw (written_next, length-append, u.count, next_is)
 
-    pub upto_next : (w : ℕ) → i < length ts → w ≡ after wires (take q.len q.symbols) → Upto (i + 1) w (n + q.len)
-    upto_next w h e =
+    pub upto_more : (w : ℕ) → i < length ts → w ≡ after wires q → Upto (i + 1) w (n + length q)
+    upto_more w h e =
         record {
           inside = omega arith;
-          levels = e ∙ rw (u.levels, is_next, written_next) (sym (after_append (written F ts i) (next_of i) low));
-          count = longer;
+          levels = e ∙ rw (u.levels, next_is, written_next) (sym (after_append (written F ts i) (next_of i) low));
+          count = longer_by;
         }
 
     -- a buffer with the transitions so far in front takes them
+    pub put_more : (b d : List ℕ) (k : ℕ)
+        → k ≡ length q
+        → b ≡ filled (written F ts i) d
+        → put_mid n (n + k - n) b q ≡ filled (written F ts (i + 1)) d
+    put_more b d k e g = rw (written_next, ← next_is) (lay_part (written F ts i) q d b n k u.count e g)
+
+    pub over_long : (most : ℕ) → n ≤ most → i < length ts → most - n < length q → None ≡ measured (length (transitions F ts)) most
+    over_long most few h over =
+        rw (lt-leb (length (transitions F ts)) most (omega (arith, longer_by, written_grows (length ts) (i + 1) (omega arith))))
+
+  -- .. or an array with a length
+  module _ (i wires n : ℕ) (u : Upto i wires n) (q : Sequence) (l : Lies q (F.one wires (unmarked (get_or ts i 0)))) where
+    abbrev items : List ℕ
+    items = take q.len q.symbols
+
+    as_long : length items ≡ q.len
+    as_long = length-take-le q.len q.symbols l.room.long
+
+    pub is_next : take q.len q.symbols ≡ next_of i
+    is_next = next_is i wires n u items l.laid
+
+    pub longer : n + q.len ≡ length (written F ts (i + 1))
+    longer = rw (← as_long) (longer_by i wires n u items l.laid)
+
+    pub upto_next : (w : ℕ) → i < length ts → w ≡ after wires (take q.len q.symbols) → Upto (i + 1) w (n + q.len)
+    upto_next w h e = rw as_long at (upto_more i wires n u items l.laid w h e)
+
     pub put_next : (b d : List ℕ) → b ≡ filled (written F ts i) d → paste b n q.symbols q.len ≡ filled (written F ts (i + 1)) d
     put_next b d e =
-        paste_laid b q.symbols n q.len l.room.long
-        ∙ rw (e, u.count, is_next, written_next) (lay_behind (written F ts i) (next_of i) d)
+        sym (part_pasted b q.symbols n q.len) ∙ put_more i wires n u items l.laid b d q.len (sym as_long) e
 
     pub too_long : (most : ℕ) → n ≤ most → i < length ts → most - n < q.len → None ≡ measured (length (transitions F ts)) most
-    too_long most few h over =
-        rw (lt-leb (length (transitions F ts)) most (omega (arith, longer, written_grows (length ts) (i + 1) (omega arith))))
+    too_long most few h over = over_long i wires n u items l.laid most few h (rw as_long over)
 
   pub all_measured : (i wires n most : ℕ) → Upto i wires n → length ts ≤ i → n ≤ most → Some n ≡ measured (length (transitions F ts)) most
   all_measured i wires n most u h few =

@@ -27,7 +27,7 @@ loop-symbols-preserved-in-Token g c =
     has_room g.L.Link.form c.args.capture.now _ _ _ _ _ _ _ _ c.loop-symbols.invariant steps.1.0 steps.1.1 c.in-Token.word said c.requires in
     rw (more, steps.0)
     (unloading_token g.L.Link.form c.args.capture.now _ _ _ _ _ _ _ _ c.loop-symbols.invariant steps.1.0 steps.1.1 c.in-Token.word said
-    room.0)
+    room.1)
 
 pub loop-symbols-preserved : goal.loop-symbols-preserved
 loop-symbols-preserved g c =

@@ -1,6 +1,6 @@
 -- `probe::writer::fill` meets its contract: the buffer has room for what comes next. Assumes nothing.
 use Rattle.std.proofs.Common.{◌+◌, ◌≤◌, length, arith, ◌∙◌}
-use Rattle.probe.proofs.Lays.{lay_part}
+use Rattle.probe.proofs.Lays.{part_pasted}
 use Rattle.probe.proofs.Writing.{upto_none, upto_small, upto_next, written_none, written_grows, longer, put_next}
 use Rattle.probe.proofs.writer.fill.Goals as goal
 
@@ -27,6 +27,6 @@ loop-word-preserved g c =
       upto_next F c.args.tokens.now l.word-index l.wires l.at l.invariant.0 _ q.ensures c.after-wires.result (omega arith)
           c.after-wires.ensures,
       rw c.copy_from_slice.ensures.after
-          (lay_part l.buffer q.result.symbols l.at q.result.len
+          (part_pasted l.buffer q.result.symbols l.at q.result.len
           ∙ put_next F c.args.tokens.now l.word-index l.wires l.at l.invariant.0 _ q.ensures l.buffer c.args.buffer.now l.invariant.1),
     )

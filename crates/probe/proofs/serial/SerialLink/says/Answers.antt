@@ -1,6 +1,6 @@
 -- `probe::serial::Serial::says` meets its contract: the bits so far, and what they come to. Assumes nothing.
 use Rattle.std.proofs.Common.{arith}
-use Rattle.probe.proofs.Serials.{sofar_none, sofar_next, no_bit, ten, even, odd_end}
+use Rattle.probe.proofs.Serials.{sofar_none, sofar_next, no_bit, odd_end, even_end}
 use Rattle.probe.specs.Serial.{serial}
 use Rattle.probe.proofs.serial.SerialLink.says.Goals as goal
 
@@ -28,4 +28,4 @@ pub returns : goal.returns
 unfolding serial
 returns c =
     let l = c.loop-symbol in
-    even c.args.symbols.now _ _ (ten c.args.symbols.now _ _ _ l.invariant (omega arith)) c.if-odd.false
+    even_end c.args.symbols.now _ _ _ l.invariant (omega arith) c.if-odd.false
